@@ -2,9 +2,21 @@
 #![tactic(auto)]
 
 mod bytes;
+mod field;
+mod head;
 mod pairs;
+mod reply;
+mod slot;
+mod stamp;
+mod status;
 mod text;
 
 pub use bytes::Bytes;
+pub use field::{Field, Fields};
+pub use head::{BodyPlan, Framing, Head, Request};
 pub use pairs::Pairs;
+pub use reply::{BadRequest, HttpReply, MapReply, Refusal, ReplyHead, StreamEnd};
+pub use slot::{Content, Slot};
+pub use stamp::{Stamp, stamps_are_in_one_order};
+pub use status::Status;
 pub use text::Text;

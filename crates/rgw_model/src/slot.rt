@@ -1,0 +1,22 @@
+use crate::{Bytes, Pairs, Stamp, Text};
+
+/// What is stored under a name.
+#[derive(Debug, Drop)]
+pub struct Content {
+    pub bytes: Bytes,
+    /// The media type, of at most 256 bytes.
+    pub kind: Text,
+    /// The metadata, by rising name.
+    pub meta: Pairs,
+    /// The MD5 digest (RFC 1321) of the bytes that were put.
+    pub etag: [u8; 16],
+}
+
+/// The state of one name.
+#[derive(Debug, Drop)]
+pub enum Slot {
+    Nothing,
+    Live(Content, Stamp),
+    /// A mark of a deletion.
+    Mark(Stamp),
+}

@@ -1,0 +1,5 @@
+/// The status with which the program ends.
+#[derive(Clone, Copy, Debug, PartialEq, Eq)]
+pub struct Status {
+    pub number: u8,
+}
