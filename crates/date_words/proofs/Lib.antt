@@ -1,0 +1,5 @@
+pub mod CivilLemmas
+pub mod KnownAnswers
+pub mod OnLiterals
+pub mod SpanLemmas
+pub mod TextLemmas
