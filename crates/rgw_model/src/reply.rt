@@ -28,7 +28,10 @@ pub enum Refusal {
 #[derive(Debug, Drop)]
 pub enum MapReply {
     /// The object was stored.
-    Stored { etag: [u8; 16], stamp: Stamp },
+    Stored {
+        etag: [u8; 16],
+        stamp: Stamp,
+    },
     /// The `count` bytes from `start` of an object of `size` bytes are shown.
     Shown {
         kind: Text,

@@ -25,5 +25,4 @@ pub fn stamps_are_in_one_order()
     ensures one_way { (a b : StampOf) → IsEarlier a b → ¬ (IsEarlier b a) }
     ensures not_itself { (a : StampOf) → ¬ (IsEarlier a a) }
     ensures through { (a b c : StampOf) → IsEarlier a b → IsEarlier b c → IsEarlier a c }
-{
-}
+{}
