@@ -4,6 +4,7 @@
 mod bytes;
 mod field;
 mod head;
+mod laws;
 mod pairs;
 mod reading;
 mod reply;
@@ -15,6 +16,9 @@ mod text;
 pub use bytes::Bytes;
 pub use field::{Field, Fields};
 pub use head::{BodyPlan, Framing, Head, Request};
+pub use laws::{
+    a_change_is_stamped_later, a_later_byte_changes_no_request, a_stream_has_one_reading,
+};
 pub use pairs::Pairs;
 pub use reading::{HeadFault, read_head};
 pub use reply::{BadRequest, HttpReply, MapReply, Refusal, ReplyHead, StreamEnd};
