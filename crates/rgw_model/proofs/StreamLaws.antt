@@ -105,7 +105,7 @@ pub one_request : (bytes : List ℕ) (m n : Request) (r q : List ℕ) → TakesR
 one_request bytes m n r q x y =
     let heads = one_head bytes m.head n.head x.after y.after x.head y.head in
     let body : IsBody (plan_of m.head) x.after n.body q =
-        subst (λ h. IsBody (plan_of h) x.after n.body q) (sym heads.0) (subst (λ a. IsBody (plan_of n.head) a n.body q) (sym heads.1) y.body) in
+    subst (λ h. IsBody (plan_of h) x.after n.body q) (sym heads.0) (subst (λ a. IsBody (plan_of n.head) a n.body q) (sym heads.1) y.body) in
     let bodies = one_body (plan_of m.head) x.after m.body n.body r q x.body body in
     (request_is m n heads.0 bodies.0, bodies.1)
 
@@ -277,7 +277,7 @@ body_no_end : (bytes : List ℕ) (m : Request) (rest : List ℕ) → TakesReques
 body_no_end bytes m rest x (head, after, n, y, plan, lt) =
     let heads = one_head bytes m.head head x.after after x.head y in
     let body : IsBody (Plan.Content n) x.after m.body rest =
-        subst (λ p. IsBody p x.after m.body rest) (ap plan_of heads.0 ∙ plan) x.body in
+    subst (λ p. IsBody p x.after m.body rest) (ap plan_of heads.0 ∙ plan) x.body in
     no_cut_body x.after m.body rest n body.0 body.1 (omega (arith, ap length heads.1, lt))
 
 later_no_end : (bytes : List ℕ) (m : Request) (rest : List ℕ) → TakesRequest bytes m rest → IsLater bytes → ⊥
@@ -317,7 +317,7 @@ one_stream k bytes (m ∷ ms) [] e f x y = absurd (no_request_at_end bytes f m x
 one_stream k bytes (m ∷ ms) (n ∷ ns) e f (rest, takes, after) (rest', takes', after') =
     let first = one_request bytes m n rest rest' takes takes' in
     let moved : Follows k (closes k m.head) rest ns f =
-        subst (λ r. Follows k (closes k r.head) rest ns f) (sym first.0) (subst (λ l. Follows k (closes k n.head) l ns f) (sym first.1) after') in
+    subst (λ r. Follows k (closes k r.head) rest ns f) (sym first.0) (subst (λ l. Follows k (closes k n.head) l ns f) (sym first.1) after') in
     let others = same_after k (closes k m.head) rest ms ns e f (one_stream (suc k) rest ms ns e f) after moved in
     ((λ i. first.0 i ∷ others.0 i), others.1)
 
@@ -328,7 +328,7 @@ BeginsList ms ns = (later : List Request) × (ns ≡ ms ++ later)
 prefix_after : (k : ℕ) (closed : Bool) (rest more : List ℕ) (ms ns : List Request) (e f : StreamEnd)
     → (IsStreamFrom (suc k) rest ms e → IsStreamFrom (suc k) (rest ++ more) ns f → BeginsList ms ns)
     → Follows k closed rest ms e → Follows k closed (rest ++ more) ns f → BeginsList ms ns
-prefix_after k true rest more ms ns e f further x y = ([], y.0 ∙ sym (append-nil [] ) ∙ ap (λ l. l ++ []) (sym x.0))
+prefix_after k true rest more ms ns e f further x y = ([], y.0 ∙ sym (append-nil []) ∙ ap (λ l. l ++ []) (sym x.0))
 prefix_after k false rest more ms ns e f further x y = further x y
 
 pub stream_prefix : (k : ℕ) (bytes more : List ℕ) (ms ns : List Request) (e f : StreamEnd) → IsStreamFrom k bytes ms e → IsStreamFrom k (bytes ++ more) ns f → BeginsList ms ns
@@ -337,6 +337,6 @@ stream_prefix k bytes more (m ∷ ms) [] e f x y = absurd (no_request_at_end (by
 stream_prefix k bytes more (m ∷ ms) (n ∷ ns) e f (rest, takes, after) (rest', takes', after') =
     let first = one_request (bytes ++ more) m n (rest ++ more) rest' (more_request bytes m rest more takes) takes' in
     let moved : Follows k (closes k m.head) (rest ++ more) ns f =
-        subst (λ r. Follows k (closes k r.head) (rest ++ more) ns f) (sym first.0) (subst (λ l. Follows k (closes k n.head) l ns f) (sym first.1) after') in
+    subst (λ r. Follows k (closes k r.head) (rest ++ more) ns f) (sym first.0) (subst (λ l. Follows k (closes k n.head) l ns f) (sym first.1) after') in
     let others = prefix_after k (closes k m.head) rest more ms ns e f (stream_prefix (suc k) rest more ms ns e f) after moved in
     (others.0, λ i. sym first.0 i ∷ others.1 i)

@@ -11,21 +11,18 @@ ghost use Rattle.rgw_model.specs.Streams.{IsStream};
 pub fn a_stream_has_one_reading()
     ensures { (bytes : List ℕ) (requests others : List RequestOf) (end other : EndOf)
         → IsStream bytes requests end → IsStream bytes others other → (requests ≡ others) × (end ≡ other) }
-{
-}
+{}
 
 /// The requests that the first bytes of a connection are, are the first of its requests.
 pub fn a_later_byte_changes_no_request()
     ensures { (bytes more : List ℕ) (requests others : List RequestOf) (end other : EndOf)
         → IsStream bytes requests end → IsStream (bytes ++ more) others other
         → (later : List RequestOf) × (others ≡ requests ++ later) }
-{
-}
+{}
 
 /// A change is stamped later than what it changes, as long as moments can rise.
 pub fn a_change_is_stamped_later()
     ensures { (slot : SlotOf) (before : StampOf) (moment zone : ℕ)
         → stamp_of slot ≡ Some before → before.micros + 1 < 2 ^ 64
         → IsEarlier before (next_stamp slot moment zone) }
-{
-}
+{}

@@ -4,6 +4,7 @@
 mod bytes;
 mod field;
 mod head;
+mod known;
 mod laws;
 mod pairs;
 mod reading;
@@ -16,6 +17,7 @@ mod text;
 pub use bytes::Bytes;
 pub use field::{Field, Fields};
 pub use head::{BodyPlan, Framing, Head, Request};
+pub use known::{a_put_and_a_get_are_replied_so, refusals_are_replied_so};
 pub use laws::{
     a_change_is_stamped_later, a_later_byte_changes_no_request, a_stream_has_one_reading,
 };
