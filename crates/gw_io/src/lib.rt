@@ -1,0 +1,13 @@
+//! What a gateway meets outside itself: a source of bytes, a sink for bytes and a clock, as traits
+//! with a written meaning; each in memory; and thin adapters over the standard streams and the
+//! system's clock.
+//!
+//! Code that is generic over these traits cannot raise a count of faults by itself. So a contract
+//! that allows a fault only where the count rose refuses a body that gives up.
+#![tactic(auto)]
+
+mod outside;
+mod writing;
+
+pub use outside::{Clock, Failed, Sink, Source};
+pub use writing::write_all;
