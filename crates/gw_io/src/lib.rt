@@ -7,7 +7,9 @@
 #![tactic(auto)]
 
 mod outside;
+mod source;
 mod writing;
 
 pub use outside::{Clock, Failed, Sink, Source};
+pub use source::{SliceSource, WholeSource};
 pub use writing::write_all;
