@@ -8,6 +8,7 @@
 
 mod outside;
 mod source;
+mod trace;
 mod writing;
 
 pub use outside::{Clock, Failed, Sink, Source};
