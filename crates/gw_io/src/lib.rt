@@ -6,11 +6,15 @@
 //! that allows a fault only where the count rose refuses a body that gives up.
 #![tactic(auto)]
 
+mod clock;
 mod outside;
+mod sink;
 mod source;
 mod trace;
 mod writing;
 
+pub use clock::StepClock;
 pub use outside::{Clock, Failed, Sink, Source};
+pub use sink::{CountingSink, VecSink};
 pub use source::{SliceSource, WholeSource};
 pub use writing::write_all;
