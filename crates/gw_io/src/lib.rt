@@ -6,6 +6,7 @@
 //! that allows a fault only where the count rose refuses a body that gives up.
 #![tactic(auto)]
 
+mod adapters;
 mod clock;
 mod outside;
 mod sink;
@@ -13,6 +14,7 @@ mod source;
 mod trace;
 mod writing;
 
+pub use adapters::{ReaderSource, SystemClock, WriterSink, standard_input, standard_output};
 pub use clock::StepClock;
 pub use outside::{Clock, Failed, Sink, Source};
 pub use sink::{CountingSink, VecSink};
