@@ -28,3 +28,7 @@ last_told clock = clock.last
 -- the moments that a clock tells: none, since nobody can say what the system told it
 abbrev pub moments_told : {R : Type 0} → SystemClock R → Option (List ℕ)
 moments_told clock = None
+
+-- nor does it have a plan
+abbrev pub no_plan : {R : Type 0} → SystemClock R → Option (ℕ → ℕ)
+no_plan clock = None

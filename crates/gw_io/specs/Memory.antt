@@ -1,5 +1,7 @@
 -- What the objects in memory are at a moment.
-use Rattle.std.specs.Prelude.{ℕ, ◌+◌, ◌-◌, ◌*◌, ◌^◌, min, List, [], ◌∷◌, ◌++◌, zero, suc}
+use Rattle.std.specs.Prelude.{◌≡◌, ℕ, ◌+◌, ◌-◌, ◌*◌, ◌^◌, min, List, All, length, Some}
+use Rattle.std.specs.declared.option.Option.{Option}
+use Rattle.gw_io.specs.Outside.{first_moments}
 
 -- a `SliceSource`: the bytes that are left, how many a call gives at most, which calls fail, the calls so far and those
 -- of them that failed
@@ -30,11 +32,20 @@ pub record StepState : Type 0 where
 abbrev pub moment_at : ℕ → ℕ → ℕ → ℕ
 moment_at first step k = min (first + k * step) (2 ^ 64 - 1)
 
--- the moments of the first k calls
-abbrev pub moments : ℕ → ℕ → ℕ → List ℕ
-moments first step zero = []
-moments first step (suc k) = moments first step k ++ moment_at first step k ∷ []
+-- the moments of all calls
+abbrev pub plan_of : StepState → Option (ℕ → ℕ)
+plan_of clock = Some (moment_at clock.first clock.step)
 
--- the moments that a `StepClock` has told
+-- the moments of the calls so far
 abbrev pub moments_of : StepState → List ℕ
-moments_of clock = moments clock.first clock.step clock.calls
+moments_of clock = first_moments (moment_at clock.first clock.step) clock.calls
+
+-- What a clock of this first moment and step has told, whatever calls were made of it: the moments of its first calls.
+abbrev pub GoesInSteps : ℕ → ℕ → Type 0
+GoesInSteps first step = (clock : StepState) (told : List ℕ) → plan_of clock ≡ Some (moment_at first step) → moments_of clock ≡ told
+    → told ≡ first_moments (moment_at first step) (length told)
+
+-- The same without a step: one moment, again and again.
+abbrev pub StandsStill : ℕ → Type 0
+StandsStill moment = (clock : StepState) (told : List ℕ) → plan_of clock ≡ Some (moment_at moment 0) → moments_of clock ≡ told
+    → All (λ m. m ≡ moment) told

@@ -1,7 +1,8 @@
 -- What a call on the outside may leave: the cause of a fault, and the bytes of a write that was cut short.
-use Rattle.std.specs.Prelude.{ℕ, ◌+◌, ◌-◌, ◌^◌, ◌<◌, ◌≤◌, min, List, length, take, Result, OnErr}
+use Rattle.std.specs.Prelude.{◌≡◌, ℕ, ◌+◌, ◌-◌, ◌^◌, ◌<◌, ◌≤◌, min, List, length, map, take, ⊤, None, Some, Result, OnErr}
 use Rattle.std.specs.declared.option.Option.{Option}
 use Rattle.std.specs.Io.KnownBytes.{Appends}
+use Rattle.std.specs.List.{range_with_len}
 
 -- a count in 64 bits, one up; at its end it stands still
 abbrev pub raised : ℕ → ℕ
@@ -19,3 +20,13 @@ pub record HasCause {T E : Type 0} (before now : ℕ) (result : Result T E) : Ty
 -- Known bytes grew by some first bytes of `bytes`, and not by all of them.
 abbrev pub AppendsProperPrefix : Option (List ℕ) → Option (List ℕ) → List ℕ → Type 0
 AppendsProperPrefix old new bytes = (n : ℕ) × (n < length bytes) × Appends old new (take n bytes)
+
+-- the first n moments of a plan, which has the moment of each call of a clock, from 0
+abbrev pub first_moments : (ℕ → ℕ) → ℕ → List ℕ
+first_moments plan n = map plan (range_with_len 0 n)
+
+-- A clock that has a plan, and tells what it told, told the first moments of the plan.
+abbrev pub IsAsPlanned : Option (ℕ → ℕ) → Option (List ℕ) → Type 0
+IsAsPlanned None told = ⊤
+IsAsPlanned (Some plan) None = ⊤
+IsAsPlanned (Some plan) (Some told) = told ≡ first_moments plan (length told)

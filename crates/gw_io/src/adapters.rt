@@ -4,8 +4,8 @@ ghost use Rattle.std.specs.Prelude.{◌≡◌, ◌-◌, ◌/◌, ◌^◌, ◌<�
 ghost use Rattle.std.specs.Duration.{as_nanos};
 ghost use Rattle.std.specs.Io.{ReadsAtMost, WritesAtMost};
 ghost use Rattle.std.specs.Io.KnownBytes.{Appends, Consumes, IsAtEnd, Keeps, ReadConsumes, WriteAppends};
-ghost use Rattle.gw_io.specs.Outside.{HasCause, raised};
-ghost use Rattle.gw_io.specs.Adapters.{source_reader, source_faults, sink_writer, sink_faults, last_told, moments_told};
+ghost use Rattle.gw_io.specs.Outside.{HasCause, IsAsPlanned, raised};
+ghost use Rattle.gw_io.specs.Adapters.{source_reader, source_faults, sink_writer, sink_faults, last_told, moments_told, no_plan};
 
 use crate::{Clock, Failed, Sink, Source};
 use std::io::{ErrorKind, Printer, Read, Write};
@@ -188,8 +188,13 @@ fn moment_of(since_1970: io::Result<Duration>, last: u64) -> u64
 impl<R: rt::Clock + Copy + Send> Clock for SystemClock<R> {
     ghost told = { moments_told };
 
+    ghost plan = { no_plan };
+
     fn now(&mut self) -> u64
         ensures told { Appends (moments_told self.old) (moments_told self.new) (result ∷ []) }
+        ensures plan { no_plan self.new ≡ no_plan self.old }
+        ensures as_planned { IsAsPlanned (no_plan self.new) (moments_told self.new) }
+
         ensures last { last_told self.new ≡ result }
     {
         self.last = moment_of(self.rt.since_1970(), self.last);
@@ -198,6 +203,8 @@ impl<R: rt::Clock + Copy + Send> Clock for SystemClock<R> {
 
     fn twin(&self) -> Self
         ensures told { moments_told result ≡ moments_told self.now }
+        ensures plan { no_plan result ≡ no_plan self.now }
+
         ensures last { last_told result ≡ last_told self.now }
     {
         SystemClock {

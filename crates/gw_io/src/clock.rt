@@ -1,7 +1,8 @@
 // A clock in memory.
 ghost use Rattle.std.specs.Prelude.{◌≡◌, ◌+◌, [], ◌∷◌, Some};
 ghost use Rattle.std.specs.Io.KnownBytes.{Appends};
-ghost use Rattle.gw_io.specs.Memory.{moment_at, moments_of};
+ghost use Rattle.gw_io.specs.Memory.{GoesInSteps, StandsStill, moment_at, moments_of, plan_of};
+ghost use Rattle.gw_io.specs.Outside.{IsAsPlanned};
 
 use crate::Clock;
 use crate::trace::Trace;
@@ -36,7 +37,11 @@ impl StepClock {
     /// A clock whose call number `k` tells `first + k * step`, where the first call has the number 0
     /// and sums stop at the greatest `u64`.
     pub fn new(first: u64, step: u64) -> Self
-        ensures { result ≡ record { first = first; step = step; calls = 0 } }
+        ensures fresh { result ≡ record { first = first; step = step; calls = 0 } }
+
+        // So a caller knows what was told after calls that it did not see.
+        ensures steps { GoesInSteps first step }
+        ensures still { step ≡ 0 → StandsStill first }
     {
         StepClock {
             first,
@@ -50,9 +55,13 @@ impl StepClock {
 impl Clock for StepClock {
     ghost told = { λ s. Some (moments_of s) };
 
+    ghost plan = { plan_of };
+
     fn now(&mut self) -> u64
         ensures told { Appends (Some (moments_of self.old)) (Some (moments_of self.new))
             (result ∷ []) }
+        ensures plan { plan_of self.new ≡ plan_of self.old }
+        ensures as_planned { IsAsPlanned (plan_of self.new) (Some (moments_of self.new)) }
 
         ensures moment { result ≡ moment_at self.old.first self.old.step self.old.calls }
         ensures after { self.new ≡ record self.old { calls = self.old.calls + 1 } }
@@ -65,6 +74,7 @@ impl Clock for StepClock {
 
     fn twin(&self) -> Self
         ensures told { Some (moments_of result) ≡ Some (moments_of self.now) }
+        ensures plan { plan_of result ≡ plan_of self.now }
 
         ensures same { result ≡ self.now }
     {

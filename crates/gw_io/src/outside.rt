@@ -1,9 +1,9 @@
 // The traits that stand for the outside.
-ghost use Rattle.std.specs.Prelude.{◌≡◌, ◌<◌, ℕ, List, [], ◌∷◌, IfOk, length};
+ghost use Rattle.std.specs.Prelude.{◌≡◌, ◌<◌, ℕ, List, [], ◌∷◌, IfOk, None, length};
 ghost use Rattle.std.specs.declared.option.Option.{Option};
 ghost use Rattle.std.specs.Io.{ReadsAtMost, WritesAtMost};
 ghost use Rattle.std.specs.Io.KnownBytes.{Appends, ReadConsumes, WriteAppends};
-ghost use Rattle.gw_io.specs.Outside.{HasCause};
+ghost use Rattle.gw_io.specs.Outside.{HasCause, IsAsPlanned};
 
 use std::error::Error;
 use std::fmt;
@@ -59,12 +59,18 @@ pub trait Clock: Send + Drop {
     /// telling.
     ghost told: { Self → Option (List ℕ) };
 
+    /// The moment of each call, from 0, where that is settled before the calls. No call changes it.
+    ghost plan: { Self → Option (ℕ → ℕ) } = { λ _. None };
+
     /// The moment now. It never fails.
     fn now(&mut self) -> u64
-        ensures told { Appends (told self.old) (told self.new) (result ∷ []) };
+        ensures told { Appends (told self.old) (told self.new) (result ∷ []) }
+        ensures plan { plan self.new ≡ plan self.old }
+        ensures as_planned { IsAsPlanned (plan self.new) (told self.new) };
 
     /// A clock for another thread. It takes no memory and never fails. It has told what this one
     /// has told so far, and from then on each goes its own way.
     fn twin(&self) -> Self
-        ensures told { told result ≡ told self.now };
+        ensures told { told result ≡ told self.now }
+        ensures plan { plan result ≡ plan self.now };
 }
