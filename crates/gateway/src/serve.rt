@@ -1,0 +1,61 @@
+ghost use Rattle.std.specs.Prelude.{◌≡◌, ◌≤◌, IfOk, OnErr};
+ghost use Rattle.gw_io.specs.Outside.{Rose};
+ghost use Rattle.gateway.specs.Serving.{Serves, Stops};
+
+use crate::PlainStore;
+use gw_io::{Clock, Sink, Source};
+use std::alloc::Global;
+
+/// How a connection ended.
+#[derive(Clone, Copy, Debug, PartialEq, Eq)]
+pub enum ConnEnd {
+    /// The input ended between two requests.
+    Clean,
+    /// The last reply said `Connection: close`, and the end is not `Refused`.
+    Closed,
+    /// The input ended inside a request, and nothing was written for it.
+    Cut,
+    /// A 400 with the word `head`, `size` or `framing`, or a 501, was written last.
+    Refused,
+}
+
+/// A connection that was served to its end.
+#[derive(Clone, Copy, Debug, PartialEq, Eq)]
+pub struct Served {
+    /// How many replies were written.
+    pub requests: u64,
+    pub end: ConnEnd,
+}
+
+/// Why a connection was not served to its end.
+#[derive(Clone, Copy, Debug, PartialEq, Eq)]
+pub enum ServeFault {
+    OutOfMemory,
+    ReadFault,
+    WriteFault,
+}
+
+/// Serves the requests of one connection in order, each reply before the next request is read, at
+/// most 100000 of them. The clock is asked once for each request that reaches the container.
+pub fn serve_connection<S: Source, K: Sink, C: Clock>(
+    _alloc: Global,
+    store: &mut PlainStore,
+    source: &mut S,
+    sink: &mut K,
+    clock: &mut C,
+) -> Result<Served, ServeFault>
+    ensures served { IfOk result (Serves store.old store.new
+        (record { left = S.left source.old; taken = K.taken sink.old; told = C.told clock.old })
+        (record { left = S.left source.new; taken = K.taken sink.new; told = C.told clock.new })) }
+    ensures stopped { OnErr result (Stops store.old store.new
+        (record { left = S.left source.old; taken = K.taken sink.old; told = C.told clock.old })
+        (record { left = S.left source.new; taken = K.taken sink.new; told = C.told clock.new })) }
+
+    ensures read_fault { result ≡ Err ServeFault.ReadFault → Rose (S.faults source.old) (S.faults source.new) }
+    ensures write_fault { result ≡ Err ServeFault.WriteFault → Rose (K.faults sink.old) (K.faults sink.new) }
+    ensures source_faults { S.faults source.old ≤ S.faults source.new }
+    ensures sink_faults { K.faults sink.old ≤ K.faults sink.new }
+    ensures plan { C.plan clock.new ≡ C.plan clock.old }
+{
+    Err(ServeFault::OutOfMemory)
+}
