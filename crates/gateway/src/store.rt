@@ -1,5 +1,5 @@
-ghost use Rattle.std.specs.Prelude.{◌≡◌, IfOk};
-ghost use Rattle.rgw_model.specs.Buckets.{empty_bucket};
+ghost use Rattle.std.specs.Prelude.{◌≡◌, IfOk, OnOk, OnErr, option_copied, unwrap_or};
+ghost use Rattle.rgw_model.specs.Buckets.{empty_bucket, slot_at, with_slot};
 
 use rgw_model::{Slot, Text};
 use std::alloc::{AllocError, Global};
@@ -34,5 +34,29 @@ impl PlainStore {
             container,
             slots: BTreeMap::new(alloc),
         })
+    }
+
+    /// The name of the container.
+    pub fn container(&self) -> &Text
+        ensures { result.now ≡ self.now.container }
+    {
+        &self.container
+    }
+
+    /// What stands under a name. `None` is nothing.
+    pub fn slot(&self, name: &Text) -> Option<&Slot>
+        ensures { unwrap_or (option_copied result) Slot.Nothing ≡ slot_at self.now.bucket name.now }
+    {
+        self.slots.get(name)
+    }
+
+    /// Puts a slot under a name, in the place of what stood there. After an error nothing has
+    /// changed.
+    pub fn set(&mut self, name: Text, slot: Slot) -> Result<(), AllocError>
+        ensures ok { OnOk result (self.new ≡ record self.old { bucket = with_slot self.old.bucket name slot }) }
+        ensures err { OnErr result (self.new ≡ self.old) }
+    {
+        self.slots.insert(name, slot)?;
+        Ok(())
     }
 }

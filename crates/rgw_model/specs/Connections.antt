@@ -76,14 +76,19 @@ pub record Served : Type 0 where
   pub shown : List ℕ
   pub bucket : BucketMap
 
-abbrev pub served_by : BucketMap → List ℕ → Answer → Served
-served_by bucket name a =
-    record { reply = Answered a.reply; shown = a.shown; bucket = with_slot bucket name a.after }
+-- the map after a command that left this slot; a GET leaves the map as it is
+abbrev pub bucket_after : BucketMap → List ℕ → Command → Slot → BucketMap
+bucket_after bucket name (put kind bytes) after = with_slot bucket name after
+bucket_after bucket name get after = bucket
+
+abbrev pub served_by : BucketMap → List ℕ → Command → Answer → Served
+served_by bucket name command a =
+    record { reply = Answered a.reply; shown = a.shown; bucket = bucket_after bucket name command a.after }
 
 abbrev pub served_verdict : Verdict → BucketMap → Command → ℕ → Served
 served_verdict (refused reply) bucket command moment = record { reply = reply; shown = []; bucket = bucket }
 served_verdict (reaches name) bucket command moment =
-    served_by bucket name (answer (slot_at bucket name) command first_zone moment)
+    served_by bucket name command (answer (slot_at bucket name) command first_zone moment)
 
 -- what the container answers to a request at a moment
 unfoldable pub served : List ℕ → BucketMap → Request → ℕ → Served
