@@ -1,0 +1,48 @@
+-- Pieces that were added one after another, as the text of a reply.
+use Rattle.std.proofs.Common.{◌≡◌, ℕ, List, [], ◌++◌, refl, sym, ap, ◌∙◌, append_assoc, append-nil}
+
+-- a piece more
+more : (a b o t p : List ℕ) → b ≡ a ++ p → a ≡ o ++ t → b ≡ o ++ (t ++ p)
+more a b o t p e so_far = e ∙ ap (λ l. l ++ p) so_far ∙ append_assoc o t p
+
+-- a status line, four groups of fields, the empty line and no body
+pub stored : (o o₁ o₂ o₃ o₄ o₅ o₆ s a b c d e : List ℕ)
+    → o₁ ≡ o ++ s → o₂ ≡ o₁ ++ a → o₃ ≡ o₂ ++ b → o₄ ≡ o₃ ++ c → o₅ ≡ o₄ ++ d → o₆ ≡ o₅ ++ e
+    → o₆ ≡ o ++ ((s ++ (a ++ (b ++ (c ++ d))) ++ e) ++ [])
+stored o o₁ o₂ o₃ o₄ o₅ o₆ s a b c d e e₁ e₂ e₃ e₄ e₅ e₆ =
+    more o₅ o₆ o ((((s ++ a) ++ b) ++ c) ++ d) e e₆
+    (more o₄ o₅ o (((s ++ a) ++ b) ++ c) d e₅ (more o₃ o₄ o ((s ++ a) ++ b) c e₄ (more o₂ o₃ o (s ++ a) b e₃ (more o₁ o₂ o s a e₂ e₁))))
+    ∙ simp (append_assoc, append-nil)
+
+-- a status line, six groups of fields and the empty line
+pub shown : (o o₁ o₂ o₃ o₄ o₅ o₆ o₇ o₈ s a b c d f g e : List ℕ)
+    → o₁ ≡ o ++ s → o₂ ≡ o₁ ++ a → o₃ ≡ o₂ ++ b → o₄ ≡ o₃ ++ c → o₅ ≡ o₄ ++ d → o₆ ≡ o₅ ++ f → o₇ ≡ o₆ ++ g → o₈ ≡ o₇ ++ e
+    → o₈ ≡ o ++ (s ++ (a ++ (b ++ (c ++ (d ++ (f ++ g))))) ++ e)
+shown o o₁ o₂ o₃ o₄ o₅ o₆ o₇ o₈ s a b c d f g e e₁ e₂ e₃ e₄ e₅ e₆ e₇ e₈ =
+    more o₇ o₈ o ((((((s ++ a) ++ b) ++ c) ++ d) ++ f) ++ g) e e₈
+    (more o₆ o₇ o (((((s ++ a) ++ b) ++ c) ++ d) ++ f) g e₇
+    (more o₅ o₆ o ((((s ++ a) ++ b) ++ c) ++ d) f e₆
+    (more o₄ o₅ o (((s ++ a) ++ b) ++ c) d e₅ (more o₃ o₄ o ((s ++ a) ++ b) c e₄ (more o₂ o₃ o (s ++ a) b e₃ (more o₁ o₂ o s a e₂ e₁))))))
+    ∙ simp append_assoc
+
+-- a status line, two fields, two groups of fields, the empty line, and a line of a body
+pub refused : (o o₁ o₂ o₃ o₄ o₅ o₆ o₇ s a b g k e l n : List ℕ)
+    → o₁ ≡ o ++ s → o₂ ≡ o₁ ++ a ++ b → o₃ ≡ o₂ ++ g → o₄ ≡ o₃ ++ k → o₅ ≡ o₄ ++ e → o₆ ≡ o₅ ++ l → o₇ ≡ o₆ ++ n
+    → o₇ ≡ o ++ ((s ++ (a ++ (b ++ (g ++ k))) ++ e) ++ (l ++ n))
+refused o o₁ o₂ o₃ o₄ o₅ o₆ o₇ s a b g k e l n e₁ e₂ e₃ e₄ e₅ e₆ e₇ =
+    more o₆ o₇ o (((((s ++ (a ++ b)) ++ g) ++ k) ++ e) ++ l) n e₇
+    (more o₅ o₆ o ((((s ++ (a ++ b)) ++ g) ++ k) ++ e) l e₆
+    (more o₄ o₅ o (((s ++ (a ++ b)) ++ g) ++ k) e e₅ (more o₃ o₄ o ((s ++ (a ++ b)) ++ g) k e₄ (more o₂ o₃ o (s ++ (a ++ b)) g e₃
+    (more o₁ o₂ o s (a ++ b) (e₂ ∙ append_assoc o₁ a b) e₁)))))
+    ∙ simp append_assoc
+
+-- the same without a challenge, with the first part of the line behind the empty line
+pub broken : (o o₁ o₂ o₃ o₄ o₅ o₆ s a b k e w l n : List ℕ)
+    → o₁ ≡ o ++ s → o₂ ≡ o₁ ++ a ++ b → o₃ ≡ o₂ ++ k → o₄ ≡ o₃ ++ (e ++ w) → o₅ ≡ o₄ ++ l → o₆ ≡ o₅ ++ n
+    → o₆ ≡ o ++ ((s ++ (a ++ (b ++ k)) ++ e) ++ ((w ++ l) ++ n))
+broken o o₁ o₂ o₃ o₄ o₅ o₆ s a b k e w l n e₁ e₂ e₃ e₄ e₅ e₆ =
+    more o₅ o₆ o ((((s ++ (a ++ b)) ++ k) ++ (e ++ w)) ++ l) n e₆
+    (more o₄ o₅ o (((s ++ (a ++ b)) ++ k) ++ (e ++ w)) l e₅
+    (more o₃ o₄ o ((s ++ (a ++ b)) ++ k) (e ++ w) e₄ (more o₂ o₃ o (s ++ (a ++ b)) k e₃
+    (more o₁ o₂ o s (a ++ b) (e₂ ∙ append_assoc o₁ a b) e₁))))
+    ∙ simp append_assoc

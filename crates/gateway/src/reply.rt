@@ -1,0 +1,208 @@
+// The texts of replies, at the end of a buffer (RFC 9112, sections 4 and 5).
+ghost use Rattle.std.specs.Prelude.{◌≡◌, ◌+◌, ◌++◌, ◌<◌, [], length, IfOk, OnOk, decimal, flat_map, codes};
+ghost use Rattle.hex.specs.Hex.{encode_lower};
+ghost use Rattle.rgw_model.specs.Replies.{phrase_of, status_line, field_line, field_if, close_field, content_length_field, content_type_field, etag_field, last_modified_field, accept_ranges_field, code_of, line_of, word_of, challenge_of, crlf, refusal_kind, head_text, map_reply_head, reply_text};
+ghost use Rattle.rgw_model.specs.declared.reply.HttpReply.TheVariants.{Answered, BadRequest as Broken};
+ghost use Rattle.rgw_model.specs.declared.reply.MapReply.TheVariants.{Refused, Stored};
+ghost use Rattle.rgw_model.specs.Answers.{shown_whole};
+
+use date_words::date_text_of_micros;
+use http::StatusCode;
+use rgw_model::{BadRequest, Content, Refusal, Stamp};
+use std::alloc::AllocError;
+
+/// The phrase of a status code.
+#[tactic(auto, unfolding(rgw_model::specs::Replies::phrase_of))]
+fn phrase(status: StatusCode) -> &'static str
+    ensures { result.now ≡ phrase_of status }
+{
+    status.canonical_reason().unwrap_or("")
+}
+
+/// Adds a status line.
+fn push_status(out: &mut Vec<u8>, status: StatusCode) -> Result<(), AllocError>
+    ensures { OnOk result (out.new.items ≡ out.old.items ++ status_line status) }
+{
+    out.extend_from_slice(b"HTTP/1.1 ")?;
+    out.extend_from_slice(status.as_str().as_bytes())?;
+    out.extend_from_slice(b" ")?;
+    out.extend_from_slice(phrase(status).as_bytes())?;
+    out.extend_from_slice(b"\r\n")
+}
+
+/// Adds a field.
+fn push_field(out: &mut Vec<u8>, name: &str, value: &[u8]) -> Result<(), AllocError>
+    ensures { OnOk result (out.new.items ≡ out.old.items ++ field_line (record { name = name.now; value = value.now })) }
+{
+    out.extend_from_slice(name.as_bytes())?;
+    out.extend_from_slice(b": ")?;
+    out.extend_from_slice(value)?;
+    out.extend_from_slice(b"\r\n")
+}
+
+/// Adds `Connection: close`, where the connection is closed.
+fn push_close(out: &mut Vec<u8>, close: bool) -> Result<(), AllocError>
+    ensures { OnOk result (out.new.items ≡ out.old.items ++ flat_map field_line (field_if close close_field)) }
+{
+    if close {
+        return push_field(out, "Connection", b"close");
+    }
+    Ok(())
+}
+
+/// The code of a refusal.
+fn status_of(refusal: Refusal) -> StatusCode
+    ensures { result ≡ code_of refusal }
+{
+    match refusal {
+        Refusal::NotBuilt => StatusCode::NOT_IMPLEMENTED,
+        Refusal::Unauthorized => StatusCode::UNAUTHORIZED,
+        Refusal::NoContainer | Refusal::NoObject => StatusCode::NOT_FOUND,
+    }
+}
+
+/// The line of a refusal's body.
+fn line(refusal: Refusal) -> &'static str
+    ensures { result.now ≡ line_of refusal }
+{
+    match refusal {
+        Refusal::NotBuilt => "Not built",
+        Refusal::Unauthorized => "Unauthorized",
+        Refusal::NoContainer => "No such container",
+        Refusal::NoObject => "No such object",
+    }
+}
+
+/// The word of a 400.
+fn word(fault: BadRequest) -> &'static str
+    ensures { result.now ≡ word_of fault }
+{
+    match fault {
+        BadRequest::Head => "head",
+        BadRequest::Size => "size",
+        BadRequest::Framing => "framing",
+        BadRequest::Host => "host",
+    }
+}
+
+/// Adds `Content-Length`.
+fn push_length(out: &mut Vec<u8>, len: u64) -> Result<(), AllocError>
+    ensures { OnOk result (out.new.items ≡ out.old.items ++ field_line (content_length_field len)) }
+{
+    let mut digits = itoa::Buffer::new();
+    push_field(out, "Content-Length", digits.format(len).as_bytes())
+}
+
+/// Adds `ETag`: the digest in hexadecimal digits.
+fn push_etag(out: &mut Vec<u8>, etag: &[u8; 16]) -> Result<(), AllocError>
+    ensures { OnOk result (out.new.items ≡ out.old.items ++ field_line (etag_field etag.now)) }
+{
+    let mut digits = [0; 32];
+    if hex::encode_to_slice(etag.as_slice(), &mut digits).is_err() {
+        unreachable!();
+    }
+    push_field(out, "ETag", &digits)
+}
+
+/// Adds `Last-Modified`: the whole second of a stamp.
+fn push_modified(out: &mut Vec<u8>, stamp: Stamp) -> Result<(), AllocError>
+    ensures { OnOk result (out.new.items ≡ out.old.items ++ field_line (last_modified_field stamp)) }
+{
+    push_field(out, "Last-Modified", &date_text_of_micros(stamp.micros))
+}
+
+/// Adds the reply to a PUT that stored an object.
+pub(crate) fn push_stored(
+    out: &mut Vec<u8>,
+    etag: &[u8; 16],
+    stamp: Stamp,
+    close: bool,
+) -> Result<(), AllocError>
+    ensures { OnOk result (out.new.items ≡ out.old.items ++ reply_text (Answered (Stored etag.now stamp)) [] close) }
+{
+    push_status(out, StatusCode::CREATED)?;
+    push_length(out, 0)?;
+    push_etag(out, etag)?;
+    push_modified(out, stamp)?;
+    push_close(out, close)?;
+    out.extend_from_slice(b"\r\n")?;
+    Ok(())
+}
+
+/// Adds the head of the reply to a GET that shows an object of `size` bytes whole. The bytes follow
+/// it.
+pub(crate) fn push_shown_head(
+    out: &mut Vec<u8>,
+    content: &Content,
+    stamp: Stamp,
+    close: bool,
+) -> Result<(), AllocError>
+    ensures { OnOk result (out.new.items ≡ out.old.items ++ head_text (map_reply_head (shown_whole content.now stamp) close)) }
+{
+    push_status(out, StatusCode::OK)?;
+    push_length(out, content.bytes.len() as u64)?;
+    push_field(out, "Content-Type", content.kind.as_bytes())?;
+    push_etag(out, &content.etag)?;
+    push_modified(out, stamp)?;
+    push_field(out, "Accept-Ranges", b"bytes")?;
+    push_close(out, close)?;
+    out.extend_from_slice(b"\r\n")?;
+    Ok(())
+}
+
+/// Adds the fields of a body that is one line, but for the last ones.
+fn push_line_fields(out: &mut Vec<u8>, len: usize) -> Result<(), AllocError>
+    requires { len < 1000 }
+    ensures { OnOk result (out.new.items ≡ out.old.items
+        ++ field_line (content_length_field (len + 1)) ++ field_line (content_type_field refusal_kind)) }
+{
+    push_length(out, len as u64 + 1)?;
+    push_field(out, "Content-Type", b"text/plain; charset=utf-8")
+}
+
+/// Adds `WWW-Authenticate`, where the refusal asks for a token (RFC 9110, section 11.6.1).
+fn push_challenge(out: &mut Vec<u8>, refusal: Refusal) -> Result<(), AllocError>
+    ensures { OnOk result (out.new.items ≡ out.old.items ++ flat_map field_line (challenge_of refusal)) }
+{
+    match refusal {
+        Refusal::Unauthorized => push_field(out, "WWW-Authenticate", b"Swift realm=\"rgw\""),
+        _ => Ok(()),
+    }
+}
+
+/// Adds a refusal.
+pub(crate) fn push_refusal(
+    out: &mut Vec<u8>,
+    refusal: Refusal,
+    close: bool,
+) -> Result<(), AllocError>
+    ensures { OnOk result (out.new.items ≡ out.old.items ++ reply_text (Answered (Refused refusal)) [] close) }
+{
+    let line = line(refusal);
+    push_status(out, status_of(refusal))?;
+    push_line_fields(out, line.len())?;
+    push_challenge(out, refusal)?;
+    push_close(out, close)?;
+    out.extend_from_slice(b"\r\n")?;
+    out.extend_from_slice(line.as_bytes())?;
+    out.extend_from_slice(b"\n")?;
+    Ok(())
+}
+
+/// Adds a 400.
+pub(crate) fn push_bad_request(
+    out: &mut Vec<u8>,
+    fault: BadRequest,
+    close: bool,
+) -> Result<(), AllocError>
+    ensures { OnOk result (out.new.items ≡ out.old.items ++ reply_text (Broken fault) [] close) }
+{
+    let word = word(fault);
+    push_status(out, StatusCode::BAD_REQUEST)?;
+    push_line_fields(out, 13 + word.len())?;
+    push_close(out, close)?;
+    out.extend_from_slice(b"\r\nBad request: ")?;
+    out.extend_from_slice(word.as_bytes())?;
+    out.extend_from_slice(b"\n")?;
+    Ok(())
+}
