@@ -3,6 +3,7 @@
 
 mod bytes;
 mod field;
+mod form;
 mod head;
 mod pairs;
 mod reading;
@@ -10,6 +11,7 @@ mod reply;
 mod slot;
 mod stamp;
 mod status;
+mod target;
 mod text;
 
 pub use bytes::Bytes;
