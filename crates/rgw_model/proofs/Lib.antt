@@ -1,2 +1,5 @@
+pub mod FieldLemmas
+pub mod FormLemmas
 pub mod OnLiterals
 pub mod StreamLaws
+pub mod TargetLemmas

@@ -3,6 +3,7 @@
 
 mod bytes;
 mod field;
+mod form;
 mod head;
 mod known;
 mod laws;
@@ -12,6 +13,7 @@ mod reply;
 mod slot;
 mod stamp;
 mod status;
+mod target;
 mod text;
 
 pub use bytes::Bytes;

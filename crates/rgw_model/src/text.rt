@@ -1,3 +1,4 @@
+ghost use Rattle.std.specs.Str.{IsAscii};
 ghost use Rattle.std.specs.Prelude.{◌≡◌, ◌==◌, ◌++◌, ◌↔◌, [], length, IfOk, OnOk, OnErr, IsTrue, string_bytes};
 
 use std::alloc::{AllocError, Global};
@@ -36,6 +37,17 @@ impl Text {
         Ok(Text {
             value: String::from_str(alloc, text)?,
         })
+    }
+
+    /// A copy of ASCII bytes as text.
+    pub fn from_ascii(alloc: Global, bytes: &[u8]) -> Result<Self, AllocError>
+        requires { IsAscii bytes.now }
+        ensures { IfOk result (λ copy. copy ≡ bytes.now) }
+    {
+        match str::from_utf8(bytes) {
+            Ok(text) => Text::from_str(alloc, text),
+            Err(_) => unreachable!(),
+        }
     }
 
     /// The text of a string. Takes no memory.
