@@ -340,3 +340,45 @@ stream_prefix k bytes more (m ∷ ms) (n ∷ ns) e f (rest, takes, after) (rest'
     subst (λ r. Follows k (closes k r.head) (rest ++ more) ns f) (sym first.0) (subst (λ l. Follows k (closes k n.head) l ns f) (sym first.1) after') in
     let others = prefix_after k (closes k m.head) rest more ms ns e f (stream_prefix (suc k) rest more ms ns e f) after moved in
     (others.0, λ i. sym first.0 i ∷ others.1 i)
+
+-- what a stream that begins with a request goes on with
+pub stream_after : (k : ℕ) (bytes : List ℕ) (m : Request) (rest : List ℕ) (ms : List Request) (e : StreamEnd) → TakesRequest bytes m rest → IsStreamFrom k bytes ms e
+    → (others : List Request) × (ms ≡ m ∷ others) × MatchBool (closes k m.head) ((others ≡ []) × (e ≡ End.Closed)) (IsStreamFrom (suc k) rest others e)
+stream_after k bytes m rest [] e takes x = absurd (no_request_at_end bytes e m rest x takes)
+stream_after k bytes m rest (n ∷ ns) e takes (rest', takes', after) =
+    let first = one_request bytes m n rest rest' takes takes' in
+    (
+      ns,
+      λ i. sym first.0 i ∷ ns,
+      subst (λ r. Follows k (closes k r.head) rest ns e) (sym first.0) (subst (λ l. Follows k (closes k n.head) l ns e) (sym first.1) after),
+    )
+
+-- the end does not wait for more bytes
+abbrev pub IsFinal : StreamEnd → Type 0
+IsFinal End.Clean = ⊥
+IsFinal End.Closed = ⊥
+IsFinal End.Cut = ⊥
+IsFinal (End.Refused word) = Unit {0}
+IsFinal End.NotBuilt = Unit {0}
+
+-- bytes behind what is refused change nothing of it
+more_oversized : (bytes more : List ℕ) → IsOversized bytes → IsOversized (bytes ++ more)
+more_oversized bytes more x = (
+  omega (arith, x.0, length-append bytes more),
+  subst HasNoHeadText (sym (take-append-le head_limit bytes more (omega (arith, x.0)))) x.1,
+)
+
+pub more_broken : (bytes more : List ℕ) (e : StreamEnd) → IsFinal e → IsEnd bytes e → IsEnd (bytes ++ more) e
+more_broken bytes more End.Clean final x = absurd final
+more_broken bytes more End.Closed final x = absurd final
+more_broken bytes more End.Cut final x = absurd final
+more_broken bytes more (End.Refused Word.Head) final (text, rest, is, lacks) = (text, rest ++ more, more_text bytes text rest more is, lacks)
+more_broken bytes more (End.Refused Word.Size) final x = more_oversized bytes more x
+more_broken bytes more (End.Refused Word.Framing) final (text, rest, is, tree, is_tree, none) =
+    (text, rest ++ more, more_text bytes text rest more is, tree, is_tree, none)
+more_broken bytes more (End.Refused Word.Host) final x = absurd x
+more_broken bytes more End.NotBuilt final (head, after, x, plan) = (head, after ++ more, more_head bytes head after more x, plan)
+
+-- a stream that ends at once goes on with nothing
+pub stream_of_end : (k : ℕ) (bytes : List ℕ) (ms : List Request) (e f : StreamEnd) → IsEnd bytes e → IsStreamFrom k bytes ms f → (ms ≡ []) × (f ≡ e)
+stream_of_end k bytes ms e f x y = let same = one_stream k bytes ms [] f e y x in (same.0, same.1)
