@@ -1,3 +1,4 @@
+pub mod Ascii
 pub mod Buckets
 pub mod Stopping
 pub mod Texts

@@ -1,6 +1,7 @@
 //! One connection of the gateway: requests in, replies out, over a store.
 #![tactic(auto)]
 
+mod asked;
 mod reply;
 mod serve;
 mod store;

@@ -1,0 +1,79 @@
+// What a request asks of the container.
+ghost use Rattle.std.specs.Prelude.{◌≡◌, IfOk, true, codes};
+ghost use Rattle.std.specs.List.{list_all};
+ghost use Rattle.rgw_model.specs.Framings.{values_of};
+ghost use Rattle.rgw_model.specs.Forms.{is_kind, has_host, is_built};
+ghost use Rattle.rgw_model.specs.Connections.{is_user, kind_of, judged};
+ghost use Rattle.gateway.specs.Asking.{IsJudged};
+
+use rgw_model::{Bytes, Head, Refusal, Text};
+use std::alloc::{AllocError, Global};
+
+/// The token of the one user.
+const USER_TOKEN: &[u8] = b"AUTH_tk1";
+
+/// What a request asks of the container, or why it is refused before any name is looked at.
+#[derive(Debug, Drop)]
+pub(crate) enum Asked {
+    /// An HTTP/1.1 head has not just one Host field.
+    BadHost,
+    Refused(Refusal),
+    /// To store a body under a name, with the media type that was sent.
+    Put {
+        name: Text,
+        kind: Option<Text>,
+        body: Bytes,
+    },
+    /// To show what stands under a name.
+    Get(Text),
+}
+
+/// Whether the token that counts is the user's.
+#[tactic(auto, unfolding(rgw_model::specs::Connections::is_user))]
+fn is_user(head: &Head) -> bool
+    ensures { result ≡ is_user head.now }
+{
+    match head.fields.value_of(b"x-auth-token") {
+        Some(token) => token == USER_TOKEN,
+        None => false,
+    }
+}
+
+/// The media type that was sent. An empty one counts as none.
+#[tactic(auto, unfolding(rgw_model::specs::Connections::kind_of))]
+fn kind_of(alloc: Global, head: &Head) -> Result<Option<Text>, AllocError>
+    requires { list_all is_kind (values_of (codes "content-type") head.now.fields) ≡ true }
+    ensures { IfOk result (λ kind. kind ≡ kind_of head.now) }
+{
+    match head.fields.value_of(b"content-type") {
+        Some(value) if !value.is_empty() => Ok(Some(Text::from_ascii(alloc, value)?)),
+        _ => Ok(None),
+    }
+}
+
+/// What a request asks of the container, still without its body.
+#[tactic(auto, unfolding(rgw_model::specs::Connections::judged))]
+pub(crate) fn judge(alloc: Global, container: &Text, head: &Head) -> Result<Asked, AllocError>
+    requires { has_host head.now ≡ true → is_built head.now ≡ true }
+    ensures { IfOk result (IsJudged container.now head.now) }
+{
+    if !head.has_host() {
+        return Ok(Asked::BadHost);
+    }
+    if !is_user(head) {
+        return Ok(Asked::Refused(Refusal::Unauthorized));
+    }
+    let Some((of, name)) = head.place() else {
+        return Ok(Asked::Refused(Refusal::NotBuilt));
+    };
+    if of != container.as_bytes() {
+        return Ok(Asked::Refused(Refusal::NoContainer));
+    }
+    let name = Text::from_ascii(alloc, name)?;
+    if head.is_put() {
+        let kind = kind_of(alloc, head)?;
+        let body = Bytes::new(alloc);
+        return Ok(Asked::Put { name, kind, body });
+    }
+    Ok(Asked::Get(name))
+}
