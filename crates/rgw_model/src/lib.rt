@@ -27,6 +27,6 @@ pub use pairs::Pairs;
 pub use reading::{HeadFault, read_head};
 pub use reply::{BadRequest, HttpReply, MapReply, Refusal, ReplyHead, StreamEnd};
 pub use slot::{Content, Slot};
-pub use stamp::{Stamp, stamps_are_in_one_order};
+pub use stamp::{Stamp, counted_moment, stamps_are_in_one_order};
 pub use status::Status;
 pub use text::Text;

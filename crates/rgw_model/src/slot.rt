@@ -1,3 +1,5 @@
+ghost use Rattle.std.specs.Prelude.{◌≡◌};
+
 use crate::{Bytes, Pairs, Stamp, Text};
 
 /// What is stored under a name.
@@ -19,4 +21,18 @@ pub enum Slot {
     Live(Content, Stamp),
     /// A mark of a deletion.
     Mark(Stamp),
+}
+
+impl Slot {
+    ghost use Rattle.rgw_model.specs.Stamps.{stamp_of};
+
+    /// The stamp of the last change, if there was one.
+    pub fn stamp(&self) -> Option<Stamp>
+        ensures { result ≡ stamp_of self.now }
+    {
+        match self {
+            Slot::Nothing => None,
+            Slot::Live(_, stamp) | Slot::Mark(stamp) => Some(*stamp),
+        }
+    }
 }

@@ -1,6 +1,6 @@
 ghost use Rattle.std.specs.Prelude.{◌≡◌, ◌+◌, ◌<◌, ◌^◌, ◌↔◌, ◌⊎◌, ℕ, IsTrue};
 ghost use Rattle.rgw_model.specs.declared.stamp.Stamp.{Stamp as StampOf};
-ghost use Rattle.rgw_model.specs.Stamps.{IsEarlier};
+ghost use Rattle.rgw_model.specs.Stamps.{IsEarlier, counted_moment, stamp_above};
 
 /// When a change was made and in which zone: the order of changes of one name.
 /// The moment counts first, in microseconds since 1970, and then the zone.
@@ -10,7 +10,29 @@ pub struct Stamp {
     pub zone: u8,
 }
 
+/// The latest moment that counts: the last microsecond of the year 9999.
+const LATEST_MOMENT: u64 = 253_402_300_799_999_999;
+
+/// The moment as it counts: a later one than the last of the year 9999 is taken as that.
+pub fn counted_moment(moment: u64) -> u64
+    ensures { result ≡ counted_moment moment }
+{
+    moment.min(LATEST_MOMENT)
+}
+
 impl Stamp {
+    /// The stamp of a change in a zone at a moment, above the stamp before it. A moment stops at the
+    /// greatest `u64`.
+    pub fn above(before: Option<Stamp>, moment: u64, zone: u8) -> Stamp
+        ensures { result ≡ stamp_above before moment zone }
+    {
+        let micros = match before {
+            None => moment,
+            Some(stamp) => moment.max(stamp.micros.saturating_add(1)),
+        };
+        Stamp { micros, zone }
+    }
+
     /// Whether this change was before that one.
     pub fn is_earlier(&self, other: &Stamp) -> bool
         ensures { IsTrue result ↔ IsEarlier self.now other.now }
