@@ -1,4 +1,5 @@
 pub mod Ascii
 pub mod Buckets
+pub mod Fronts
 pub mod Stopping
 pub mod Texts

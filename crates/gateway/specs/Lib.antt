@@ -1,3 +1,4 @@
 pub mod Store
 pub mod Asking
+pub mod Answering
 pub mod Serving

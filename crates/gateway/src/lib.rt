@@ -1,10 +1,13 @@
 //! One connection of the gateway: requests in, replies out, over a store.
 #![tactic(auto)]
 
+mod answer;
 mod asked;
+mod fault;
 mod reply;
 mod serve;
 mod store;
 
-pub use serve::{ConnEnd, ServeFault, Served, serve_connection};
+pub use fault::ServeFault;
+pub use serve::{ConnEnd, Served, serve_connection};
 pub use store::PlainStore;

@@ -2,7 +2,7 @@ ghost use Rattle.std.specs.Prelude.{◌≡◌, ◌≤◌, IfOk, OnErr};
 ghost use Rattle.gw_io.specs.Outside.{Rose};
 ghost use Rattle.gateway.specs.Serving.{Serves, Stops};
 
-use crate::PlainStore;
+use crate::{PlainStore, ServeFault};
 use gw_io::{Clock, Sink, Source};
 use std::alloc::Global;
 
@@ -25,14 +25,6 @@ pub struct Served {
     /// How many replies were written.
     pub requests: u64,
     pub end: ConnEnd,
-}
-
-/// Why a connection was not served to its end.
-#[derive(Clone, Copy, Debug, PartialEq, Eq)]
-pub enum ServeFault {
-    OutOfMemory,
-    ReadFault,
-    WriteFault,
 }
 
 /// Serves the requests of one connection in order, each reply before the next request is read, at
