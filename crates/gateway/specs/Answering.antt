@@ -2,7 +2,13 @@
 use Rattle.std.specs.Prelude.{◌≡◌, ◌≢◌, ◌⊎◌, ℕ, ◌≤◌, Bool, List, ◌++◌, length, Option, Result, Err}
 use Rattle.std.specs.Io.KnownBytes.{Appends}
 use Rattle.gw_io.specs.Outside.{Rose}
-use Rattle.rgw_model.specs.Connections.{Served, next_moment}
+use Rattle.md5.specs.Md5.{md5}
+use Rattle.rgw_model.specs.declared.stamp.Stamp.{Stamp}
+use Rattle.rgw_model.specs.declared.slot.Slot.TheVariants.{Live}
+use Rattle.rgw_model.specs.Stamps.{counted_moment, next_stamp}
+use Rattle.rgw_model.specs.Answers.{content_of}
+use Rattle.rgw_model.specs.Buckets.{slot_at, with_slot}
+use Rattle.rgw_model.specs.Connections.{Served, next_moment, first_zone}
 use Rattle.rgw_model.specs.Replies.{reply_text}
 use Rattle.gateway.specs.declared.asked.Asked.{Asked}
 use Rattle.gateway.specs.declared.fault.ServeFault.{ServeFault}
@@ -46,3 +52,10 @@ pub record AnswersInPart (asked : Asked) (close : Bool) (store after : StoreStat
   pub each : length moments ≡ told_for asked
   pub written : AppendsFront taken taken' (text_for asked store (next_moment moments) close)
   pub stored : (after ≡ store) ⊎ (after ≡ store_after asked store (next_moment moments))
+
+-- an object was stored at a moment, with this digest and this stamp
+pub record IsStored (store : StoreState) (name : List ℕ) (kind : Option (List ℕ)) (body : List ℕ) (moment : ℕ) (after : StoreState) (etag : List ℕ) (stamp : Stamp) : Type 0 where
+  pub digest : etag ≡ md5 body
+  pub stamped : stamp ≡ next_stamp (slot_at store.bucket name) (counted_moment moment) first_zone
+  pub put_there : after ≡ record { container = store.container;
+    bucket = with_slot store.bucket name (Live (content_of kind body) stamp) }

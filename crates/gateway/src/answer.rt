@@ -1,16 +1,29 @@
 // The answer to a request: its reply is written, and the store is as the request leaves it.
-ghost use Rattle.std.specs.Prelude.{◌++◌, [], OnOk, OnErr};
+ghost use Rattle.std.specs.Prelude.{◌≡◌, ◌++◌, [], IfOk, OnOk, OnErr, unwrap_or};
 ghost use Rattle.std.specs.Io.KnownBytes.{Appends};
 ghost use Rattle.rgw_model.specs.Replies.{reply_text};
 ghost use Rattle.rgw_model.specs.declared.reply.HttpReply.TheVariants.{Answered, BadRequest as Broken};
 ghost use Rattle.rgw_model.specs.declared.reply.MapReply.TheVariants.{Refused, Stored};
-ghost use Rattle.rgw_model.specs.Answers.{shown_whole};
-ghost use Rattle.gateway.specs.Answering.{AppendsFront, WritesAtFault};
+ghost use Rattle.rgw_model.specs.Answers.{shown_whole, default_kind, content_of};
+ghost use Rattle.rgw_model.specs.Buckets.{slot_at};
+ghost use Rattle.rgw_model.specs.Connections.{first_zone};
+ghost use Rattle.rgw_model.specs.Stamps.{counted_moment, next_stamp};
+ghost use Rattle.gateway.specs.Answering.{AppendsFront, WritesAtFault, IsStored};
 
-use crate::ServeFault;
+use crate::{PlainStore, ServeFault};
 use crate::reply::{push_bad_request, push_refusal, push_shown_head, push_stored};
 use gw_io::{Sink, write_all};
-use rgw_model::{BadRequest, Content, Refusal, Stamp};
+use md5::{Digest, Md5};
+use rgw_model::{
+    BadRequest, Bytes, Content, Pairs, Refusal, Slot, Stamp, Text, counted_moment,
+};
+use std::alloc::{AllocError, Global};
+
+/// The number of the one zone.
+const ZONE: u8 = 1;
+
+/// The media type of an object that was put without one.
+const DEFAULT_KIND: &str = "application/octet-stream";
 
 /// An object of at most so many bytes is written together with the head of its reply.
 const SMALL: usize = 65_536;
@@ -120,4 +133,59 @@ fn send_both<K: Sink>(sink: &mut K, first: &[u8], second: &[u8]) -> Result<(), S
 {
     send(sink, first)?;
     send(sink, second)
+}
+
+/// What a change of a name is stamped with at a moment.
+fn stamp_for(store: &PlainStore, name: &Text, moment: u64) -> Stamp
+    ensures { result ≡ next_stamp (slot_at store.now.bucket name.now) (counted_moment moment) first_zone }
+{
+    let before = match store.slot(name) {
+        Some(slot) => slot.stamp(),
+        None => None,
+    };
+    Stamp::above(before, counted_moment(moment), ZONE)
+}
+
+/// The media type that counts where this one was sent.
+fn kind_or_default(alloc: Global, kind: Option<Text>) -> Result<Text, AllocError>
+    ensures { IfOk result (λ text. text ≡ unwrap_or kind default_kind) }
+{
+    match kind {
+        Some(kind) => Ok(kind),
+        None => Text::from_str(alloc, DEFAULT_KIND),
+    }
+}
+
+/// What a PUT stores.
+fn content_for(alloc: Global, kind: Option<Text>, body: Bytes) -> Result<Content, AllocError>
+    ensures { IfOk result (λ content. content ≡ content_of kind body) }
+{
+    let kind = kind_or_default(alloc, kind)?;
+    let etag = Md5::digest(body.as_slice());
+    Ok(Content {
+        bytes: body,
+        kind,
+        meta: Pairs::new(alloc),
+        etag,
+    })
+}
+
+/// Stores an object under a name at a moment, and answers its digest and stamp. After an error
+/// nothing has changed.
+fn store_object(
+    alloc: Global,
+    store: &mut PlainStore,
+    name: Text,
+    kind: Option<Text>,
+    body: Bytes,
+    moment: u64,
+) -> Result<([u8; 16], Stamp), AllocError>
+    ensures stored { IfOk result (λ done. IsStored store.old name kind body moment store.new done.0 done.1) }
+    ensures err { OnErr result (store.new ≡ store.old) }
+{
+    let stamp = stamp_for(store, &name, moment);
+    let content = content_for(alloc, kind, body)?;
+    let etag = content.etag;
+    store.set(name, Slot::Live(content, stamp))?;
+    Ok((etag, stamp))
 }
