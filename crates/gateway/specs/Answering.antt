@@ -5,8 +5,10 @@ use Rattle.gw_io.specs.Outside.{Rose}
 use Rattle.md5.specs.Md5.{md5}
 use Rattle.rgw_model.specs.declared.stamp.Stamp.{Stamp}
 use Rattle.rgw_model.specs.declared.slot.Slot.TheVariants.{Live}
+use Rattle.rgw_model.specs.declared.slot.Slot.{Slot}
+use Rattle.rgw_model.specs.declared.reply.HttpReply.TheVariants.{Answered}
 use Rattle.rgw_model.specs.Stamps.{counted_moment, next_stamp}
-use Rattle.rgw_model.specs.Answers.{content_of}
+use Rattle.rgw_model.specs.Answers.{content_of, shown_answer}
 use Rattle.rgw_model.specs.Buckets.{slot_at, with_slot}
 use Rattle.rgw_model.specs.Connections.{Served, next_moment, first_zone}
 use Rattle.rgw_model.specs.Replies.{reply_text}
@@ -37,6 +39,10 @@ text_for asked store moment close = let now = served_for asked store.bucket mome
 abbrev pub store_after : Asked → StoreState → ℕ → StoreState
 store_after asked store moment = record { container = store.container; bucket = (served_for asked store.bucket moment).bucket }
 
+-- the text of what a GET of a slot is replied
+abbrev pub slot_text : Slot → Bool → List ℕ
+slot_text slot close = let now = shown_answer slot in reply_text (Answered now.reply) now.shown close
+
 -- the whole answer was written
 pub record Answers (asked : Asked) (close : Bool) (store after : StoreState) (taken taken' told told' : Option (List ℕ)) : Type 0 where
   pub moments : List ℕ
@@ -57,5 +63,7 @@ pub record AnswersInPart (asked : Asked) (close : Bool) (store after : StoreStat
 pub record IsStored (store : StoreState) (name : List ℕ) (kind : Option (List ℕ)) (body : List ℕ) (moment : ℕ) (after : StoreState) (etag : List ℕ) (stamp : Stamp) : Type 0 where
   pub digest : etag ≡ md5 body
   pub stamped : stamp ≡ next_stamp (slot_at store.bucket name) (counted_moment moment) first_zone
-  pub put_there : after ≡ record { container = store.container;
-    bucket = with_slot store.bucket name (Live (content_of kind body) stamp) }
+  pub put_there : after ≡ record {
+    container = store.container;
+    bucket = with_slot store.bucket name (Live (content_of kind body) stamp);
+  }

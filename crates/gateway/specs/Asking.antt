@@ -16,21 +16,21 @@ use Rattle.gateway.specs.declared.asked.Asked.TheVariants.{BadHost, Refused, Put
 abbrev pub verdict_in : Asked → Verdict
 verdict_in BadHost = refused (Reply.BadRequest Host)
 verdict_in (Refused refusal) = refused (Reply.Answered (Map.Refused refusal))
-verdict_in (Put name kind body) = reaches name
+verdict_in (Put upload) = reaches upload.name
 verdict_in (Get name) = reaches name
 
 -- and the command; a refusal has none that counts
 abbrev pub command_in : Asked → Command
 command_in BadHost = get
 command_in (Refused refusal) = get
-command_in (Put name kind body) = put kind body
+command_in (Put upload) = put upload.kind upload.body
 command_in (Get name) = get
 
 -- this is what a request with the head asks, but for its body
 abbrev pub IsJudged : List ℕ → Head → Asked → Type 0
 IsJudged container head BadHost = judged container head ≡ verdict_in BadHost
 IsJudged container head (Refused refusal) = judged container head ≡ verdict_in (Refused refusal)
-IsJudged container head (Put name kind body) = (judged container head ≡ reaches name) × (is_put head ≡ true) × (kind ≡ kind_of head)
+IsJudged container head (Put upload) = (judged container head ≡ reaches upload.name) × (is_put head ≡ true) × (upload.kind ≡ kind_of head)
 IsJudged container head (Get name) = (judged container head ≡ reaches name) × (is_put head ≡ false)
 
 -- this is what the request asks

@@ -1,5 +1,5 @@
 // The answer to a request: its reply is written, and the store is as the request leaves it.
-ghost use Rattle.std.specs.Prelude.{◌≡◌, ◌++◌, [], IfOk, OnOk, OnErr, unwrap_or};
+ghost use Rattle.std.specs.Prelude.{◌≡◌, ◌++◌, [], IfOk, OnOk, OnErr, unwrap_or, option_copied};
 ghost use Rattle.std.specs.Io.KnownBytes.{Appends};
 ghost use Rattle.rgw_model.specs.Replies.{reply_text};
 ghost use Rattle.rgw_model.specs.declared.reply.HttpReply.TheVariants.{Answered, BadRequest as Broken};
@@ -8,15 +8,15 @@ ghost use Rattle.rgw_model.specs.Answers.{shown_whole, default_kind, content_of}
 ghost use Rattle.rgw_model.specs.Buckets.{slot_at};
 ghost use Rattle.rgw_model.specs.Connections.{first_zone};
 ghost use Rattle.rgw_model.specs.Stamps.{counted_moment, next_stamp};
-ghost use Rattle.gateway.specs.Answering.{AppendsFront, WritesAtFault, IsStored};
+ghost use Rattle.gateway.specs.declared.asked.Asked.TheVariants.{Put, Get};
+ghost use Rattle.gateway.specs.Answering.{AppendsFront, WritesAtFault, IsStored, Answers, AnswersInPart, slot_text};
 
-use crate::{PlainStore, ServeFault};
+use crate::asked::{Asked, Upload};
 use crate::reply::{push_bad_request, push_refusal, push_shown_head, push_stored};
-use gw_io::{Sink, write_all};
+use crate::{PlainStore, ServeFault};
+use gw_io::{Clock, Sink, write_all};
 use md5::{Digest, Md5};
-use rgw_model::{
-    BadRequest, Bytes, Content, Pairs, Refusal, Slot, Stamp, Text, counted_moment,
-};
+use rgw_model::{BadRequest, Bytes, Content, Pairs, Refusal, Slot, Stamp, Text, counted_moment};
 use std::alloc::{AllocError, Global};
 
 /// The number of the one zone.
@@ -188,4 +188,97 @@ fn store_object(
     let etag = content.etag;
     store.set(name, Slot::Live(content, stamp))?;
     Ok((etag, stamp))
+}
+
+/// Answers a PUT.
+fn answer_put<K: Sink, C: Clock>(
+    alloc: Global,
+    store: &mut PlainStore,
+    sink: &mut K,
+    clock: &mut C,
+    out: &mut Vec<u8>,
+    upload: Upload,
+    close: bool,
+) -> Result<(), ServeFault>
+    ensures ok { OnOk result (Answers (Put upload) close store.old store.new
+        (K.taken sink.old) (K.taken sink.new) (C.told clock.old) (C.told clock.new)) }
+    ensures err { OnErr result (AnswersInPart (Put upload) close store.old store.new
+        (K.taken sink.old) (K.taken sink.new) (C.told clock.old) (C.told clock.new)) }
+    ensures cause { WritesAtFault (K.faults sink.old) (K.faults sink.new) result }
+    ensures plan { C.plan clock.new ≡ C.plan clock.old }
+{
+    let Upload { name, kind, body } = upload;
+    let moment = clock.now();
+    match store_object(alloc, store, name, kind, body, moment) {
+        Ok(done) => {
+            let etag = done.0;
+            send_stored(sink, out, &etag, done.1, close)
+        }
+        Err(_) => Err(ServeFault::OutOfMemory),
+    }
+}
+
+/// Answers a GET. The clock is asked, as for each request that reaches the container.
+fn answer_get<K: Sink, C: Clock>(
+    store: &PlainStore,
+    sink: &mut K,
+    clock: &mut C,
+    out: &mut Vec<u8>,
+    name: &Text,
+    close: bool,
+) -> Result<(), ServeFault>
+    ensures ok { OnOk result (Answers (Get name.now) close store.now store.now
+        (K.taken sink.old) (K.taken sink.new) (C.told clock.old) (C.told clock.new)) }
+    ensures err { OnErr result (AnswersInPart (Get name.now) close store.now store.now
+        (K.taken sink.old) (K.taken sink.new) (C.told clock.old) (C.told clock.new)) }
+    ensures cause { WritesAtFault (K.faults sink.old) (K.faults sink.new) result }
+    ensures plan { C.plan clock.new ≡ C.plan clock.old }
+{
+    let _moment = clock.now();
+    send_slot(sink, out, store.slot(name), close)
+}
+
+/// Writes what a GET of a slot is replied. No slot is nothing.
+fn send_slot<K: Sink>(
+    sink: &mut K,
+    out: &mut Vec<u8>,
+    slot: Option<&Slot>,
+    close: bool,
+) -> Result<(), ServeFault>
+    ensures ok { OnOk result (Appends (K.taken sink.old) (K.taken sink.new) (slot_text (unwrap_or (option_copied slot.entry) Slot.Nothing) close)) }
+    ensures err { OnErr result (AppendsFront (K.taken sink.old) (K.taken sink.new) (slot_text (unwrap_or (option_copied slot.entry) Slot.Nothing) close)) }
+    ensures cause { WritesAtFault (K.faults sink.old) (K.faults sink.new) result }
+{
+    match slot {
+        Some(Slot::Live(content, stamp)) => send_shown(sink, out, content, *stamp, close),
+        Some(Slot::Nothing) | Some(Slot::Mark(_)) | None => {
+            send_refusal(sink, out, Refusal::NoObject, close)
+        }
+    }
+}
+
+/// Answers what a request asks, and leaves the store as the answer does. The clock is asked once
+/// where it reaches the container. The buffer is used for texts.
+pub(crate) fn answer<K: Sink, C: Clock>(
+    alloc: Global,
+    store: &mut PlainStore,
+    sink: &mut K,
+    clock: &mut C,
+    out: &mut Vec<u8>,
+    asked: Asked,
+    close: bool,
+) -> Result<(), ServeFault>
+    ensures ok { OnOk result (Answers asked close store.old store.new
+        (K.taken sink.old) (K.taken sink.new) (C.told clock.old) (C.told clock.new)) }
+    ensures err { OnErr result (AnswersInPart asked close store.old store.new
+        (K.taken sink.old) (K.taken sink.new) (C.told clock.old) (C.told clock.new)) }
+    ensures cause { WritesAtFault (K.faults sink.old) (K.faults sink.new) result }
+    ensures plan { C.plan clock.new ≡ C.plan clock.old }
+{
+    match asked {
+        Asked::BadHost => send_bad_request(sink, out, BadRequest::Host, close),
+        Asked::Refused(refusal) => send_refusal(sink, out, refusal, close),
+        Asked::Put(upload) => answer_put(alloc, store, sink, clock, out, upload, close),
+        Asked::Get(name) => answer_get(store, sink, clock, out, &name, close),
+    }
 }

@@ -12,18 +12,21 @@ use std::alloc::{AllocError, Global};
 /// The token of the one user.
 const USER_TOKEN: &[u8] = b"AUTH_tk1";
 
+/// A body to be stored under a name, with the media type that was sent.
+#[derive(Debug, Drop)]
+pub(crate) struct Upload {
+    pub(crate) name: Text,
+    pub(crate) kind: Option<Text>,
+    pub(crate) body: Bytes,
+}
+
 /// What a request asks of the container, or why it is refused before any name is looked at.
 #[derive(Debug, Drop)]
 pub(crate) enum Asked {
     /// An HTTP/1.1 head has not just one Host field.
     BadHost,
     Refused(Refusal),
-    /// To store a body under a name, with the media type that was sent.
-    Put {
-        name: Text,
-        kind: Option<Text>,
-        body: Bytes,
-    },
+    Put(Upload),
     /// To show what stands under a name.
     Get(Text),
 }
@@ -73,7 +76,7 @@ pub(crate) fn judge(alloc: Global, container: &Text, head: &Head) -> Result<Aske
     if head.is_put() {
         let kind = kind_of(alloc, head)?;
         let body = Bytes::new(alloc);
-        return Ok(Asked::Put { name, kind, body });
+        return Ok(Asked::Put(Upload { name, kind, body }));
     }
     Ok(Asked::Get(name))
 }
