@@ -3,3 +3,4 @@ pub mod Buckets
 pub mod Fronts
 pub mod Stopping
 pub mod Texts
+pub mod TurnLaws

@@ -2,3 +2,4 @@ pub mod Store
 pub mod Asking
 pub mod Answering
 pub mod Serving
+pub mod Turns

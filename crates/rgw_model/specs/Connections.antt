@@ -1,6 +1,6 @@
 -- What a connection to one container is replied: the object answers and the refusals to its requests, folded over the
 -- bucket map (OpenStack Object Storage API v1).
-use Rattle.std.specs.Prelude.{ℕ, ◌+◌, suc, Bool, true, false, not, ◌&&◌, List, [], ◌∷◌, ◌++◌, length, drop, count_by, Option, Some, None, unwrap_or, if◌then◌else◌, bytes_eq, codes}
+use Rattle.std.specs.Prelude.{ℕ, ◌+◌, suc, Bool, true, false, not, ◌&&◌, List, [], ◌∷◌, ◌++◌, length, drop, filter, Option, Some, None, unwrap_or, if◌then◌else◌, bytes_eq, codes}
 use Rattle.rgw_model.specs.declared.slot.Slot.{Slot}
 use Rattle.rgw_model.specs.declared.head.Head.{Head}
 use Rattle.rgw_model.specs.declared.head.Request.{Request}
@@ -124,7 +124,7 @@ bucket_from container bucket moments (request ∷ requests) =
 
 -- how many moments are told for them
 abbrev pub moments_told : List ℕ → List Request → ℕ
-moments_told container requests = count_by (λ request. is_reaching (judged container request.head)) requests
+moments_told container requests = length (filter (λ request. is_reaching (judged container request.head)) requests)
 
 -- all that is written for a connection
 abbrev pub connection_text : List ℕ → BucketMap → List ℕ → List Request → StreamEnd → List ℕ

@@ -1,0 +1,174 @@
+-- Turns of a connection, joined.
+use Rattle.std.proofs.Common.{◌≡◌, ◌≢◌, ◌⊎◌, inl, inr, ℕ, zero, suc, ◌+◌, ◌<◌, Bool, true, false, cond, List, [], ◌∷◌, ◌++◌, length, take, drop, filter, Option, refl, sym, ap, ◌∙◌, subst, subst₂, append_assoc, append-nil, length-append, arith}
+use Rattle.std.specs.Prelude.{MatchBool, if◌then◌else◌}
+use Rattle.std.proofs.KnownBytes.{Consumes-trans, Appends-nil, Appends-trans}
+use Rattle.std.specs.Io.KnownBytes.{Consumes, Appends}
+use Rattle.rgw_model.specs.declared.head.Request.{Request}
+use Rattle.rgw_model.specs.declared.reply.StreamEnd.{StreamEnd}
+use Rattle.rgw_model.specs.declared.reply.StreamEnd.TheVariants as Stream
+use Rattle.rgw_model.specs.Forms.{closes}
+use Rattle.rgw_model.specs.Streams.{TakesRequest, IsEnd, IsStreamFrom}
+use Rattle.rgw_model.specs.Replies.{reply_text, end_text}
+use Rattle.rgw_model.specs.Answers.{Command}
+use Rattle.rgw_model.specs.Buckets.{BucketMap}
+use Rattle.rgw_model.specs.Connections.{Verdict, refused, reaches, judged, is_reaching, Served, served, served_verdict, command_of, next_moment, moments_after, replies_from, bucket_from, moments_told, reply_count, end_replies}
+use Rattle.rgw_model.proofs.StreamLaws.{more_request, stream_after, stream_of_end, more_broken, IsFinal}
+use Rattle.gateway.specs.declared.serve.ConnEnd.{ConnEnd}
+use Rattle.gateway.specs.declared.asked.Asked.{Asked}
+use Rattle.gateway.specs.Store.{StoreState}
+use Rattle.gateway.specs.Asking.{verdict_in, command_in, IsAsked, served_for, told_for}
+use Rattle.gateway.specs.Answering.{AppendsFront, Answers, AnswersInPart, text_for, store_after}
+use Rattle.gateway.specs.Serving.{Outside, ReadsOut, connection_end}
+use Rattle.gateway.specs.Turns.{ServesFrom, StopsFrom, GoesOn}
+
+-- ---- one request among the moments
+
+-- what a verdict takes of the moments does not depend on those behind
+one_moment : (v : Verdict) (moments more : List ℕ) → length moments ≡ (if is_reaching v then 1 else 0) → moments_after (is_reaching v) (moments ++ more) ≡ more
+one_moment (refused reply) [] more e = refl
+one_moment (refused reply) (m ∷ ms) more e = absurd (omega arith)
+one_moment (reaches name) [] more e = absurd (omega arith)
+one_moment (reaches name) (m ∷ []) more e = refl
+one_moment (reaches name) (m ∷ n ∷ ms) more e = absurd (omega arith)
+
+first_moment : (v : Verdict) (bucket : BucketMap) (command : Command) (moments more : List ℕ) → length moments ≡ (if is_reaching v then 1 else 0)
+    → served_verdict v bucket command (next_moment (moments ++ more)) ≡ served_verdict v bucket command (next_moment moments)
+first_moment (refused reply) bucket command moments more e = refl
+first_moment (reaches name) bucket command [] more e = absurd (omega arith)
+first_moment (reaches name) bucket command (m ∷ ms) more e = refl
+
+module _ (container : List ℕ) (bucket : BucketMap) (request : Request) (moments more : List ℕ)
+    (each : length moments ≡ (if is_reaching (judged container request.head) then 1 else 0)) where
+  served_now : served container bucket request (next_moment (moments ++ more)) ≡ served container bucket request (next_moment moments)
+  unfolding served
+  served_now = first_moment (judged container request.head) bucket (command_of request) moments more each
+
+  pub replies_step : (k : ℕ) (requests : List Request)
+      → replies_from k container bucket (moments ++ more) (request ∷ requests)
+      ≡ (let now = served container bucket request (next_moment moments) in reply_text now.reply now.shown (closes k request.head))
+      ++ replies_from (suc k) container ((served container bucket request (next_moment moments)).bucket) more requests
+  unfolding replies_from
+  replies_step k requests =
+      λ i. reply_text ((served_now i).reply) ((served_now i).shown) (closes k request.head)
+      ++ replies_from (suc k) container ((served_now i).bucket) (one_moment (judged container request.head) moments more each i) requests
+
+  pub bucket_step : (requests : List Request)
+      → bucket_from container bucket (moments ++ more) (request ∷ requests)
+      ≡ bucket_from container ((served container bucket request (next_moment moments)).bucket) more requests
+  unfolding bucket_from
+  bucket_step requests = λ i. bucket_from container ((served_now i).bucket) (one_moment (judged container request.head) moments more each i) requests
+
+one_kept : (b : Bool) (request : Request) (others : List Request) → length (cond b (request ∷ others) others) ≡ (if b then 1 else 0) + length others
+one_kept true request others = omega arith
+one_kept false request others = omega arith
+
+told_step : (container : List ℕ) (request : Request) (requests : List Request)
+    → moments_told container (request ∷ requests) ≡ (if is_reaching (judged container request.head) then 1 else 0) + moments_told container requests
+told_step container request requests =
+    one_kept (is_reaching (judged container request.head)) request (filter (λ r. is_reaching (judged container r.head)) requests)
+
+-- ---- a turn and what follows it
+
+module _ (k : ℕ) (store mid after : StoreState) (buffer left : List ℕ) (old now new : Outside) where
+  goes_stream : (g : GoesOn k store mid buffer left old now) (more : List ℕ) (requests : List Request) (e : StreamEnd)
+      → IsStreamFrom (suc k) (left ++ more) requests e → IsStreamFrom k (buffer ++ (g.read ++ more)) (g.request ∷ requests) e
+  goes_stream g more requests e x = (
+    left ++ more,
+    subst (λ l. TakesRequest l g.request (left ++ more)) (append_assoc buffer g.read more) (more_request (buffer ++ g.read) g.request left more g.takes),
+    subst (λ b. MatchBool b ((requests ≡ []) × (e ≡ Stream.Closed)) (IsStreamFrom (suc k) (left ++ more) requests e)) (sym g.stays_open) x,
+  )
+
+  goes_text : (g : GoesOn k store mid buffer left old now) (moments : List ℕ) (requests : List Request) (tail : List ℕ)
+      → (let n = served store.container store.bucket g.request (next_moment g.moments) in reply_text n.reply n.shown false)
+      ++ (replies_from (suc k) mid.container mid.bucket moments requests ++ tail)
+      ≡ replies_from k store.container store.bucket (g.moments ++ moments) (g.request ∷ requests) ++ tail
+  goes_text g moments requests tail =
+      let n = served store.container store.bucket g.request (next_moment g.moments) in
+      sym (append_assoc (reply_text n.reply n.shown false) (replies_from (suc k) mid.container mid.bucket moments requests) tail)
+      ∙ ap (λ (b : Bool). (reply_text n.reply n.shown b ++ replies_from (suc k) mid.container mid.bucket moments requests) ++ tail) (sym g.stays_open)
+      ∙ ap (λ (t : StoreState). (reply_text n.reply n.shown (closes k g.request.head) ++ replies_from (suc k) t.container t.bucket moments requests) ++ tail) g.stored
+      ∙ ap (λ l. l ++ tail) (sym (replies_step store.container store.bucket g.request g.moments moments g.each k requests))
+
+  goes_bucket : (g : GoesOn k store mid buffer left old now) (moments : List ℕ) (requests : List Request)
+      → bucket_from mid.container mid.bucket moments requests ≡ bucket_from store.container store.bucket (g.moments ++ moments) (g.request ∷ requests)
+  goes_bucket g moments requests =
+      ap (λ (t : StoreState). bucket_from t.container t.bucket moments requests) g.stored
+      ∙ sym (bucket_step store.container store.bucket g.request g.moments moments g.each requests)
+
+  goes_container : GoesOn k store mid buffer left old now → mid.container ≡ store.container
+  goes_container g = ap (λ (t : StoreState). t.container) g.stored
+
+  goes_store : (g : GoesOn k store mid buffer left old now) (moments : List ℕ) (requests : List Request)
+      → after ≡ record { container = mid.container; bucket = bucket_from mid.container mid.bucket moments requests }
+      → after ≡ record { container = store.container; bucket = bucket_from store.container store.bucket (g.moments ++ moments) (g.request ∷ requests) }
+  goes_store g moments requests x =
+      x ∙ (λ i. record { container = goes_container g i; bucket = goes_bucket g moments requests i })
+
+  pub goes_serves : (replies : ℕ) (ended_so : ConnEnd) → GoesOn k store mid buffer left old now → ServesFrom (suc k) mid after left now new replies ended_so
+      → ServesFrom k store after buffer old new (suc replies) ended_so
+  goes_serves replies ended_so g s = record {
+    read = g.read ++ s.read;
+    consumed = Consumes-trans old.left now.left new.left g.read s.read g.consumed s.consumed;
+    moments = g.moments ++ s.moments;
+    asked = Appends-trans old.told now.told new.told g.moments s.moments g.asked s.asked;
+    requests = g.request ∷ s.requests;
+    stream_end = s.stream_end;
+    stream = goes_stream g s.read s.requests s.stream_end s.stream;
+    read_out = s.read_out;
+    each_asked_once =
+        length-append g.moments s.moments ∙ (λ i. g.each i + s.each_asked_once i)
+        ∙ ap (λ c. (if is_reaching (judged store.container g.request.head) then 1 else 0) + moments_told c s.requests) (goes_container g)
+        ∙ sym (told_step store.container g.request s.requests);
+    written =
+        subst (Appends old.taken new.taken) (goes_text g s.moments s.requests (end_text s.stream_end))
+        (Appends-trans old.taken now.taken new.taken _ _ g.written s.written);
+    stored = goes_store g s.moments s.requests s.stored;
+    counted = omega (arith, s.counted);
+    ended = s.ended;
+  }
+
+  -- a stream of all the bytes goes on behind the request
+  goes_back : (g : GoesOn k store mid buffer left old now) (more later : List ℕ) (requests : List Request) (e : StreamEnd)
+      → IsStreamFrom k ((buffer ++ (g.read ++ more)) ++ later) requests e
+      → (others : List Request) × (requests ≡ g.request ∷ others) × IsStreamFrom (suc k) ((left ++ more) ++ later) others e
+  goes_back g more later requests e x =
+      let bytes : (buffer ++ (g.read ++ more)) ++ later ≡ ((buffer ++ g.read) ++ more) ++ later = ap (λ l. l ++ later) (sym (append_assoc buffer g.read more)) in
+      let takes = more_request ((buffer ++ g.read) ++ more) g.request (left ++ more) later (more_request (buffer ++ g.read) g.request left more g.takes) in
+      let back = stream_after k (((buffer ++ g.read) ++ more) ++ later) g.request ((left ++ more) ++ later) requests e takes (subst (λ l. IsStreamFrom k l requests e) bytes x) in
+      (
+        back.0,
+        back.1,
+        subst (λ b. MatchBool b ((back.0 ≡ []) × (e ≡ Stream.Closed)) (IsStreamFrom (suc k) ((left ++ more) ++ later) back.0 e)) g.stays_open back.2,
+      )
+
+  pub goes_stops : GoesOn k store mid buffer left old now → StopsFrom (suc k) mid after left now new → StopsFrom k store after buffer old new
+  goes_stops g s = record {
+    read = g.read ++ s.read;
+    consumed = Consumes-trans old.left now.left new.left g.read s.read g.consumed s.consumed;
+    moments = g.moments ++ s.moments;
+    asked = Appends-trans old.told now.told new.told g.moments s.moments g.asked s.asked;
+    text = (let n = served store.container store.bucket g.request (next_moment g.moments) in reply_text n.reply n.shown false) ++ s.text;
+    written = Appends-trans old.taken now.taken new.taken _ s.text g.written s.written;
+    front = λ later more requests e x.
+        let back = goes_back g s.read later requests e x in
+        let further = s.front later more back.0 e back.2 in
+        let n = served store.container store.bucket g.request (next_moment g.moments) in
+        let first = reply_text n.reply n.shown false in
+        (
+          further.0,
+          ap (λ rs. replies_from k store.container store.bucket ((g.moments ++ s.moments) ++ more) rs ++ end_text e) back.1
+          ∙ ap (λ ms. replies_from k store.container store.bucket ms (g.request ∷ back.0) ++ end_text e) (append_assoc g.moments s.moments more)
+          ∙ sym (goes_text g (s.moments ++ more) back.0 (end_text e))
+          ∙ ap (λ l. first ++ l) further.1
+          ∙ sym (append_assoc first s.text further.0),
+        );
+    stored = λ later more requests e x.
+        let back = goes_back g s.read later requests e x in
+        let further = s.stored later more back.0 e back.2 in
+        (
+          suc further.0,
+          goes_store g (s.moments ++ more) (take further.0 back.0) further.1
+          ∙ (λ i. record { container = store.container;
+            bucket = bucket_from store.container store.bucket (sym (append_assoc g.moments s.moments more) i) (take (suc further.0) (sym back.1 i)) }),
+        );
+  }
