@@ -172,3 +172,56 @@ module _ (k : ℕ) (store mid after : StoreState) (buffer left : List ℕ) (old 
             bucket = bucket_from store.container store.bucket (sym (append_assoc g.moments s.moments more) i) (take (suc further.0) (sym back.1 i)) }),
         );
   }
+
+-- ---- what was asked, answered
+
+same_command : (v : Verdict) (bucket : BucketMap) (c d : Command) (moment : ℕ) → (is_reaching v ≡ true → c ≡ d) → served_verdict v bucket c moment ≡ served_verdict v bucket d moment
+same_command (refused reply) bucket c d moment e = refl
+same_command (reaches name) bucket c d moment e = ap (λ x. served_verdict (reaches name) bucket x moment) (e refl)
+
+module _ (container : List ℕ) (request : Request) (asked : Asked) (x : IsAsked container request asked) where
+  pub served_as_asked : (bucket : BucketMap) (moment : ℕ) → served container bucket request moment ≡ served_for asked bucket moment
+  unfolding served
+  served_as_asked bucket moment =
+      ap (λ v. served_verdict v bucket (command_of request) moment) x.verdict
+      ∙ same_command (verdict_in asked) bucket (command_of request) (command_in asked) moment x.command
+
+  told_as_asked : (moments : List ℕ) → length moments ≡ told_for asked → length moments ≡ (if is_reaching (judged container request.head) then 1 else 0)
+  told_as_asked moments e = e ∙ ap (λ v. if is_reaching v then 1 else 0) (sym x.verdict)
+
+-- ---- turns
+
+-- nothing was written or stored, whatever was read and told
+pub stops_quietly : (k : ℕ) (store : StoreState) (buffer read : List ℕ) (old new : Outside) → Consumes old.left new.left read → Appends old.taken new.taken [] → Appends old.told new.told []
+    → StopsFrom k store store buffer old new
+unfolding bucket_from
+stops_quietly k store buffer read old new consumed written asked = record {
+  read = read;
+  consumed = consumed;
+  moments = [];
+  asked = asked;
+  text = [];
+  written = written;
+  front = λ later more requests e stream. (_, refl);
+  stored = λ later more requests e stream. (0, refl);
+}
+
+module _ (k : ℕ) (store after : StoreState) (buffer read left : List ℕ) (old new : Outside) (consumed : Consumes old.left new.left read)
+    (request : Request) (asked : Asked) (is_asked : IsAsked store.container request asked) (takes : TakesRequest (buffer ++ read) request left) where
+  pub answered_open : Answers asked false store after old.taken new.taken old.told new.told → closes k request.head ≡ false → GoesOn k store after buffer left old new
+  answered_open a stays = record {
+    read = read;
+    consumed = consumed;
+    request = request;
+    takes = takes;
+    stays_open = stays;
+    moments = a.moments;
+    asked = a.asked_clock;
+    each = told_as_asked store.container request asked is_asked a.moments a.each;
+    written =
+        subst (Appends old.taken new.taken)
+        (ap (λ (s : Served). reply_text s.reply s.shown false) (sym (served_as_asked store.container request asked is_asked store.bucket (next_moment a.moments)))) a.written;
+    stored =
+        a.stored ∙ ap (λ (s : Served). let t : StoreState = record { container = store.container; bucket = s.bucket } in t)
+        (sym (served_as_asked store.container request asked is_asked store.bucket (next_moment a.moments)));
+  }
