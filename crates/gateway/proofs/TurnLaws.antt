@@ -225,3 +225,141 @@ module _ (k : ℕ) (store after : StoreState) (buffer read left : List ℕ) (old
         a.stored ∙ ap (λ (s : Served). let t : StoreState = record { container = store.container; bucket = s.bucket } in t)
         (sym (served_as_asked store.container request asked is_asked store.bucket (next_moment a.moments)));
   }
+
+  -- the text of the answer, as that of the request among others
+  answer_text : (moments more : List ℕ) (requests : List Request) → length moments ≡ told_for asked
+      → replies_from k store.container store.bucket (moments ++ more) (request ∷ requests)
+      ≡ text_for asked store (next_moment moments) (closes k request.head)
+      ++ replies_from (suc k) store.container ((served store.container store.bucket request (next_moment moments)).bucket) more requests
+  answer_text moments more requests each =
+      replies_step store.container store.bucket request moments more (told_as_asked store.container request asked is_asked moments each) k requests
+      ∙ ap (λ (s : Served). reply_text s.reply s.shown (closes k request.head)
+      ++ replies_from (suc k) store.container ((served store.container store.bucket request (next_moment moments)).bucket) more requests)
+      (served_as_asked store.container request asked is_asked store.bucket (next_moment moments))
+
+  answer_bucket : (moments more : List ℕ) → length moments ≡ told_for asked
+      → bucket_from store.container store.bucket (moments ++ more) (request ∷ []) ≡ (served_for asked store.bucket (next_moment moments)).bucket
+  unfolding bucket_from
+  answer_bucket moments more each =
+      bucket_step store.container store.bucket request moments more (told_as_asked store.container request asked is_asked moments each) []
+      ∙ ap (λ (s : Served). s.bucket) (served_as_asked store.container request asked is_asked store.bucket (next_moment moments))
+
+  answer_store : (moments more : List ℕ) → length moments ≡ told_for asked → after ≡ store_after asked store (next_moment moments)
+      → after ≡ record { container = store.container; bucket = bucket_from store.container store.bucket (moments ++ more) (request ∷ []) }
+  answer_store moments more each x = x ∙ (λ i. record { container = store.container; bucket = sym (answer_bucket moments more each) i })
+
+  pub answered_closed : Answers asked true store after old.taken new.taken old.told new.told → closes k request.head ≡ true
+      → ServesFrom k store after buffer old new 1 (connection_end Stream.Closed)
+  unfolding replies_from
+  answered_closed a closed = record {
+    read = read;
+    consumed = consumed;
+    moments = a.moments;
+    asked = a.asked_clock;
+    requests = request ∷ [];
+    stream_end = Stream.Closed;
+    stream = (left, takes, subst (λ b. MatchBool b ((◌≡◌ {A = List Request} [] []) × (Stream.Closed ≡ Stream.Closed)) (IsStreamFrom (suc k) left [] Stream.Closed)) (sym closed) (refl, refl));
+    read_out = tt;
+    each_asked_once = told_as_asked store.container request asked is_asked a.moments a.each ∙ omega arith ∙ sym (told_step store.container request []);
+    written =
+        subst (Appends old.taken new.taken)
+        (ap (λ b. text_for asked store (next_moment a.moments) b) (sym closed)
+        ∙ sym (append-nil (text_for asked store (next_moment a.moments) (closes k request.head)))
+        ∙ sym (answer_text a.moments [] [] a.each)
+        ∙ ap (λ ms. replies_from k store.container store.bucket ms (request ∷ [])) (append-nil a.moments)
+        ∙ sym (append-nil (replies_from k store.container store.bucket a.moments (request ∷ [])))) a.written;
+    stored =
+        answer_store a.moments [] a.each a.stored
+        ∙ ap (λ ms. let t : StoreState = record { container = store.container; bucket = bucket_from store.container store.bucket ms (request ∷ []) } in t) (append-nil a.moments);
+    counted = refl;
+    ended = refl;
+  }
+
+  kept_or_stored : (moments : List ℕ) → length moments ≡ told_for asked → (after ≡ store) ⊎ (after ≡ store_after asked store (next_moment moments))
+      → (more : List ℕ) (requests others : List Request) → requests ≡ request ∷ others
+      → (n : ℕ) × (after ≡ record { container = store.container; bucket = bucket_from store.container store.bucket (moments ++ more) (take n requests) })
+  unfolding bucket_from
+  kept_or_stored moments each (inl kept) more requests others e = (0, kept)
+  kept_or_stored moments each (inr stored) more requests others e =
+      (1, answer_store moments more each stored
+      ∙ ap (λ (rs : List Request). let t : StoreState = record { container = store.container; bucket = bucket_from store.container store.bucket (moments ++ more) (take 1 rs) } in t) (sym e))
+
+  pub stops_answering : AnswersInPart asked (closes k request.head) store after old.taken new.taken old.told new.told → StopsFrom k store after buffer old new
+  stops_answering a = record {
+    read = read;
+    consumed = consumed;
+    moments = a.moments;
+    asked = a.asked_clock;
+    text = a.written.front;
+    written = a.written.grown;
+    front = λ later more requests e x.
+        let back = stream_after k ((buffer ++ read) ++ later) request (left ++ later) requests e (more_request (buffer ++ read) request left later takes) x in
+        let others = replies_from (suc k) store.container ((served store.container store.bucket request (next_moment a.moments)).bucket) more back.0 in
+        (
+          (a.written.rest ++ others) ++ end_text e,
+          ap (λ rs. replies_from k store.container store.bucket (a.moments ++ more) rs ++ end_text e) back.1
+          ∙ ap (λ l. l ++ end_text e) (answer_text a.moments more back.0 a.each ∙ ap (λ l. l ++ others) a.written.whole)
+          ∙ simp append_assoc,
+        );
+    stored = λ later more requests e x.
+        let back = stream_after k ((buffer ++ read) ++ later) request (left ++ later) requests e (more_request (buffer ++ read) request left later takes) x in
+        kept_or_stored a.moments a.each a.stored more requests back.0 back.1;
+  }
+
+-- ---- the end
+
+nothing_before : (a b : List ℕ) → [] ≡ a ++ b → a ≡ []
+nothing_before [] b e = refl
+nothing_before (x ∷ a) b e = absurd (cc)
+
+-- an end that waits for more bytes has no text
+waits_or_final : (e : StreamEnd) → (end_text e ≡ []) ⊎ IsFinal e
+waits_or_final Stream.Clean = inl refl
+waits_or_final Stream.Closed = inl refl
+waits_or_final Stream.Cut = inl refl
+waits_or_final (Stream.Refused word) = inr tt
+waits_or_final Stream.NotBuilt = inr tt
+
+module _ (k : ℕ) (store : StoreState) (buffer read : List ℕ) (old new : Outside) (e : StreamEnd) (consumed : Consumes old.left new.left read)
+    (ends : IsEnd (buffer ++ read) e) (asked : Appends old.told new.told []) where
+  pub ended_so : ReadsOut e new.left → Appends old.taken new.taken (end_text e) → ServesFrom k store store buffer old new (end_replies e) (connection_end e)
+  unfolding replies_from bucket_from
+  ended_so out written = record {
+    read = read;
+    consumed = consumed;
+    moments = [];
+    asked = asked;
+    requests = [];
+    stream_end = e;
+    stream = ends;
+    read_out = out;
+    each_asked_once = refl;
+    written = written;
+    stored = refl;
+    counted = omega arith;
+    ended = refl;
+  }
+
+  front_of_end : (w : AppendsFront old.taken new.taken (end_text e)) → (end_text e ≡ []) ⊎ IsFinal e → (later more : List ℕ) (requests : List Request) (f : StreamEnd)
+      → IsStreamFrom k ((buffer ++ read) ++ later) requests f
+      → (rest : List ℕ) × (replies_from k store.container store.bucket more requests ++ end_text f ≡ w.front ++ rest)
+  unfolding replies_from
+  front_of_end w (inl none) later more requests f x =
+      let nothing = nothing_before w.front w.rest (sym none ∙ w.whole) in
+      (_, ap (λ l. l ++ (replies_from k store.container store.bucket more requests ++ end_text f)) (sym nothing))
+  front_of_end w (inr final) later more requests f x =
+      let same = stream_of_end k ((buffer ++ read) ++ later) requests e f (more_broken (buffer ++ read) later e final ends) x in
+      (w.rest, ap (λ rs. replies_from k store.container store.bucket more rs ++ end_text f) same.0 ∙ ap end_text same.1 ∙ w.whole)
+
+  pub stops_at_end : AppendsFront old.taken new.taken (end_text e) → StopsFrom k store store buffer old new
+  unfolding bucket_from
+  stops_at_end w = record {
+    read = read;
+    consumed = consumed;
+    moments = [];
+    asked = asked;
+    text = w.front;
+    written = w.grown;
+    front = λ later more requests f x. front_of_end w (waits_or_final e) later more requests f x;
+    stored = λ later more requests f x. (0, refl);
+  }
