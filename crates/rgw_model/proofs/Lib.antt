@@ -1,3 +1,4 @@
 pub mod FieldLemmas
 pub mod TargetLemmas
 pub mod FormLemmas
+pub mod FramingLemmas

@@ -4,6 +4,7 @@
 mod bytes;
 mod field;
 mod form;
+mod framing;
 mod head;
 mod pairs;
 mod reading;
@@ -16,6 +17,7 @@ mod text;
 
 pub use bytes::Bytes;
 pub use field::{Field, Fields};
+pub use framing::framing_of;
 pub use head::{BodyPlan, Framing, Head, Request};
 pub use pairs::Pairs;
 pub use reading::{HeadFault, read_head};
