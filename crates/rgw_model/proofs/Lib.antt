@@ -2,3 +2,4 @@ pub mod FieldLemmas
 pub mod TargetLemmas
 pub mod FormLemmas
 pub mod FramingLemmas
+pub mod ReadingLemmas

@@ -1,7 +1,6 @@
-ghost use Rattle.std.specs.Prelude.{◌≡◌, ◌==◌, ◌&&◌, Option, Some, None, if◌then◌else◌, unwrap_or, codes};
+ghost use Rattle.std.specs.Prelude.{◌≡◌, Some, None, if◌then◌else◌};
 ghost use Rattle.std.specs.Str.Parse.{digits_value};
-ghost use Rattle.http1.specs.Fields.{is_chunked};
-ghost use Rattle.rgw_model.specs.Framings.{is_length, value_of, framing_of};
+ghost use Rattle.rgw_model.specs.Framings.{is_length, framing_of};
 
 use crate::{Fields, Framing};
 use http1::Header;

@@ -15,7 +15,7 @@ returns-in-Value c =
 pub returns-in-Absent : goal.returns-in-Absent
 returns-in-Absent c =
     let none : None ≡ number_in c.from_headers.result.content_length =
-        elim c.in-Absent.is [ inl e ↦ ap number_in (sym e) | inr e ↦ ap number_in (sym e) ] in
+    elim c.in-Absent.is [ inl e ↦ ap number_in (sym e) | inr e ↦ ap number_in (sym e) ] in
     none
     ∙ ap (λ (known : KnownFields). number_in known.content_length) c.from_headers.ensures
     ∙ length_of_one c.args.value.now c.if-value-gt-MAX_DIGITS.false
