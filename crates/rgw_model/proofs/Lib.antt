@@ -3,3 +3,4 @@ pub mod TargetLemmas
 pub mod FormLemmas
 pub mod FramingLemmas
 pub mod ReadingLemmas
+pub mod PlainLemmas

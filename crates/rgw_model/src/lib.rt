@@ -7,6 +7,7 @@ mod form;
 mod framing;
 mod head;
 mod pairs;
+mod plain;
 mod reading;
 mod reply;
 mod slot;
