@@ -21,6 +21,7 @@ pub use field::{Field, Fields};
 pub use framing::framing_of;
 pub use head::{BodyPlan, Framing, Head, Request};
 pub use pairs::Pairs;
+pub use plain::{Stream, read_stream};
 pub use reading::{HeadFault, read_head};
 pub use reply::{BadRequest, HttpReply, MapReply, Refusal, ReplyHead, StreamEnd};
 pub use slot::{Content, Slot};

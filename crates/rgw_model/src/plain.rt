@@ -121,3 +121,29 @@ fn next_step(alloc: Global, bytes: &[u8]) -> Result<Step<'_>, AllocError>
         Err(HeadFault::BadFraming) => Ok(Step::Ended(StreamEnd::Refused(BadRequest::Framing))),
     }
 }
+
+/// Reads a whole input, all of which is at hand: its requests in order, and how they end
+/// (RFC 9112, sections 2.2 and 6). It tries each front of the bytes for the end of a head, so it
+/// is slow, and is there to compare a fast reader with.
+pub fn read_stream(alloc: Global, bytes: &[u8]) -> Result<Stream, AllocError>
+    ensures { IfOk result (λ stream. IsStream bytes.now stream.requests.items stream.end) }
+{
+    let mut requests = Vec::new(alloc);
+    let mut rest = bytes;
+    let mut k = 1;
+    loop {
+        match next_step(alloc, rest)? {
+            Step::Ended(end) => return Ok(Stream { requests, end }),
+            Step::Taken(request, after) => {
+                let closes = request.head.closes(k);
+                requests.push(request)?;
+                if closes {
+                    let end = StreamEnd::Closed;
+                    return Ok(Stream { requests, end });
+                }
+                rest = after;
+                k += 1;
+            }
+        }
+    }
+}

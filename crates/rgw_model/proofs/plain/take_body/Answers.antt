@@ -1,4 +1,4 @@
-use Rattle.std.proofs.Common.{◌∙◌, sym}
+use Rattle.std.proofs.Common.{sym}
 use Rattle.rgw_model.proofs.PlainLemmas.{cut_body}
 use Rattle.rgw_model.proofs.plain.take_body.Goals as goal
 
