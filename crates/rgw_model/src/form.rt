@@ -1,10 +1,10 @@
-ghost use Rattle.std.specs.Prelude.{◌≡◌, ◌&&◌, not, nat_eq, length, map, take, codes};
+ghost use Rattle.std.specs.Prelude.{◌≡◌, ◌&&◌, not, nat_eq, map, codes};
 ghost use Rattle.std.specs.List.{list_all, list_any, starts_with};
 ghost use Rattle.std.specs.Char.{to_ascii_lowercase};
 ghost use Rattle.http1.specs.Text.{eq_ignore_case};
 ghost use Rattle.http1.specs.Fields.{elements, has_option};
 ghost use Rattle.rgw_model.specs.Framings.{values_of};
-ghost use Rattle.rgw_model.specs.Forms.{later_fields, is_later_field, is_kind_byte, is_kind, lists_close, waits};
+ghost use Rattle.rgw_model.specs.Forms.{later_fields, is_later_field, is_kind_byte, is_kind};
 
 use crate::{Field, Fields};
 use http1::Header;

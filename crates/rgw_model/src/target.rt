@@ -1,4 +1,4 @@
-ghost use Rattle.std.specs.Prelude.{◌≡◌, ◌==◌, length, option_map};
+ghost use Rattle.std.specs.Prelude.{◌≡◌, ◌==◌, option_map};
 ghost use Rattle.std.specs.List.{list_all, position_or_len};
 ghost use Rattle.rgw_model.specs.Forms.{is_name_byte, is_plain_name, place_in, place_of};
 
