@@ -1,9 +1,9 @@
 // The adapters over std's readers, writers and clock. They are trusted to be what they are over:
 // no contract says what a terminal, a pipe or the system's clock does.
-ghost use Rattle.std.specs.Prelude.{◌≡◌, ◌-◌, ◌/◌, ◌^◌, ◌<◌, IfOk, MatchResult, [], ◌∷◌, OnErr, is_err, if◌then◌else◌, length, min, take};
+ghost use Rattle.std.specs.Prelude.{◌≡◌, ◌-◌, ◌/◌, ◌^◌, ◌<◌, IfOk, MatchResult, [], ◌∷◌, is_err, if◌then◌else◌, length, min};
 ghost use Rattle.std.specs.Duration.{as_nanos};
 ghost use Rattle.std.specs.Io.{ReadsAtMost, WritesAtMost};
-ghost use Rattle.std.specs.Io.KnownBytes.{Appends, Consumes, IsAtEnd, Keeps, ReadConsumes, WriteAppends};
+ghost use Rattle.std.specs.Io.KnownBytes.{Appends, ReadConsumes, WriteAppends};
 ghost use Rattle.gw_io.specs.Outside.{HasCause, IsAsPlanned, raised};
 ghost use Rattle.gw_io.specs.Adapters.{source_reader, source_faults, sink_writer, sink_faults, last_told, moments_told, no_plan};
 
