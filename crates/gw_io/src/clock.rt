@@ -9,7 +9,7 @@ use crate::trace::Trace;
 use std::marker::Model;
 
 /// Tells moments at equal distances.
-#[derive(Drop)]
+#[derive(Debug, Drop)]
 pub struct StepClock {
     first: u64,
     step: u64,
