@@ -13,13 +13,14 @@ fn next_moments<C: Clock>(clock: &mut C) -> [u64; 2] {
     [clock.now(), clock.now()]
 }
 
+// What may go to another thread.
 fn sent<T: Send>(value: T) -> T {
     value
 }
 
 #[test]
 fn a_slice_source_gives_pieces_and_fails_as_told(rt: HostRuntime) {
-    let mut source = SliceSource::new(b"hello", 2, &[1]);
+    let mut source = sent(SliceSource::new(b"hello", 2, &[1]));
     let calls = [
         (Ok(2), b"he\0"),
         (Err(Failed), b"\0\0\0"),
@@ -37,7 +38,7 @@ fn a_slice_source_gives_pieces_and_fails_as_told(rt: HostRuntime) {
 
 #[test]
 fn a_vec_sink_takes_pieces_and_fails_as_told(rt: HostRuntime) -> Result<(), Fail> {
-    let mut sink = VecSink::new(rt.alloc(), 3, &[2]);
+    let mut sink = sent(VecSink::new(rt.alloc(), 3, &[2]));
     assert_eq!(rt; write_all(&mut sink, b"hello"), Ok(()));
     assert_eq!(rt; write_all(&mut sink, b", you"), Err(Failed));
     assert_eq!(rt; write_all(&mut sink, b"!"), Ok(()));
@@ -51,8 +52,8 @@ fn a_vec_sink_takes_pieces_and_fails_as_told(rt: HostRuntime) -> Result<(), Fail
 
 #[test]
 fn nothing_fails_without_a_list(rt: HostRuntime) {
-    let mut source = WholeSource::new(b"abcd");
-    let mut sink = CountingSink::new();
+    let mut source = sent(WholeSource::new(b"abcd"));
+    let mut sink = sent(CountingSink::default());
     for (answer, left) in [(3, 1), (1, 0), (0, 0)] {
         let mut buf = [0; 3];
         assert_eq!(rt; read_one(&mut source, &mut buf), Ok(answer));
@@ -135,8 +136,8 @@ impl Write for Uneven {
 
 #[test]
 fn adapters_go_on_after_interrupts_and_tell_of_faults(rt: HostRuntime) {
-    let mut source = ReaderSource::new(Uneven { calls: 0 });
-    let mut sink = WriterSink::new(Uneven { calls: 0 });
+    let mut source = sent(ReaderSource::new(Uneven { calls: 0 }));
+    let mut sink = sent(WriterSink::new(Uneven { calls: 0 }));
     for (read, written) in [
         (Ok(1), Ok(1)),
         (Err(Failed), Err(Failed)),
