@@ -1,6 +1,7 @@
 pub mod Ascii
 pub mod Buckets
 pub mod Fronts
+pub mod Passing
 pub mod Stopping
 pub mod Texts
 pub mod TurnLaws

@@ -33,6 +33,20 @@ IsJudged container head (Refused refusal) = judged container head ≡ verdict_in
 IsJudged container head (Put upload) = (judged container head ≡ reaches upload.name) × (is_put head ≡ true) × (upload.kind ≡ kind_of head)
 IsJudged container head (Get name) = (judged container head ≡ reaches name) × (is_put head ≡ false)
 
+-- a body is to be stored
+abbrev pub is_put_in : Asked → Bool
+is_put_in BadHost = false
+is_put_in (Refused refusal) = false
+is_put_in (Put upload) = true
+is_put_in (Get name) = false
+
+-- the same with this body
+abbrev pub with_body_in : Asked → List ℕ → Asked
+with_body_in BadHost body = BadHost
+with_body_in (Refused refusal) body = Refused refusal
+with_body_in (Put upload) body = Put (record { name = upload.name; kind = upload.kind; body = body })
+with_body_in (Get name) body = Get name
+
 -- this is what the request asks
 pub record IsAsked (container : List ℕ) (request : Request) (asked : Asked) : Type 0 where
   pub verdict : judged container request.head ≡ verdict_in asked

@@ -3,3 +3,4 @@ pub mod Asking
 pub mod Answering
 pub mod Serving
 pub mod Turns
+pub mod Incoming

@@ -31,6 +31,27 @@ pub(crate) enum Asked {
     Get(Text),
 }
 
+impl Asked {
+    ghost use Rattle.gateway.specs.Asking.{is_put_in, with_body_in};
+
+    /// Whether a body is to be stored.
+    pub(crate) fn is_put(&self) -> bool
+        ensures { result ≡ is_put_in self.now }
+    {
+        matches!(self, Asked::Put(_))
+    }
+
+    /// The same with this body, where one is to be stored.
+    pub(crate) fn with_body(self, body: Bytes) -> Asked
+        ensures { result ≡ with_body_in self body }
+    {
+        match self {
+            Asked::Put(Upload { name, kind, .. }) => Asked::Put(Upload { name, kind, body }),
+            other => other,
+        }
+    }
+}
+
 /// Whether the token that counts is the user's.
 #[tactic(auto, unfolding(rgw_model::specs::Connections::is_user))]
 fn is_user(head: &Head) -> bool

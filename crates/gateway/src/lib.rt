@@ -4,6 +4,7 @@
 mod answer;
 mod asked;
 mod fault;
+mod incoming;
 mod reply;
 mod serve;
 mod store;

@@ -1,0 +1,14 @@
+//! The requests of a connection (RFC 9112): their heads one by one, and the bytes of each body, from
+//! a source that gives bytes in pieces.
+#![tactic(auto)]
+
+mod buffer;
+mod fault;
+mod intake;
+mod next_bytes;
+mod next_head;
+mod scan;
+
+pub use fault::IntakeFault;
+pub use intake::Intake;
+pub use rgw_model::{Framing, Head};
