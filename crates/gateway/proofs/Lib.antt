@@ -1,5 +1,6 @@
 pub mod Ascii
 pub mod Buckets
+pub mod Coming
 pub mod Fronts
 pub mod Passing
 pub mod Stopping
