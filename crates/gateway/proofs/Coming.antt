@@ -1,6 +1,6 @@
 -- A request from its head and its body.
-use Rattle.std.proofs.Common.{◌≡◌, ◌≢◌, ◌⊎◌, inl, inr, ℕ, ◌+◌, ◌<◌, Bool, true, false, cond, List, [], ◌++◌, length, Option, None, refl, sym, ap, ◌∙◌, subst, append_assoc, arith}
-use Rattle.std.specs.Prelude.{if◌then◌else◌}
+use Rattle.std.proofs.Common.{◌≡◌, ◌≢◌, ◌⊎◌, inl, inr, ℕ, ◌+◌, ◌<◌, Bool, true, false, cond, ◌&&◌, ◌||◌, Result, Ok, Err, List, [], ◌++◌, length, Option, None, refl, sym, ap, ◌∙◌, subst, append_assoc, arith}
+use Rattle.std.specs.Prelude.{if◌then◌else◌, IfOk, OnErr}
 use Rattle.std.proofs.KnownBytes.{Consumes-trans, Consumes-nil}
 use Rattle.std.specs.Io.KnownBytes.{Consumes, IsAtEnd}
 use Rattle.http_intake.specs.Intake.{IntakeState, IsBetween, is_in_chunks, GivesHead}
@@ -17,6 +17,16 @@ use Rattle.rgw_model.specs.Streams.{IsBody, TakesRequest, IsEnd}
 use Rattle.rgw_model.specs.Answers.{put, get}
 use Rattle.rgw_model.specs.Connections.{judged, kind_of, command_of, is_reaching}
 use Rattle.rgw_model.proofs.StreamLaws.{more_head, some_bytes}
+use Rattle.http_intake.specs.Reading.{HasNoNext}
+use Rattle.http_intake.specs.declared.fault.IntakeFault.{IntakeFault}
+use Rattle.http_intake.specs.declared.fault.IntakeFault.TheVariants as Fault
+use Rattle.rgw_model.specs.declared.reply.StreamEnd.{StreamEnd}
+use Rattle.rgw_model.specs.declared.reply.BadRequest.TheVariants as Word
+use Rattle.gateway.specs.declared.incoming.Incoming.{Incoming}
+use Rattle.gateway.specs.declared.incoming.Incoming.TheVariants as Came
+use Rattle.gateway.specs.Incoming.{FindsRest, FindsIncoming, ReadsSome, EndsHeads, end_for}
+use Rattle.gateway.specs.declared.fault.ServeFault.{ServeFault}
+use Rattle.gateway.specs.Serving.{ReadsOut}
 use Rattle.gateway.specs.declared.asked.Asked.{Asked}
 use Rattle.gateway.specs.declared.asked.Asked.TheVariants.{BadHost, Refused, Put, Get}
 use Rattle.gateway.specs.Asking.{IsJudged, IsAsked, is_put_in, with_body_in}
@@ -67,3 +77,134 @@ same_body BadHost kept given e = refl
 same_body (Refused refusal) kept given e = refl
 same_body (Put upload) kept given e = ap (λ (b : List ℕ). Put (record { name = upload.name; kind = upload.kind; body = b })) e
 same_body (Get name) kept given e = refl
+
+-- ---- a head and what follows it
+
+sized_plain : (most : ℕ) (f : Framing) → is_sized most f ≡ true → is_in_chunks f ≡ false
+sized_plain most Frame.Empty e = refl
+sized_plain most (Frame.Length n) e = refl
+sized_plain most Frame.Chunked e = absurd (cc)
+
+and_left : (a b : Bool) → (a && b) ≡ true → a ≡ true
+and_left true b e = refl
+and_left false b e = e
+
+and_right : (a b : Bool) → (a && b) ≡ true → b ≡ true
+and_right true b e = e
+and_right false b e = absurd (cc)
+
+or_either : (a b : Bool) → (a || b) ≡ true → (a ≡ true) ⊎ (b ≡ true)
+or_either true b e = inl refl
+or_either false b e = inr e
+
+form_plain : (head : Head) → has_method_form head ≡ true → is_in_chunks head.framing ≡ false
+unfolding has_method_form
+form_plain head e =
+    elim (or_either _ (is_get head && is_sized 0 head.framing) e) [
+      | inl p ↦ sized_plain object_limit head.framing (and_right (is_framed head.framing) _ (and_right (is_put head) _ p))
+      | inr p ↦ sized_plain 0 head.framing (and_right (is_get head) _ p)
+    ]
+
+built_plain : (head : Head) → is_built head ≡ true → is_in_chunks head.framing ≡ false
+unfolding is_built
+built_plain head e = form_plain head (and_left (has_method_form head) _ e)
+
+drop_plain : (head : Head) → can_drop head ≡ true → is_in_chunks head.framing ≡ false
+unfolding can_drop
+drop_plain head e = sized_plain drop_limit head.framing (and_left (is_sized drop_limit head.framing) _ e)
+
+content_cases : (h b d : Bool) (m n : ℕ) → cond h (cond b (Plan.Content m) Plan.NotBuilt) (cond d (Plan.Content m) Plan.Unread) ≡ Plan.Content n → (n ≡ m) × ((b ≡ true) ⊎ (d ≡ true))
+content_cases true true d m n e = (cc, inl refl)
+content_cases true false d m n e = absurd (cc)
+content_cases false b true m n e = (cc, inr refl)
+content_cases false b false m n e = absurd (cc)
+
+-- a body that is read has the length that its framing tells, and is not in chunks
+pub content_is : (head : Head) (n : ℕ) → plan_of head ≡ Plan.Content n → (n ≡ content_length head.framing) × (is_in_chunks head.framing ≡ false)
+unfolding plan_of
+content_is head n e =
+    let cases = content_cases (has_host head) (is_built head) (can_drop head) (content_length head.framing) n e in
+    (cases.0, elim cases.1 [ inl b ↦ built_plain head b | inr d ↦ drop_plain head d ])
+
+pub closes_unread : (k : ℕ) (head : Head) → plan_of head ≡ Plan.Unread → closes k head ≡ true
+unfolding closes
+closes_unread k head e = rw e refl
+
+pub judged_hostless : (container : List ℕ) (head : Head) → plan_of head ≡ Plan.Unread → IsJudged container head BadHost
+unfolding judged
+judged_hostless container head e = rw (no_host head e) refl
+
+pub joined_request : (container all more body left : List ℕ) (old new mid : IntakeState) (head : Head) → GivesHead all old mid head → IsBody (plan_of head) (mid.buffer ++ more) body left
+    → TakesRequest (all ++ more) (record { head = head; body = body }) left
+joined_request container all more body left old new mid head x y =
+    record { after = mid.buffer ++ more; head = more_head all head mid.buffer more x.begins; body = y }
+
+joined_cut : (all more : List ℕ) (old mid : IntakeState) (head : Head) (n : ℕ) → GivesHead all old mid head → plan_of head ≡ Plan.Content n → length (mid.buffer ++ more) < n → IsEnd (all ++ more) Stream.Cut
+joined_cut all more old mid head n x plan short =
+    let begins = more_head all head mid.buffer more x.begins in
+    (some_bytes (all ++ more) begins.0 (mid.buffer ++ more) begins.1, inr (head, mid.buffer ++ more, n, begins, plan, short))
+
+joined_later : (all more : List ℕ) (old mid : IntakeState) (head : Head) → GivesHead all old mid head → plan_of head ≡ Plan.NotBuilt → IsEnd (all ++ more) Stream.NotBuilt
+joined_later all more old mid head x plan = (head, mid.buffer ++ more, more_head all head mid.buffer more x.begins, plan)
+
+-- a head, and what comes behind it, is what comes next
+pub joined : (k : ℕ) (container more : List ℕ) (old mid new : IntakeState) (a b c : Option (List ℕ)) (head : Head) (incoming : Incoming)
+    → Consumes a b more → GivesHead (old.buffer ++ more) old mid head → FindsRest k container head mid new b c incoming → FindsIncoming k container old new a c incoming
+joined k container more old mid new a b c head (Came.Request asked close) read x (later, read', body, is_body, closing, is_asked, ready) = (
+  more ++ later,
+  Consumes-trans a b c more later read read',
+  record { head = head; body = body },
+  subst (λ l. TakesRequest l (record { head = head; body = body }) new.buffer) (append_assoc old.buffer more later)
+  (joined_request container (old.buffer ++ more) later body new.buffer old new mid head x is_body),
+  closing,
+  is_asked,
+  ready,
+)
+joined k container more old mid new a b c head (Came.End e) read x (later, read', inl (is, n, plan, short, end)) = (
+  more ++ later,
+  Consumes-trans a b c more later read read',
+  subst (IsEnd (old.buffer ++ (more ++ later))) (sym is)
+  (subst (λ l. IsEnd l Stream.Cut) (append_assoc old.buffer more later) (joined_cut (old.buffer ++ more) later old mid head n x plan short)),
+  subst (λ f. ReadsOut f c) (sym is) end,
+)
+joined k container more old mid new a b c head (Came.End e) read x (later, read', inr (is, plan)) = (
+  more ++ later,
+  Consumes-trans a b c more later read read',
+  subst (IsEnd (old.buffer ++ (more ++ later))) (sym is)
+  (subst (λ l. IsEnd l Stream.NotBuilt) (append_assoc old.buffer more later) (joined_later (old.buffer ++ more) later old mid head x plan)),
+  subst (λ f. ReadsOut f c) (sym is) tt,
+)
+
+-- ---- no further head
+
+pub heads_end : (all : List ℕ) (ended : Type 0) (fault : IntakeFault) → HasNoNext all ended fault → EndsHeads fault
+heads_end all ended Fault.OutOfMemory x = tt
+heads_end all ended Fault.ReadFault x = tt
+heads_end all ended Fault.Cut x = tt
+heads_end all ended Fault.BadHead x = tt
+heads_end all ended Fault.HeadTooLarge x = tt
+heads_end all ended Fault.BadFraming x = tt
+heads_end all ended Fault.BadChunk x = x
+heads_end all ended Fault.BodyTooLarge x = x
+
+-- the end that the cause makes is that of the bytes
+pub end_comes : (all : List ℕ) (after : Option (List ℕ)) (fault : IntakeFault) (e : StreamEnd) → HasNoNext all (IsAtEnd after) fault → Ok e ≡ end_for fault → IsEnd all e × ReadsOut e after
+end_comes all after Fault.OutOfMemory e x is = absurd (cc)
+end_comes all after Fault.ReadFault e x is = absurd (cc)
+end_comes all after Fault.Cut e x is = let same : Stream.Cut ≡ e = cc in subst (λ f. IsEnd all f × ReadsOut f after) same ((x.0, inl x.1), x.2)
+end_comes all after Fault.BadHead e x is = let same : Stream.Refused Word.Head ≡ e = cc in subst (λ f. IsEnd all f × ReadsOut f after) same (x, tt)
+end_comes all after Fault.HeadTooLarge e x is = let same : Stream.Refused Word.Size ≡ e = cc in subst (λ f. IsEnd all f × ReadsOut f after) same (x, tt)
+end_comes all after Fault.BadFraming e x is = let same : Stream.Refused Word.Framing ≡ e = cc in subst (λ f. IsEnd all f × ReadsOut f after) same (x, tt)
+end_comes all after Fault.BadChunk e x is = absurd x
+end_comes all after Fault.BodyTooLarge e x is = absurd x
+
+-- ---- through what a call returned
+
+pub joined_ok : (k : ℕ) (container more : List ℕ) (old mid new : IntakeState) (a b c : Option (List ℕ)) (head : Head) (result : Result Incoming ServeFault)
+    → Consumes a b more → GivesHead (old.buffer ++ more) old mid head → IfOk result (FindsRest k container head mid new b c) → IfOk result (FindsIncoming k container old new a c)
+joined_ok k container more old mid new a b c head (Ok incoming) read x y = joined k container more old mid new a b c head incoming read x y
+joined_ok k container more old mid new a b c head (Err fault) read x y = tt
+
+pub joined_err : (more : List ℕ) (a b c : Option (List ℕ)) (result : Result Incoming ServeFault) → Consumes a b more → OnErr result (ReadsSome b c) → OnErr result (ReadsSome a c)
+joined_err more a b c (Ok incoming) read x = tt
+joined_err more a b c (Err fault) read x = (more ++ x.0, Consumes-trans a b c more x.0 read x.1)

@@ -4,3 +4,4 @@ pub mod Answering
 pub mod Serving
 pub mod Turns
 pub mod Incoming
+pub mod TurnTaking

@@ -3,14 +3,14 @@ ghost use Rattle.std.specs.Prelude.{◌≡◌, ◌++◌, ◌<◌, ℕ, List, len
 ghost use Rattle.http_intake.specs.Intake.{IsUnchunked, is_in_chunks};
 ghost use Rattle.rgw_model.specs.Forms.{plan_of, content_length};
 ghost use Rattle.rgw_model.specs.declared.head.BodyPlan.TheVariants as Plan;
-ghost use Rattle.gateway.specs.Incoming.{PassesPiece, PassesBody, ReadsSome, ReadsAtFault, EndsHeads, end_for, IsBehindHead, TakesBody};
+ghost use Rattle.gateway.specs.Incoming.{PassesPiece, PassesBody, ReadsSome, ReadsAtFault, EndsHeads, end_for, IsBehindHead, TakesBody, IsReady, FindsRest, FindsIncoming};
 ghost use Rattle.gw_io.specs.Outside.{Rose};
 
 use crate::ServeFault;
 use crate::asked::{Asked, judge};
 use gw_io::Source;
 use http_intake::{Intake, IntakeFault};
-use rgw_model::{BadRequest, Bytes, Head, StreamEnd, Text};
+use rgw_model::{BadRequest, BodyPlan, Bytes, Head, StreamEnd, Text};
 use std::alloc::{AllocError, Global};
 
 /// What comes next on a connection.
@@ -140,4 +140,61 @@ fn take_body<S: Source>(
         return Ok(None);
     }
     Ok(Some(asked.with_body(body)))
+}
+
+/// What comes of a request whose head was read.
+fn take_rest<S: Source>(
+    alloc: Global,
+    k: u64,
+    container: &Text,
+    head: &Head,
+    intake: &mut Intake,
+    source: &mut S,
+    piece: &mut [u8],
+) -> Result<Incoming, ServeFault>
+    requires room { 0 < length piece.old }
+    requires behind { IsBehindHead intake.old head.now }
+    ensures found { IfOk result (FindsRest k container.now head.now intake.old intake.new (S.left source.old) (S.left source.new)) }
+    ensures err { OnErr result (ReadsSome (S.left source.old) (S.left source.new)) }
+    ensures cause { ReadsAtFault (S.faults source.old) (S.faults source.new) result }
+    ensures kept { length piece.new ≡ length piece.old }
+{
+    let close = head.closes(k);
+    match head.body_plan() {
+        BodyPlan::NotBuilt => Ok(Incoming::End(StreamEnd::NotBuilt)),
+        BodyPlan::Unread => Ok(Incoming::Request(Asked::BadHost, close)),
+        BodyPlan::Content(_) => {
+            match take_body(alloc, container, head, intake, source, piece) {
+                Ok(Some(asked)) => Ok(Incoming::Request(asked, close)),
+                Ok(None) => Ok(Incoming::End(StreamEnd::Cut)),
+                Err(fault) => Err(fault),
+            }
+        }
+    }
+}
+
+/// What comes next on a connection, whose next request is the `k`th.
+pub(crate) fn take_request<S: Source>(
+    alloc: Global,
+    k: u64,
+    container: &Text,
+    intake: &mut Intake,
+    source: &mut S,
+    piece: &mut [u8],
+) -> Result<Incoming, ServeFault>
+    requires room { 0 < length piece.old }
+    requires ready { IsReady intake.old }
+    ensures found { IfOk result (FindsIncoming k container.now intake.old intake.new (S.left source.old) (S.left source.new)) }
+    ensures err { OnErr result (ReadsSome (S.left source.old) (S.left source.new)) }
+    ensures cause { ReadsAtFault (S.faults source.old) (S.faults source.new) result }
+    ensures kept { length piece.new ≡ length piece.old }
+{
+    match intake.next(alloc, source) {
+        Ok(Some(head)) => take_rest(alloc, k, container, &head, intake, source, piece),
+        Ok(None) => Ok(Incoming::End(StreamEnd::Clean)),
+        Err(fault) => match end_of(fault) {
+            Ok(end) => Ok(Incoming::End(end)),
+            Err(fault) => Err(fault),
+        },
+    }
 }

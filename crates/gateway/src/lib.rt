@@ -8,6 +8,7 @@ mod incoming;
 mod reply;
 mod serve;
 mod store;
+mod turn;
 
 pub use fault::ServeFault;
 pub use serve::{ConnEnd, Served, serve_connection};
