@@ -1,5 +1,5 @@
 -- What one turn of a connection comes to.
-use Rattle.std.specs.Prelude.{ℕ, Result, Ok, Err}
+use Rattle.std.specs.Prelude.{ℕ, ◌≤◌, ⊤, Result, Ok, Err}
 use Rattle.http_intake.specs.Intake.{IntakeState}
 use Rattle.gateway.specs.declared.fault.ServeFault.{ServeFault}
 use Rattle.gateway.specs.declared.turn.Turn.{Turn}
@@ -13,3 +13,8 @@ abbrev pub TakesTurn : ℕ → StoreState → StoreState → IntakeState → Int
 TakesTurn k store after intake left old new (Ok Further) = GoesOn k store after intake.buffer left.buffer old new × IsReady left
 TakesTurn k store after intake left old new (Ok (Over replies end)) = ServesFrom k store after intake.buffer old new replies end
 TakesTurn k store after intake left old new (Err fault) = StopsFrom k store after intake.buffer old new
+
+-- a turn writes one reply at most
+abbrev pub WritesFew : Turn → Type 0
+WritesFew Further = ⊤
+WritesFew (Over replies end) = replies ≤ 1

@@ -1,9 +1,12 @@
-ghost use Rattle.std.specs.Prelude.{◌≡◌, ◌≤◌, IfOk, OnErr};
+ghost use Rattle.std.specs.Prelude.{◌≡◌, ◌≤◌, ◌<◌, [], length, IfOk, OnErr};
+ghost use Rattle.gateway.specs.Incoming.{IsReady};
 ghost use Rattle.gw_io.specs.Outside.{Rose};
 ghost use Rattle.gateway.specs.Serving.{Serves, Stops};
 
+use crate::turn::{Turn, take_turn};
 use crate::{PlainStore, ServeFault};
 use gw_io::{Clock, Sink, Source};
+use http_intake::Intake;
 use std::alloc::Global;
 
 /// How a connection ended.
@@ -27,10 +30,13 @@ pub struct Served {
     pub end: ConnEnd,
 }
 
+/// How many bytes of a body are read at once.
+const PIECE: usize = 65_536;
+
 /// Serves the requests of one connection in order, each reply before the next request is read, at
 /// most 100000 of them. The clock is asked once for each request that reaches the container.
 pub fn serve_connection<S: Source, K: Sink, C: Clock>(
-    _alloc: Global,
+    alloc: Global,
     store: &mut PlainStore,
     source: &mut S,
     sink: &mut K,
@@ -49,5 +55,56 @@ pub fn serve_connection<S: Source, K: Sink, C: Clock>(
     ensures sink_faults { K.faults sink.old ≤ K.faults sink.new }
     ensures plan { C.plan clock.new ≡ C.plan clock.old }
 {
-    Err(ServeFault::OutOfMemory)
+    let mut intake = match Intake::new(alloc, u64::MAX) {
+        Ok(intake) => intake,
+        Err(_) => return Err(ServeFault::OutOfMemory),
+    };
+    let mut piece = match vec![in alloc; 0; PIECE] {
+        Ok(piece) => piece,
+        Err(_) => return Err(ServeFault::OutOfMemory),
+    };
+    serve_requests(alloc, store, &mut intake, source, sink, clock, &mut piece)
+}
+
+/// Serves the requests of a connection of which nothing was read.
+fn serve_requests<S: Source, K: Sink, C: Clock>(
+    alloc: Global,
+    store: &mut PlainStore,
+    intake: &mut Intake,
+    source: &mut S,
+    sink: &mut K,
+    clock: &mut C,
+    piece: &mut [u8],
+) -> Result<Served, ServeFault>
+    requires room { 0 < length piece.old }
+    requires ready { IsReady intake.old }
+    requires unread { intake.old.buffer ≡ [] }
+    ensures served { IfOk result (Serves store.old store.new
+        (record { left = S.left source.old; taken = K.taken sink.old; told = C.told clock.old })
+        (record { left = S.left source.new; taken = K.taken sink.new; told = C.told clock.new })) }
+    ensures stopped { OnErr result (Stops store.old store.new
+        (record { left = S.left source.old; taken = K.taken sink.old; told = C.told clock.old })
+        (record { left = S.left source.new; taken = K.taken sink.new; told = C.told clock.new })) }
+
+    ensures read_fault { result ≡ Err ServeFault.ReadFault → Rose (S.faults source.old) (S.faults source.new) }
+    ensures write_fault { result ≡ Err ServeFault.WriteFault → Rose (K.faults sink.old) (K.faults sink.new) }
+    ensures source_faults { S.faults source.old ≤ S.faults source.new }
+    ensures sink_faults { K.faults sink.old ≤ K.faults sink.new }
+    ensures plan { C.plan clock.new ≡ C.plan clock.old }
+{
+    let mut out = Vec::new(alloc);
+    let mut done: u64 = 0;
+    'requests: loop {
+        let k = done + 1;
+        match take_turn(
+            alloc, k, store, intake, source, sink, clock, piece, &mut out,
+        ) {
+            Ok(Turn::Further) => done = k,
+            Ok(Turn::Over(replies, end)) => {
+                let requests = done + replies;
+                return Ok(Served { requests, end });
+            }
+            Err(fault) => return Err(fault),
+        }
+    }
 }

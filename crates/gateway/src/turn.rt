@@ -1,5 +1,5 @@
 // One turn of a connection: the next request is read and answered.
-ghost use Rattle.std.specs.Prelude.{◌≡◌, ◌≤◌, ◌<◌, [], length, OnOk, OnErr};
+ghost use Rattle.std.specs.Prelude.{◌≡◌, ◌≤◌, ◌<◌, [], length, IfOk, OnOk, OnErr};
 ghost use Rattle.std.specs.Io.KnownBytes.{Appends};
 ghost use Rattle.gw_io.specs.Outside.{Rose};
 ghost use Rattle.rgw_model.specs.Replies.{end_text};
@@ -7,7 +7,7 @@ ghost use Rattle.rgw_model.specs.Connections.{end_replies};
 ghost use Rattle.gateway.specs.Answering.{AppendsFront, WritesAtFault};
 ghost use Rattle.gateway.specs.Incoming.{IsReady};
 ghost use Rattle.gateway.specs.Serving.{connection_end};
-ghost use Rattle.gateway.specs.TurnTaking.{TakesTurn};
+ghost use Rattle.gateway.specs.TurnTaking.{TakesTurn, WritesFew};
 
 use crate::answer::{answer, send_bad_request, send_refusal};
 use crate::incoming::{Incoming, take_request};
@@ -41,7 +41,8 @@ fn send_end<K: Sink>(sink: &mut K, out: &mut Vec<u8>, end: StreamEnd) -> Result<
 
 /// How many replies are written where the requests end so.
 fn end_replies(end: StreamEnd) -> u64
-    ensures { result ≡ end_replies end }
+    ensures count { result ≡ end_replies end }
+    ensures few { result ≤ 1 }
 {
     match end {
         StreamEnd::Clean | StreamEnd::Closed | StreamEnd::Cut => 0,
@@ -84,6 +85,7 @@ pub(crate) fn take_turn<S: Source, K: Sink, C: Clock>(
     ensures sink_faults { K.faults sink.old ≤ K.faults sink.new }
     ensures plan { C.plan clock.new ≡ C.plan clock.old }
     ensures kept { length piece.new ≡ length piece.old }
+    ensures few { IfOk result WritesFew }
 {
     match take_request(alloc, k, store.container(), intake, source, piece) {
         Err(fault) => Err(fault),
@@ -94,8 +96,12 @@ pub(crate) fn take_turn<S: Source, K: Sink, C: Clock>(
         Ok(Incoming::Request(asked, close)) => {
             match answer(alloc, store, sink, clock, out, asked, close) {
                 Err(fault) => Err(fault),
-                Ok(()) if close => Ok(Turn::Over(1, ConnEnd::Closed)),
-                Ok(()) => Ok(Turn::Further),
+                Ok(()) => {
+                    if close {
+                        return Ok(Turn::Over(1, ConnEnd::Closed));
+                    }
+                    Ok(Turn::Further)
+                }
             }
         }
     }
