@@ -17,20 +17,21 @@ parts_are : (seconds : ℕ) (h : seconds < 253402300800) → (date_of seconds (c
 unfolding parts_of
 parts_are seconds h = refl
 
-pub date_text_is_http_date : (d : HttpDate) (seconds : ℕ) → unix_secs d ≡ seconds → seconds < 253402300800 → date_text d ≡ http_date seconds
+pub is_before_year_10000 : (d : HttpDate) → unix_secs d < 253402300800
+is_before_year_10000 d = omega (arith, d.time, days_from_civil_bound _ _ _ d.civil)
+
+pub date_text_is : (d : HttpDate) → date_text d ≡ http_date (unix_secs d)
 unfolding http_date
-date_text_is_http_date d seconds is h =
-    let e = civil_of_is seconds h in
-    ap imf_fixdate (unix_secs_injective d (date_of seconds (civil_of seconds) e) (is ∙ sym e.seconds_are) ∙ parts_are seconds h)
+date_text_is d =
+    let h = is_before_year_10000 d in
+    let e = civil_of_is (unix_secs d) h in
+    ap imf_fixdate (unix_secs_injective d (date_of (unix_secs d) (civil_of (unix_secs d)) e) (sym e.seconds_are) ∙ parts_are (unix_secs d) h)
 
 pub has_date : (seconds : ℕ) → seconds < 253402300800 → IsDateOfSecond seconds (http_date seconds)
 has_date seconds h =
     let e = civil_of_is seconds h in
     let d = date_of seconds (civil_of seconds) e in
-    (d, e.seconds_are, sym (date_text_is_http_date d seconds e.seconds_are h))
-
-pub is_before_year_10000 : (d : HttpDate) → unix_secs d < 253402300800
-is_before_year_10000 d = omega (arith, d.time, days_from_civil_bound _ _ _ d.civil)
+    (d, e.seconds_are, ap http_date (sym e.seconds_are) ∙ sym (date_text_is d))
 
 valid_date_is_read : (text : List ℕ) (d : HttpDate) → text ≡ date_text d → parse_secs text ≡ Some (unix_secs d)
 valid_date_is_read text d shown =

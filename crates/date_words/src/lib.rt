@@ -15,6 +15,7 @@ const MICROS_PER_SECOND: u64 = 1_000_000;
 
 /// The date of a second since 1970, as `Sun, 06 Nov 1994 08:49:37 GMT`. `None` from the year
 /// 10000 on.
+#[tactic(auto, using(crate::proofs::TextLemmas::date_text_is))]
 pub fn http_date_text(seconds: u64) -> Option<[u8; 29]>
     ensures succeeds { IsSome result ↔ (seconds < 253_402_300_800) }
     ensures text { IfSome result (λ text. text ≡ http_date seconds) }
