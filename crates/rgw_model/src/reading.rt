@@ -91,3 +91,40 @@ pub fn read_head(alloc: Global, text: &[u8]) -> Result<Head, HeadFault>
         framing,
     })
 }
+
+#[cfg(test)]
+mod tests {
+    use super::*;
+    use crate::Framing;
+    use std::test::Fail;
+
+    #[test]
+    fn of_a_repeated_name_the_last_value_counts(rt: HostRuntime) -> Result<(), Fail> {
+        let text =
+            b"PUT /swift/v1/AUTH_acme/box/k.txt HTTP/1.1\r\nHost: h\r\nA:  one\t\r\na:two \r\nContent-Length: 5\r\n\r\n";
+        let head = read_head(rt.alloc(), text)?;
+        assert_eq!(rt; head.fields.value_of(b"A"), Some(b"two".as_slice()));
+        assert_eq!(rt; head.fields.count_of(b"A"), 2);
+        assert_eq!(rt; framing_of(1, &head.fields), Some(Framing::Length(5)));
+        let (container, object) = head.place().ok_or("no place")?;
+        assert_eq!(rt; container, b"box".as_slice());
+        assert_eq!(rt; object, b"k.txt".as_slice());
+        assert!(rt; head.has_host() && head.is_put() && !head.is_get() && head.is_built());
+        assert!(rt; !head.closes(99_999) && head.closes(100_000));
+        Ok(())
+    }
+
+    #[test]
+    fn a_head_has_at_most_128_fields(rt: HostRuntime) -> Result<(), Fail> {
+        for (count, want) in [(128, None), (129, Some(HeadFault::BadHead))] {
+            let mut text = String::from_str(rt.alloc(), "GET / HTTP/1.0\r\n")?;
+            for _ in 0..count {
+                text.push_str("A: b\r\n")?;
+            }
+            text.push_str("\r\n")?;
+            let fault = read_head(rt.alloc(), text.as_bytes()).err();
+            assert_eq!(rt; fault, want, "at {count}");
+        }
+        Ok(())
+    }
+}

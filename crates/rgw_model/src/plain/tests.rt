@@ -1,0 +1,166 @@
+use super::*;
+use std::fmt::Write;
+use std::test::Fail;
+
+/// The method, the target and the body of each request in a line of its own, and then how the
+/// stream ends.
+fn told(alloc: Global, bytes: &[u8]) -> Result<String, Fail> {
+    let stream = read_stream(alloc, bytes)?;
+    let mut told = String::new(alloc);
+    for request in &stream.requests {
+        let method = request.head.method.as_str();
+        let target = str::from_utf8(request.head.target.as_slice())?;
+        let body = str::from_utf8(request.body.as_slice())?;
+        write!(told, "{method} {target} {body}\n")?;
+    }
+    let end = stream.end;
+    write!(told, "{end:?}")?;
+    Ok(told)
+}
+
+#[test]
+fn streams_are_those_counted_by_hand(rt: HostRuntime) -> Result<(), Fail> {
+    let streams = [
+        ("", "Clean"),
+        // a PUT and then a GET
+        (
+            "PUT /swift/v1/AUTH_acme/box/k HTTP/1.1\r\nHost: h\r\nX-Auth-Token: AUTH_tk1\r\nContent-Type: text/plain\r\nContent-Length: 5\r\n\r\nhelloGET /swift/v1/AUTH_acme/box/k HTTP/1.1\r\nHost: h\r\nX-Auth-Token: AUTH_tk1\r\n\r\n",
+            "PUT /swift/v1/AUTH_acme/box/k hello\nGET /swift/v1/AUTH_acme/box/k \nClean",
+        ),
+        // cut in the body, and in the head
+        (
+            "PUT /swift/v1/AUTH_acme/box/k HTTP/1.1\r\nHost: h\r\nContent-Length: 5\r\n\r\nhel",
+            "Cut",
+        ),
+        (
+            "GET /swift/v1/AUTH_acme/box/k HTTP/1.1\r\nHost: h\r\n",
+            "Cut",
+        ),
+        // no head
+        ("GET\r\n\r\n", "Refused(Head)"),
+        // lines that end in LF alone
+        (
+            "GET /swift/v1/AUTH_acme/box/k HTTP/1.1\nHost: h\n\n",
+            "GET /swift/v1/AUTH_acme/box/k \nClean",
+        ),
+        // empty lines in front
+        (
+            "\r\n\nGET /swift/v1/AUTH_acme/box/k HTTP/1.1\r\nHost: h\r\n\r\n",
+            "GET /swift/v1/AUTH_acme/box/k \nClean",
+        ),
+        // a CR alone is no empty line
+        (
+            "GET /swift/v1/AUTH_acme/box/k HTTP/1.1\r\nHost: h\r\n\rA: b\r\n\r\n",
+            "Refused(Head)",
+        ),
+        // an empty line after the last request begins another
+        (
+            "GET /swift/v1/AUTH_acme/box/k HTTP/1.1\r\nHost: h\r\n\r\n\r\n",
+            "GET /swift/v1/AUTH_acme/box/k \nCut",
+        ),
+    ];
+    for (bytes, want) in streams {
+        let told = told(rt.alloc(), bytes.as_bytes())?;
+        assert_eq!(rt; told.as_str(), want, "of {bytes:?}");
+    }
+    Ok(())
+}
+
+#[test]
+fn fields_decide_what_follows_a_head(rt: HostRuntime) -> Result<(), Fail> {
+    let heads = [
+        // where the body ends is not told
+        (
+            "PUT",
+            "1",
+            "Host: h\r\nContent-Length: 00000000000000000005\r\n",
+            "Refused(Framing)",
+        ),
+        (
+            "PUT",
+            "1",
+            "Host: h\r\nContent-Length: 0000000000000000005\r\n",
+            "PUT /swift/v1/AUTH_acme/box/k hello\nCut",
+        ),
+        (
+            "PUT",
+            "1",
+            "Host: h\r\nContent-Length: 5\r\nContent-Length: 5\r\n",
+            "Refused(Framing)",
+        ),
+        (
+            "PUT",
+            "1",
+            "Host: h\r\nTransfer-Encoding: gzip\r\n",
+            "Refused(Framing)",
+        ),
+        // a wrong count of Host fields drops the body
+        (
+            "PUT",
+            "1",
+            "Content-Length: 5\r\n",
+            "PUT /swift/v1/AUTH_acme/box/k hello\nCut",
+        ),
+        (
+            "PUT",
+            "1",
+            "HOST: a\r\nhost: b\r\nContent-Length: 5\r\n",
+            "PUT /swift/v1/AUTH_acme/box/k hello\nCut",
+        ),
+        // the connection is closed
+        (
+            "PUT",
+            "1",
+            "Host: h\r\nConnection: te, Close\r\nContent-Length: 5\r\n",
+            "PUT /swift/v1/AUTH_acme/box/k hello\nClosed",
+        ),
+        (
+            "PUT",
+            "1",
+            "Host: h\r\nConnection: close\r\nConnection: te\r\nContent-Length: 5\r\n",
+            "PUT /swift/v1/AUTH_acme/box/k hello\nCut",
+        ),
+        // forms that are not taken
+        ("POST", "1", "Host: h\r\nContent-Length: 5\r\n", "NotBuilt"),
+        ("PUT", "0", "Content-Length: 5\r\n", "NotBuilt"),
+        (
+            "PUT",
+            "1",
+            "Host: h\r\nRange: bytes=0-1\r\nContent-Length: 5\r\n",
+            "NotBuilt",
+        ),
+    ];
+    for (method, minor, fields, want) in heads {
+        let bytes = format!(in rt.alloc();
+            "{method} /swift/v1/AUTH_acme/box/k HTTP/1.{minor}\r\n{fields}\r\nhelloG"
+        )?;
+        let told = told(rt.alloc(), bytes.as_bytes())?;
+        assert_eq!(rt;
+            told.as_str(),
+            want,
+            "of {method} HTTP/1.{minor} {fields:?}"
+        );
+    }
+    Ok(())
+}
+
+#[test]
+fn a_head_has_at_most_65536_bytes(rt: HostRuntime) -> Result<(), Fail> {
+    let front = "GET /swift/v1/AUTH_acme/box/k HTTP/1.1\r\nHost: h\r\nA: ";
+    let whole = "GET /swift/v1/AUTH_acme/box/k \nClean";
+    for (len, last, want) in [
+        (65536, "\r\n\r\n", whole),
+        (65537, "\r\n\r\n", "Refused(Size)"),
+        (65536, "", "Cut"),
+        (65537, "", "Refused(Size)"),
+    ] {
+        let mut bytes = String::from_str(rt.alloc(), front)?;
+        for _ in front.len() + last.len()..len {
+            bytes.push('a')?;
+        }
+        bytes.push_str(last)?;
+        let told = told(rt.alloc(), bytes.as_bytes())?;
+        assert_eq!(rt; told.as_str(), want, "of {len} bytes");
+    }
+    Ok(())
+}
