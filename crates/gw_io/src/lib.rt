@@ -1,0 +1,25 @@
+//! What a gateway meets outside itself: a source of bytes, a sink for bytes and a clock, as traits
+//! with a written meaning; each in memory; and thin adapters over the standard streams and the
+//! system's clock.
+//!
+//! Code that is generic over these traits cannot raise a count of faults by itself. So a contract
+//! that allows a fault only where the count rose refuses a body that gives up.
+#![tactic(auto)]
+
+mod adapters;
+mod clock;
+mod outside;
+mod sink;
+mod source;
+mod trace;
+mod writing;
+
+pub use adapters::{ReaderSource, SystemClock, WriterSink, standard_input, standard_output};
+pub use clock::StepClock;
+pub use outside::{Clock, Failed, Sink, Source};
+pub use sink::{CountingSink, VecSink};
+pub use source::{SliceSource, WholeSource};
+pub use writing::write_all;
+
+#[cfg(test)]
+mod tests;

@@ -1,0 +1,168 @@
+// Sources in memory.
+ghost use Rattle.std.specs.Prelude.{◌≡◌, ◌↔◌, ◌≤◌, ◌++◌, IfOk, OnErr, IsErr, Contains, Some, drop, length, min, take};
+ghost use Rattle.std.specs.Io.{ReadsAtMost};
+ghost use Rattle.std.specs.Io.KnownBytes.{ReadConsumes};
+ghost use Rattle.gw_io.specs.Outside.{HasCause, raised};
+
+use crate::{Failed, Source};
+use std::marker::Model;
+
+/// Copies the first bytes of `from` into `buf`: as many as both have, and at most `most`.
+fn copy_front(from: &[u8], buf: &mut [u8], most: usize) -> usize
+    ensures count { result ≡ min (length buf.old) (min most (length from.now)) }
+    ensures copied { buf.new ≡ take result from.now ++ drop result buf.old }
+{
+    let count = buf.len().min(most.min(from.len()));
+    buf[..count].copy_from_slice(&from[..count]);
+    count
+}
+
+/// Gives the bytes of a slice, and never fails.
+#[derive(Debug, Drop)]
+pub struct WholeSource<'a> {
+    bytes: &'a [u8],
+}
+
+/// Contracts see the bytes that are left.
+impl<'a> Model for WholeSource<'a> {
+    ghost use Rattle.std.specs.Prelude.{ℕ, List};
+
+    ghost Value = { List ℕ };
+
+    ghost view = { λ s. s.bytes.now };
+}
+
+impl<'a> WholeSource<'a> {
+    /// A source of these bytes.
+    pub fn new(bytes: &'a [u8]) -> Self
+        ensures { result ≡ bytes.now }
+    {
+        WholeSource { bytes }
+    }
+
+    /// The bytes that are left.
+    pub fn left(&self) -> &'a [u8]
+        ensures { result.now ≡ self.now }
+    {
+        self.bytes
+    }
+}
+
+impl Source for WholeSource<'_> {
+    ghost left = { λ s. Some s };
+
+    ghost faults = { λ _. 0 };
+
+    /// Gives as many bytes as `buf` takes and the source has.
+    fn read(&mut self, buf: &mut [u8]) -> Result<usize, Failed>
+        ensures bound { ReadsAtMost result buf.new }
+        ensures bytes { ReadConsumes (Some self.old) (Some self.new) result buf.new }
+        ensures cause { HasCause 0 0 result }
+
+        ensures count { result ≡ Ok (min (length buf.old) (length self.old)) }
+        ensures copied { IfOk result (λ n. buf.new ≡ take n self.old ++ drop n buf.old) }
+        ensures rest { IfOk result (λ n. self.new ≡ drop n self.old) }
+    {
+        let count = copy_front(self.bytes, buf, usize::MAX);
+        self.bytes = &self.bytes[count..];
+        Ok(count)
+    }
+}
+
+/// Gives the bytes of a slice in pieces, and fails at the calls that it is told to.
+#[derive(Debug, Drop)]
+pub struct SliceSource<'a> {
+    bytes: &'a [u8],
+    piece: usize,
+    failing: &'a [u64],
+    calls: u64,
+    faults: u64,
+}
+
+/// Contracts see the bytes that are left, the greatest piece, the numbers of the calls that fail,
+/// how many calls there were and how many of them failed.
+impl<'a> Model for SliceSource<'a> {
+    ghost use Rattle.std.specs.Prelude.{◌≤◌};
+    ghost use Rattle.gw_io.specs.Memory.{SliceState};
+
+    ghost Value = { SliceState };
+
+    ghost view = { λ s. record {
+      left = s.bytes.now;
+      piece = s.piece;
+      failing = s.failing.now;
+      calls = s.calls;
+      faults = s.faults;
+    } };
+
+    ghost invariant = { λ s. 1 ≤ s.piece };
+}
+
+impl<'a> SliceSource<'a> {
+    /// A source of these bytes. A call gives at most `piece` of them, and the calls with the numbers
+    /// in `failing` fail, where the first call has the number 0. The number of a call stands still
+    /// at the greatest `u64`.
+    pub fn new(bytes: &'a [u8], piece: usize, failing: &'a [u64]) -> Self
+        requires { 1 ≤ piece }
+        ensures { result ≡ record {
+          left = bytes.now;
+          piece = piece;
+          failing = failing.now;
+          calls = 0;
+          faults = 0;
+        } }
+    {
+        SliceSource {
+            bytes,
+            piece,
+            failing,
+            calls: 0,
+            faults: 0,
+        }
+    }
+
+    /// The bytes that are left.
+    pub fn left(&self) -> &'a [u8]
+        ensures { result.now ≡ self.now.left }
+    {
+        self.bytes
+    }
+}
+
+impl Source for SliceSource<'_> {
+    ghost left = { λ s. Some s.left };
+
+    ghost faults = { λ s. s.faults };
+
+    fn read(&mut self, buf: &mut [u8]) -> Result<usize, Failed>
+        ensures bound { ReadsAtMost result buf.new }
+        ensures bytes { ReadConsumes (Some self.old.left) (Some self.new.left) result buf.new }
+        ensures cause { HasCause self.old.faults self.new.faults result }
+
+        // Exactly the calls of the list fail, and a call that fails only counts itself.
+        ensures fails { IsErr result ↔ Contains self.old.failing self.old.calls }
+        ensures failed { OnErr result (self.new ≡ record self.old {
+          calls = raised self.old.calls;
+          faults = raised self.old.faults;
+        }) }
+        ensures untouched { OnErr result (buf.new ≡ buf.old) }
+
+        ensures count { IfOk result (λ n.
+            n ≡ min (length buf.old) (min self.old.piece (length self.old.left))) }
+        ensures copied { IfOk result (λ n. buf.new ≡ take n self.old.left ++ drop n buf.old) }
+        ensures rest { IfOk result (λ n. self.new ≡ record self.old {
+          left = drop n self.old.left;
+          calls = raised self.old.calls;
+        }) }
+    {
+        let call = self.calls;
+        self.calls = call.saturating_add(1);
+        if self.failing.contains(&call) {
+            self.faults = self.faults.saturating_add(1);
+            return Err(Failed);
+        }
+        let count = copy_front(self.bytes, buf, self.piece);
+        self.bytes = &self.bytes[count..];
+        Ok(count)
+    }
+}
