@@ -1,0 +1,6 @@
+//! The requests of a connection (RFC 9112): their heads one by one, and the bytes of each body, from
+//! a source that gives bytes in pieces.
+#![tactic(auto)]
+
+mod buffer;
+mod scan;
