@@ -1,2 +1,4 @@
 pub mod ScanSteps
 pub mod Held
+pub mod Searching
+pub mod Taking

@@ -1,6 +1,6 @@
 -- A scan for the end of a head, one byte on.
-use Rattle.std.proofs.Common.{◌≡◌, ◌≢◌, ℕ, suc, ◌+◌, ◌<◌, ◌≤◌, ◌⊎◌, Bool, true, false, cond, eqb, List, [], ◌∷◌, ◌++◌, length, take, Option, Some, None, refl, sym, ap, ◌∙◌, subst, inl, inr, ⊎_elim, arith, append_assoc, length-append}
-use Rattle.std.proofs.lemmas.List.{append-nil, take-append-le, take_all, same_from_push, nil_from_length}
+use Rattle.std.proofs.Common.{◌≡◌, ◌≢◌, ℕ, suc, ◌+◌, ◌<◌, ◌≤◌, ◌⊎◌, Bool, true, false, cond, eqb, List, [], ◌∷◌, ◌++◌, length, get_or, take, slice_range, Option, Some, None, refl, sym, ap, ◌∙◌, subst, inl, inr, ⊎_elim, arith, append_assoc, length-append}
+use Rattle.std.proofs.lemmas.List.{take-append-le, take_all, take_more, take_rest, get_or-drop, length-drop, same_from_push}
 use Rattle.std.proofs.lemmas.Bool.{cases_lt, eqb-true, eqb-false, or_parts}
 use Rattle.std.specs.Prelude.{◌||◌, ◌==◌}
 use Rattle.rgw_model.specs.Heads.{skip_breaks, EndsIn, EndsHead, HasNoHeadText, IsHeadText}
@@ -163,3 +163,20 @@ scanned_more seen b place next scanned is =
 pub scanned_end : (seen : List ℕ) (b : ℕ) (place : Place) → Scanned seen place → after_byte place b ≡ None → IsHeadText (seen ++ b ∷ [])
 scanned_end seen b place scanned is =
     ends_here seen b scanned.open_so_far (subst (Tells (skip_breaks (seen ++ b ∷ []))) is (tells_more seen b place scanned.behind))
+
+-- ---- at a place in a list
+
+-- the byte at a place of what follows the first
+pub byte_at : (bytes : List ℕ) (seen i : ℕ) → i < length (slice_range bytes seen (length bytes))
+    → (seen + i < length bytes) × (get_or (slice_range bytes seen (length bytes)) i 0 ≡ get_or bytes (seen + i) 0)
+byte_at bytes seen i within =
+    let rest = take_rest bytes seen in
+    (omega (arith, within, ap length rest, length-drop seen bytes), ap (λ l. get_or l i 0) rest ∙ get_or-drop seen bytes i 0)
+
+pub scanned_next : (bytes : List ℕ) (i : ℕ) (place next : Place) → i < length bytes → Scanned (take i bytes) place → after_byte place (get_or bytes i 0) ≡ Some next → Scanned (take (i + 1) bytes) next
+scanned_next bytes i place next within scanned is =
+    subst (λ l. Scanned l next) (sym (take_more bytes i 0 within)) (scanned_more (take i bytes) (get_or bytes i 0) place next scanned is)
+
+pub scanned_last : (bytes : List ℕ) (i : ℕ) (place : Place) → i < length bytes → Scanned (take i bytes) place → after_byte place (get_or bytes i 0) ≡ None → IsHeadText (take (i + 1) bytes)
+scanned_last bytes i place within scanned is =
+    subst IsHeadText (sym (take_more bytes i 0 within)) (scanned_end (take i bytes) (get_or bytes i 0) place scanned is)

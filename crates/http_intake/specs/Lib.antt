@@ -1,2 +1,4 @@
+pub mod Faults
 pub mod Scan
 pub mod Reading
+pub mod Intake

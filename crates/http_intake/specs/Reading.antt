@@ -1,8 +1,40 @@
--- What was read of a source, in whatever pieces it came.
-use Rattle.std.specs.Prelude.{◌≡◌, ℕ, List, ◌++◌}
-use Rattle.std.specs.declared.option.Option.{Option}
-use Rattle.std.specs.Io.KnownBytes.{Consumes}
+-- The next head of a connection, in whatever pieces its bytes come.
+use Rattle.std.specs.Prelude.{◌≡◌, ◌≢◌, ℕ, ◌≤◌, List, [], ◌++◌, length, take, Option, Some, None, Result, Ok, Err}
+use Rattle.std.specs.Io.KnownBytes.{Consumes, IsAtEnd}
+use Rattle.rgw_model.specs.declared.head.Head.{Head}
+use Rattle.rgw_model.specs.Heads.{head_limit, IsHeadText, BeginsWith}
+use Rattle.rgw_model.specs.Streams.{IsCutHead, IsNoHead, IsUnframed, IsOversized}
+use Rattle.http_intake.specs.declared.fault.IntakeFault.{IntakeFault}
+use Rattle.http_intake.specs.declared.fault.IntakeFault.TheVariants.{OutOfMemory, ReadFault, Cut, BadHead, HeadTooLarge, BadFraming, BadChunk, BodyTooLarge}
 
 -- these bytes were read, and stand behind those that were there
 abbrev pub Reads : Option (List ℕ) → Option (List ℕ) → List ℕ → List ℕ → Type 0
 Reads old new before after = (more : List ℕ) × Consumes old new more × (after ≡ before ++ more)
+
+-- why no head is read from these bytes, the last of an input that has ended, if it has
+abbrev pub HasNoNext : List ℕ → Type 0 → IntakeFault → Type 0
+HasNoNext bytes ended OutOfMemory = Unit {0}
+HasNoNext bytes ended ReadFault = Unit {0}
+HasNoNext bytes ended Cut = (bytes ≢ []) × IsCutHead bytes × ended
+HasNoNext bytes ended BadHead = IsNoHead bytes
+HasNoNext bytes ended HeadTooLarge = IsOversized bytes
+HasNoNext bytes ended BadFraming = IsUnframed bytes
+HasNoNext bytes ended BadChunk = ⊥
+HasNoNext bytes ended BodyTooLarge = ⊥
+
+-- the length of the head's text at the front of the bytes, or why there is none
+abbrev pub FindsText : List ℕ → Type 0 → Result (Option ℕ) IntakeFault → Type 0
+FindsText bytes ended (Ok (Some n)) = (n ≤ length bytes) × (n ≤ head_limit) × IsHeadText (take n bytes)
+FindsText bytes ended (Ok None) = (bytes ≡ []) × ended
+FindsText bytes ended (Err fault) = HasNoNext bytes ended fault
+
+-- the head at the front of all the bytes and what is left of them, or why there is none
+abbrev pub FindsHead : List ℕ → Type 0 → List ℕ → Result (Option Head) IntakeFault → Type 0
+FindsHead all ended left (Ok (Some head)) = BeginsWith all head left
+FindsHead all ended left (Ok None) = (all ≡ []) × (left ≡ []) × ended
+FindsHead all ended left (Err fault) = (left ≡ all) × HasNoNext all ended fault
+
+-- bytes were read, and with those that were there before they are that
+abbrev pub TakesHead : Option (List ℕ) → Option (List ℕ) → List ℕ → List ℕ → Result (Option Head) IntakeFault → Type 0
+TakesHead old new before left result =
+    (more : List ℕ) × Consumes old new more × FindsHead (before ++ more) (IsAtEnd new) left result

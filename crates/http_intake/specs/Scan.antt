@@ -25,7 +25,7 @@ pub record Scanned (seen : List ℕ) (place : Place) : Type 0 where
   pub open_so_far : HasNoHeadText seen
   pub behind : IsBehind (skip_breaks seen) place
 
--- what is found in a piece behind the bytes that were seen
-abbrev pub FindsEnd : List ℕ → List ℕ → TextEnd → Type 0
-FindsEnd seen piece (Here n) = (n ≤ length piece) × IsHeadText (seen ++ take n piece)
-FindsEnd seen piece (Later place) = Scanned (seen ++ piece) place
+-- the text ends there, or not in these bytes
+abbrev pub FindsEnd : List ℕ → TextEnd → Type 0
+FindsEnd bytes (Here n) = (n ≤ length bytes) × IsHeadText (take n bytes)
+FindsEnd bytes (Later place) = Scanned bytes place

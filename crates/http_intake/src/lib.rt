@@ -3,4 +3,11 @@
 #![tactic(auto)]
 
 mod buffer;
+mod fault;
+mod intake;
+mod next_head;
 mod scan;
+
+pub use fault::IntakeFault;
+pub use intake::Intake;
+pub use rgw_model::{Framing, Head};

@@ -1,5 +1,5 @@
 // Where the text of a head ends.
-ghost use Rattle.std.specs.Prelude.{◌≡◌, ℕ, List};
+ghost use Rattle.std.specs.Prelude.{◌≡◌, ◌≤◌, length, take};
 ghost use Rattle.http_intake.specs.Scan.{after_byte, Scanned, FindsEnd};
 
 /// Where a scan for the empty line behind a head is (RFC 9112, section 2.2).
@@ -15,12 +15,12 @@ pub(crate) enum Place {
     Return,
 }
 
-/// Where the end of the text is, seen from a piece.
+/// Where the end of the text is.
 #[derive(Clone, Copy, Debug, PartialEq, Eq)]
 pub(crate) enum TextEnd {
-    /// It stands behind so many bytes of the piece.
+    /// Behind so many bytes.
     Here(usize),
-    /// It comes later, and the scan is at this place behind the piece.
+    /// Not in these bytes, behind which the scan is at this place.
     Later(Place),
 }
 
@@ -38,14 +38,17 @@ fn step(place: Place, byte: u8) -> Option<Place>
     }
 }
 
-/// Looks for the end of the text in the next piece, from the place behind what was seen before.
-pub(crate) fn scan(place: Place, piece: &[u8]) -> TextEnd
-    ensures { (seen : List ℕ) → Scanned seen place → FindsEnd seen piece.now result }
+/// Looks for the end of the text in the bytes of a connection so far, of which the first were seen
+/// before: the place is the one behind them.
+pub(crate) fn scan(place: Place, bytes: &[u8], seen: usize) -> TextEnd
+    requires within { seen ≤ length bytes.now }
+    requires scanned { Scanned (take seen bytes.now) place }
+    ensures { FindsEnd bytes.now result }
 {
     let mut at = place;
-    for (i, &byte) in piece.iter().enumerate() {
+    for (i, &byte) in bytes[seen..].iter().enumerate() {
         match step(at, byte) {
-            None => return TextEnd::Here(i + 1),
+            None => return TextEnd::Here(seen + i + 1),
             Some(next) => at = next,
         }
     }

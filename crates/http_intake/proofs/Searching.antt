@@ -1,0 +1,53 @@
+-- A search for the end of a head in bytes that come in pieces.
+use Rattle.std.proofs.Common.{◌≡◌, ℕ, ◌<◌, ◌≤◌, min, List, [], ◌++◌, length, take, sym, ap, ◌∙◌, subst, append_assoc, arith}
+use Rattle.std.proofs.lemmas.List.{append-nil, length-append, length-take, nil_from_length, take_all}
+use Rattle.std.proofs.KnownBytes.{Consumes-nil, Consumes-trans}
+use Rattle.std.specs.Prelude.{◌≢◌}
+use Rattle.std.specs.declared.option.Option.{Option}
+use Rattle.rgw_model.specs.Heads.{head_limit, HasNoHeadText}
+use Rattle.rgw_model.specs.Streams.{IsCutHead, IsOversized}
+use Rattle.http_intake.specs.declared.scan.Place.{Place}
+use Rattle.http_intake.specs.declared.scan.Place.TheVariants.{Before}
+use Rattle.http_intake.specs.Reading.{Reads}
+use Rattle.http_intake.specs.Scan.{Scanned}
+use Rattle.http_intake.proofs.ScanSteps.{scanned_none}
+
+-- the bytes so far, of which the first were scanned
+pub record Searches (old new : Option (List ℕ)) (before bytes : List ℕ) (seen : ℕ) (place : Place) (first now : ℕ) : Type 0 where
+  pub read : Reads old new before bytes
+  pub within : seen ≤ length bytes
+  pub few : seen ≤ head_limit
+  pub scanned : Scanned (take seen bytes) place
+  pub later : first ≤ now
+
+pub searches_start : (source : Option (List ℕ)) (bytes : List ℕ) (faults : ℕ) → Searches source source bytes bytes 0 Before faults faults
+searches_start source bytes faults = record {
+  read = ([], Consumes-nil source, sym (append-nil bytes));
+  within = omega arith;
+  few = omega arith;
+  scanned = scanned_none;
+  later = omega arith;
+}
+
+-- one read, and then another
+pub reads_on : (old mid new : Option (List ℕ)) (before bytes next : List ℕ) → Reads old mid before bytes → Reads mid new bytes next → Reads old new before next
+reads_on old mid new before bytes next read more =
+    (read.0 ++ more.0, Consumes-trans old mid new read.0 more.0 read.1 more.1, more.2 ∙ ap (λ l. l ++ more.0) read.2 ∙ append_assoc before read.0 more.0)
+
+-- the input ended
+pub nothing_more : (old new : Option (List ℕ)) (bytes next : List ℕ) → Reads old new bytes next → length next ≡ length bytes → next ≡ bytes
+nothing_more old new bytes next read same =
+    let none : read.0 ≡ [] = nil_from_length read.0 (omega (arith, same, ap length read.2, length-append bytes read.0)) in
+    read.2 ∙ ap (λ l. bytes ++ l) none ∙ append-nil bytes
+
+-- all that a head may have was scanned, and more is there
+pub too_many : (bytes : List ℕ) (n : ℕ) (place : Place) → n ≡ min (length bytes) head_limit → length (take n bytes) < length bytes → Scanned (take n bytes) place → IsOversized bytes
+too_many bytes n place is more scanned =
+    let all : n ≡ head_limit = omega (arith, is, more, length-take n bytes) in
+    (omega (arith, is, more, length-take n bytes), subst (λ m. HasNoHeadText (take m bytes)) all scanned.open_so_far)
+
+-- all that is there was scanned
+pub all_scanned : (bytes : List ℕ) (n : ℕ) (place : Place) → n ≡ min (length bytes) head_limit → length bytes ≤ length (take n bytes) → Scanned (take n bytes) place → IsCutHead bytes
+all_scanned bytes n place is all scanned =
+    let few : length bytes ≤ n = omega (arith, all, length-take n bytes) in
+    (omega (arith, is, few), subst HasNoHeadText (take_all n bytes few) scanned.open_so_far)

@@ -1,0 +1,32 @@
+-- The head at the front of bytes.
+use Rattle.std.proofs.Common.{◌≡◌, ℕ, ◌≤◌, List, ◌++◌, length, take, drop, None, refl, sym, subst, arith, take-append-drop, length-take-le}
+use Rattle.httparse.specs.Grammar.{RequestHead}
+use Rattle.rgw_model.specs.declared.head.Head.{Head}
+use Rattle.rgw_model.specs.declared.reading.HeadFault.{HeadFault}
+use Rattle.rgw_model.specs.declared.reading.HeadFault.TheVariants as Read
+use Rattle.rgw_model.specs.Heads.{head_limit, IsHeadText, IsTree, SaysHead, framing_in, BeginsWithText, BeginsWith}
+use Rattle.rgw_model.specs.Streams.{IsNoHead, IsUnframed}
+use Rattle.http_intake.specs.Faults.{fault_of_head}
+use Rattle.http_intake.specs.Reading.{HasNoNext}
+
+-- the first n bytes are the text of a head, within the limit
+abbrev pub HasText : List ℕ → ℕ → Type 0
+HasText bytes n = (n ≤ length bytes) × (n ≤ head_limit) × IsHeadText (take n bytes)
+
+begins : (bytes : List ℕ) (n : ℕ) → HasText bytes n → BeginsWithText bytes (take n bytes) (drop n bytes)
+begins bytes n found = record {
+  is_text = found.2;
+  fits = omega (arith, found.1, length-take-le n bytes found.0);
+  whole = sym (take-append-drop n bytes);
+}
+
+pub head_there : (bytes : List ℕ) (n : ℕ) (head : Head) → HasText bytes n → SaysHead (take n bytes) head → BeginsWith bytes head (drop n bytes)
+head_there bytes n head found says = (take n bytes, begins bytes n found, says)
+
+pub no_head_there : (bytes : List ℕ) (n : ℕ) (ended : Type 0) (fault : HeadFault) → HasText bytes n
+    → (fault ≡ Read.BadHead → (tree : RequestHead) → ¬ (IsTree (take n bytes) tree))
+    → (fault ≡ Read.BadFraming → (tree : RequestHead) × IsTree (take n bytes) tree × (framing_in tree ≡ None))
+    → HasNoNext bytes ended (fault_of_head fault)
+no_head_there bytes n ended Read.OutOfMemory found bad_head bad_framing = tt
+no_head_there bytes n ended Read.BadHead found bad_head bad_framing = (take n bytes, drop n bytes, begins bytes n found, bad_head refl)
+no_head_there bytes n ended Read.BadFraming found bad_head bad_framing = let tree = bad_framing refl in (take n bytes, drop n bytes, begins bytes n found, tree.0, tree.1, tree.2)

@@ -1,0 +1,12 @@
+use Rattle.std.proofs.Common.{◌+◌, ◌-◌, length}
+use Rattle.rgw_model.specs.Heads.{head_limit}
+use Rattle.http_intake.proofs.Searching.{Searches}
+use Rattle.http_intake.proofs.next_head.find_text.Given as goal
+
+abbrev pub invariant-pieces : goal.invariant-pieces
+invariant-pieces g l =
+    Searches (g.S.Source.left l.initial.source) (g.S.Source.left l.source) l.initial.buffer l.buffer l.seen l.place
+    (g.S.Source.faults l.initial.source) (g.S.Source.faults l.source)
+
+abbrev pub decreases-pieces : goal.decreases-pieces
+decreases-pieces g l = head_limit + 1 - length l.buffer

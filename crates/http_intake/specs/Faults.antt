@@ -1,0 +1,18 @@
+-- Why reading stops.
+use Rattle.std.specs.Prelude.{◌≡◌, ℕ, ◌≤◌, Err}
+use Rattle.std.specs.declared.result.Result.{Result}
+use Rattle.gw_io.specs.Outside.{Rose}
+use Rattle.rgw_model.specs.declared.reading.HeadFault.{HeadFault}
+use Rattle.rgw_model.specs.declared.reading.HeadFault.TheVariants as Head
+use Rattle.http_intake.specs.declared.fault.IntakeFault.{IntakeFault}
+use Rattle.http_intake.specs.declared.fault.IntakeFault.TheVariants as Fault
+
+abbrev pub fault_of_head : HeadFault → IntakeFault
+fault_of_head Head.OutOfMemory = Fault.OutOfMemory
+fault_of_head Head.BadHead = Fault.BadHead
+fault_of_head Head.BadFraming = Fault.BadFraming
+
+-- A source's count of faults does not fall, and reading fails only where it rose.
+pub record CountsFaults {T : Type 0} (before now : ℕ) (result : Result T IntakeFault) : Type 0 where
+  pub later : before ≤ now
+  pub cause : result ≡ Err Fault.ReadFault → Rose before now
