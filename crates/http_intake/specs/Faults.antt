@@ -1,5 +1,5 @@
 -- Why reading stops.
-use Rattle.std.specs.Prelude.{◌≡◌, ℕ, ◌≤◌, Err}
+use Rattle.std.specs.Prelude.{◌≡◌, ◌⊎◌, ℕ, ◌≤◌, Option, Some, Err}
 use Rattle.std.specs.declared.result.Result.{Result}
 use Rattle.gw_io.specs.Outside.{Rose}
 use Rattle.rgw_model.specs.declared.reading.HeadFault.{HeadFault}
@@ -16,3 +16,8 @@ fault_of_head Head.BadFraming = Fault.BadFraming
 pub record CountsFaults {T : Type 0} (before now : ℕ) (result : Result T IntakeFault) : Type 0 where
   pub later : before ≤ now
   pub cause : result ≡ Err Fault.ReadFault → Rose before now
+
+-- The same of an intake that may have failed before: then it answers that fault again.
+pub record HasFaultCause {T : Type 0} (failed : Option IntakeFault) (before now : ℕ) (result : Result T IntakeFault) : Type 0 where
+  pub later : before ≤ now
+  pub cause : result ≡ Err Fault.ReadFault → (failed ≡ Some Fault.ReadFault) ⊎ Rose before now

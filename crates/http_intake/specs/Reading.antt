@@ -1,5 +1,5 @@
--- The next head of a connection, in whatever pieces its bytes come.
-use Rattle.std.specs.Prelude.{◌≡◌, ◌≢◌, ℕ, ◌≤◌, List, [], ◌++◌, length, take, Option, Some, None, Result, Ok, Err}
+-- The next head of a connection and the next bytes of a body, in whatever pieces the bytes come.
+use Rattle.std.specs.Prelude.{◌≡◌, ◌≢◌, ℕ, ◌<◌, ◌≤◌, List, [], ◌++◌, length, take, Option, Some, None, Result, Ok, Err}
 use Rattle.std.specs.Io.KnownBytes.{Consumes, IsAtEnd}
 use Rattle.rgw_model.specs.declared.head.Head.{Head}
 use Rattle.rgw_model.specs.Heads.{head_limit, IsHeadText, BeginsWith}
@@ -38,3 +38,16 @@ FindsHead all ended left (Err fault) = (left ≡ all) × HasNoNext all ended fau
 abbrev pub TakesHead : Option (List ℕ) → Option (List ℕ) → List ℕ → List ℕ → Result (Option Head) IntakeFault → Type 0
 TakesHead old new before left result =
     (more : List ℕ) × Consumes old new more × FindsHead (before ++ more) (IsAtEnd new) left result
+
+-- bytes were read, and with those that were there before they begin with n bytes that stand in out now; or the input ended
+abbrev pub TakesBytes : Option (List ℕ) → Option (List ℕ) → List ℕ → List ℕ → List ℕ → Result ℕ IntakeFault → Type 0
+TakesBytes old new before left out (Ok n) =
+    ((more : List ℕ) × Consumes old new more × (before ++ more ≡ take n out ++ left)) × (n ≤ length out) × (0 < n)
+TakesBytes old new before left out (Err ReadFault) = (left ≡ before) × Consumes old new []
+TakesBytes old new before left out (Err Cut) = (before ≡ []) × (left ≡ before) × Consumes old new [] × IsAtEnd new
+TakesBytes old new before left out (Err OutOfMemory) = ⊥
+TakesBytes old new before left out (Err BadHead) = ⊥
+TakesBytes old new before left out (Err HeadTooLarge) = ⊥
+TakesBytes old new before left out (Err BadFraming) = ⊥
+TakesBytes old new before left out (Err BadChunk) = ⊥
+TakesBytes old new before left out (Err BodyTooLarge) = ⊥

@@ -1,16 +1,31 @@
-ghost use Rattle.std.specs.Prelude.{◌≡◌, IfOk};
+ghost use Rattle.std.specs.Prelude.{◌≡◌, IfOk, Some, None, Err};
+ghost use Rattle.rgw_model.specs.Forms.{content_length};
+ghost use Rattle.http_intake.specs.declared.fault.IntakeFault.{IntakeFault as Fault};
 
-use crate::IntakeFault;
 use crate::buffer::Buffer;
+use crate::next_bytes::take_bytes;
+use crate::next_head::take_head;
+use crate::{Framing, Head, IntakeFault};
+use gw_io::Source;
 use std::alloc::{AllocError, Global};
 use std::marker::Model;
+
+/// How many bytes the body behind a head has; 0 where it is in chunks.
+fn content_length(framing: Framing) -> u64
+    ensures { result ≡ content_length framing }
+{
+    match framing {
+        Framing::Length(count) => count,
+        Framing::Empty | Framing::Chunked => 0,
+    }
+}
 
 /// Reads the requests of one connection from its source: the heads by `next`, the bytes of each body
 /// by `body`. After any fault it answers that fault again, and reads nothing more.
 ///
 /// Contracts see the bytes that were read and not yet given out, how many bytes of the present body
-/// are still to be given, whether that body is in chunks, the fault that it has answered, and how
-/// many bytes the chunks of a body may have together.
+/// are still to be given, whether that body is in chunks, the fault that was answered, and how many
+/// bytes the chunks of a body may have together.
 #[derive(Debug, Drop)]
 pub struct Intake {
     buffer: Buffer,
@@ -35,9 +50,11 @@ impl Model for Intake {
 }
 
 impl Intake {
-    ghost use Rattle.http_intake.specs.Intake.{fresh};
+    ghost use Rattle.http_intake.specs.Intake.{fresh, IsBetween, IsUnchunked, GivesNext, GivesBody};
+    ghost use Rattle.http_intake.specs.Faults.{HasFaultCause};
 
-    /// An intake for a connection of which nothing was read.
+    /// An intake of a connection, before its first byte. The chunks of a body may have `largest`
+    /// bytes together.
     pub fn new(alloc: Global, largest: u64) -> Result<Intake, AllocError>
         ensures { IfOk result (λ intake. intake ≡ fresh largest) }
     {
@@ -48,5 +65,76 @@ impl Intake {
             failed: None,
             largest,
         })
+    }
+
+    /// The next head; none where the input ends between two requests (RFC 9112, sections 2.2 and 3).
+    /// Want of memory is answered like any other fault.
+    pub fn next<S: Source>(
+        &mut self,
+        alloc: Global,
+        source: &mut S,
+    ) -> Result<Option<Head>, IntakeFault>
+        requires { self.old.failed ≡ None → IsBetween self.old }
+
+        // A fault is answered again, and nothing is read.
+        ensures again { (fault : Fault) → self.old.failed ≡ Some fault →
+            (result ≡ Err fault) × (self.new ≡ self.old) × (source.new ≡ source.old) }
+
+        // The bytes that waited and those that were read now begin with this head, or with none for that cause.
+        ensures found { self.old.failed ≡ None →
+            GivesNext (S.left source.old) (S.left source.new) self.old self.new result }
+
+        ensures cause { HasFaultCause self.old.failed (S.faults source.old) (S.faults source.new) result }
+    {
+        if let Some(fault) = self.failed {
+            return Err(fault);
+        }
+        match take_head(alloc, &mut self.buffer, source) {
+            Ok(None) => Ok(None),
+            Ok(Some(head)) => {
+                self.body_left = content_length(head.framing);
+                self.chunked = head.framing == Framing::Chunked;
+                Ok(Some(head))
+            }
+            Err(fault) => {
+                self.failed = Some(fault);
+                Err(fault)
+            }
+        }
+    }
+
+    /// Moves the next bytes of the present body to the front of `out`, and answers their number: at
+    /// least one, unless the body was given whole or `out` is empty. What stands in `out` behind them,
+    /// and after a fault, is left open. Takes no memory.
+    pub fn body<S: Source>(&mut self, source: &mut S, out: &mut [u8]) -> Result<usize, IntakeFault>
+        requires { self.old.failed ≡ None → IsUnchunked self.old }
+
+        // A fault is answered again, and nothing is read.
+        ensures again { (fault : Fault) → self.old.failed ≡ Some fault →
+            (result ≡ Err fault) × (self.new ≡ self.old) × (source.new ≡ source.old) }
+
+        // The bytes that waited and those that were read now begin with the bytes in `out`, unless the input ended.
+        ensures given { self.old.failed ≡ None →
+            GivesBody (S.left source.old) (S.left source.new) self.old self.new out.new result }
+
+        ensures cause { HasFaultCause self.old.failed (S.faults source.old) (S.faults source.new) result }
+    {
+        if let Some(fault) = self.failed {
+            return Err(fault);
+        }
+        let due = self.body_left.min(out.len() as u64) as usize;
+        if due == 0 {
+            return Ok(0);
+        }
+        match take_bytes(&mut self.buffer, source, &mut out[..due]) {
+            Ok(count) => {
+                self.body_left -= count as u64;
+                Ok(count)
+            }
+            Err(fault) => {
+                self.failed = Some(fault);
+                Err(fault)
+            }
+        }
     }
 }

@@ -5,6 +5,7 @@
 mod buffer;
 mod fault;
 mod intake;
+mod next_bytes;
 mod next_head;
 mod scan;
 
