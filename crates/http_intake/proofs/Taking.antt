@@ -1,5 +1,5 @@
 -- The head at the front of bytes.
-use Rattle.std.proofs.Common.{◌≡◌, ℕ, ◌≤◌, List, ◌++◌, length, take, drop, None, refl, sym, subst, arith, take-append-drop, length-take-le}
+use Rattle.std.proofs.Common.{◌≡◌, ℕ, ◌≤◌, List, [], ◌∷◌, ◌++◌, length, take, drop, None, refl, sym, subst, arith, take-append-drop, length-take-le}
 use Rattle.httparse.specs.Grammar.{RequestHead}
 use Rattle.rgw_model.specs.declared.head.Head.{Head}
 use Rattle.rgw_model.specs.declared.reading.HeadFault.{HeadFault}
@@ -30,3 +30,8 @@ pub no_head_there : (bytes : List ℕ) (n : ℕ) (ended : Type 0) (fault : HeadF
 no_head_there bytes n ended Read.OutOfMemory found bad_head bad_framing = tt
 no_head_there bytes n ended Read.BadHead found bad_head bad_framing = (take n bytes, drop n bytes, begins bytes n found, bad_head refl)
 no_head_there bytes n ended Read.BadFraming found bad_head bad_framing = let tree = bad_framing refl in (take n bytes, drop n bytes, begins bytes n found, tree.0, tree.1, tree.2)
+
+-- bytes with none behind them
+pub no_front : (bytes more : List ℕ) → bytes ++ more ≡ [] → bytes ≡ []
+no_front [] more none = refl
+no_front (b ∷ bytes) more none = cc
