@@ -1,6 +1,8 @@
-ghost use Rattle.std.specs.Prelude.{◌≡◌, ◌∷◌, ◌++◌, ◌==◌, [], length, OnOk, OnErr};
+ghost use Rattle.std.specs.Prelude.{◌≡◌, ◌∷◌, ◌++◌, ◌==◌, [], length, OnOk, OnErr, option_copied};
+ghost use Rattle.rgw_model.specs.Framings.{values_of, value_of};
 
 use crate::{Bytes, Text};
+use http1::text::eq_ignore_case;
 use std::alloc::{AllocError, Global};
 use std::marker::Model;
 
@@ -80,5 +82,32 @@ impl Fields {
     {
         self.items.push(field)?;
         Ok(())
+    }
+    /// The value of the last field with this name, whose case does not count (RFC 9110, section
+    /// 5.1).
+    #[tactic(auto, using(crate::proofs::FieldLemmas::value_steps))]
+    pub fn value_of(&self, name: &[u8]) -> Option<&[u8]>
+        ensures { option_copied result ≡ value_of name.now self.now }
+    {
+        let mut last = None;
+        for field in &self.items {
+            if eq_ignore_case(field.name.as_bytes(), name) {
+                last = Some(field.value.as_slice());
+            }
+        }
+        last
+    }
+
+    /// How many fields have this name, whose case does not count.
+    pub fn count_of(&self, name: &[u8]) -> usize
+        ensures { result ≡ length (values_of name.now self.now) }
+    {
+        let mut count = 0;
+        for field in &self.items {
+            if eq_ignore_case(field.name.as_bytes(), name) {
+                count += 1;
+            }
+        }
+        count
     }
 }
