@@ -17,10 +17,11 @@ told_by_plan plan kept k told same is =
     all ∙ ap (first_moments plan) (sym count)
 
 -- without a step each moment is the first
-pub told_without_step : (moment : ℕ) (told : List ℕ) → moment < 2 ^ 64 → told ≡ first_moments (moment_at moment 0) (length told) → All (λ m. m ≡ moment) told
-told_without_step moment told fits all = λ k d below.
+pub told_without_step : (moment step : ℕ) (told : List ℕ) → moment < 2 ^ 64 → step ≡ 0 → told ≡ first_moments (moment_at moment step) (length told) → All (λ m. m ≡ moment) told
+told_without_step moment step told fits none all = λ k d below.
+    let same : told ≡ first_moments (moment_at moment 0) (length told) = all ∙ ap (λ s. first_moments (moment_at moment s) (length told)) none in
     let at : get_or told k d ≡ moment_at moment 0 k =
-    ap (λ xs. get_or xs k d) all ∙ get_or-map-range_with_len (moment_at moment 0) 0 (length told) k k d below (omega arith) in
+    ap (λ xs. get_or xs k d) same ∙ get_or-map-range_with_len (moment_at moment 0) 0 (length told) k k d below (omega arith) in
     at ∙ omega arith
 
 -- one call more

@@ -1,6 +1,7 @@
 -- What the objects in memory are at a moment.
 use Rattle.std.specs.Prelude.{◌≡◌, ℕ, ◌+◌, ◌-◌, ◌*◌, ◌^◌, min, List, All, length, Some}
 use Rattle.std.specs.declared.option.Option.{Option}
+use Rattle.std.specs.Io.KnownBytes.{Appends}
 use Rattle.gw_io.specs.Outside.{first_moments}
 
 -- a `SliceSource`: the bytes that are left, how many a call gives at most, which calls fail, the calls so far and those
@@ -40,12 +41,12 @@ plan_of clock = Some (moment_at clock.first clock.step)
 abbrev pub moments_of : StepState → List ℕ
 moments_of clock = first_moments (moment_at clock.first clock.step) clock.calls
 
--- What a clock of this first moment and step has told, whatever calls were made of it: the moments of its first calls.
-abbrev pub GoesInSteps : ℕ → ℕ → Type 0
-GoesInSteps first step = (clock : StepState) (told : List ℕ) → plan_of clock ≡ Some (moment_at first step) → moments_of clock ≡ told
-    → told ≡ first_moments (moment_at first step) (length told)
+-- Whatever calls were made of a clock that keeps its plan, it told the first moments of the steps.
+abbrev pub TellsSteps : StepState → ℕ → ℕ → Type 0
+TellsSteps clock first step = (later : StepState) (told : List ℕ) → plan_of later ≡ plan_of clock
+    → Appends (Some (moments_of clock)) (Some (moments_of later)) told → told ≡ first_moments (moment_at first step) (length told)
 
--- The same without a step: one moment, again and again.
-abbrev pub StandsStill : ℕ → Type 0
-StandsStill moment = (clock : StepState) (told : List ℕ) → plan_of clock ≡ Some (moment_at moment 0) → moments_of clock ≡ told
-    → All (λ m. m ≡ moment) told
+-- Whatever calls were made of a clock that keeps its plan, it told this one moment.
+abbrev pub TellsOnly : StepState → ℕ → Type 0
+TellsOnly clock moment = (later : StepState) (told : List ℕ) → plan_of later ≡ plan_of clock
+    → Appends (Some (moments_of clock)) (Some (moments_of later)) told → All (λ m. m ≡ moment) told

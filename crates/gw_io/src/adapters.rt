@@ -1,9 +1,9 @@
 // The adapters over std's readers, writers and clock. They are trusted to be what they are over:
 // no contract says what a terminal, a pipe or the system's clock does.
-ghost use Rattle.std.specs.Prelude.{◌≡◌, ◌-◌, ◌/◌, ◌^◌, ◌<◌, IfOk, MatchResult, [], ◌∷◌, OnErr, is_err, if◌then◌else◌, length, min, take};
+ghost use Rattle.std.specs.Prelude.{◌≡◌, ◌-◌, ◌/◌, ◌^◌, ◌<◌, IfOk, MatchResult, [], ◌∷◌, is_err, if◌then◌else◌, length, min};
 ghost use Rattle.std.specs.Duration.{as_nanos};
 ghost use Rattle.std.specs.Io.{ReadsAtMost, WritesAtMost};
-ghost use Rattle.std.specs.Io.KnownBytes.{Appends, Consumes, IsAtEnd, Keeps, ReadConsumes, WriteAppends};
+ghost use Rattle.std.specs.Io.KnownBytes.{Appends, ReadConsumes, WriteAppends};
 ghost use Rattle.gw_io.specs.Outside.{HasCause, IsAsPlanned, raised};
 ghost use Rattle.gw_io.specs.Adapters.{source_reader, source_faults, sink_writer, sink_faults, last_told, moments_told, no_plan};
 
@@ -50,7 +50,7 @@ fn write_retrying<W: Write>(writer: &mut W, bytes: &[u8]) -> io::Result<usize>
 
 /// The bytes of a reader. It tells those that are left where the reader does, and a read that fails
 /// is a fault; a read that a signal interrupts is made again.
-#[derive(Drop)]
+#[derive(Debug, Drop)]
 pub struct ReaderSource<R> {
     inner: R,
     faults: u64,
@@ -98,7 +98,7 @@ impl<R: Read> Source for ReaderSource<R> {
 /// Puts bytes into a writer. It tells those that were taken where the writer does. A write that
 /// fails is a fault, and so is one that takes nothing of a piece that is not empty; a write that a
 /// signal interrupts is made again.
-#[derive(Drop)]
+#[derive(Debug, Drop)]
 pub struct WriterSink<W> {
     inner: W,
     faults: u64,
@@ -160,7 +160,7 @@ pub fn standard_output<P: Print>(rt: &P) -> WriterSink<Printer<'_, P>>
 
 /// The system's clock. Where it cannot be read, or stands before 1970, it tells the last moment
 /// again, 0 before the first.
-#[derive(Drop)]
+#[derive(Debug, Drop)]
 pub struct SystemClock<R> {
     rt: R,
     last: u64,

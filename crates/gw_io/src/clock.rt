@@ -1,7 +1,7 @@
 // A clock in memory.
 ghost use Rattle.std.specs.Prelude.{◌≡◌, ◌+◌, [], ◌∷◌, Some};
 ghost use Rattle.std.specs.Io.KnownBytes.{Appends};
-ghost use Rattle.gw_io.specs.Memory.{GoesInSteps, StandsStill, moment_at, moments_of, plan_of};
+ghost use Rattle.gw_io.specs.Memory.{TellsOnly, TellsSteps, moment_at, moments_of, plan_of};
 ghost use Rattle.gw_io.specs.Outside.{IsAsPlanned};
 
 use crate::Clock;
@@ -9,7 +9,7 @@ use crate::trace::Trace;
 use std::marker::Model;
 
 /// Tells moments at equal distances.
-#[derive(Drop)]
+#[derive(Debug, Drop)]
 pub struct StepClock {
     first: u64,
     step: u64,
@@ -39,9 +39,9 @@ impl StepClock {
     pub fn new(first: u64, step: u64) -> Self
         ensures fresh { result ≡ record { first = first; step = step; calls = 0 } }
 
-        // So a caller knows what was told after calls that it did not see.
-        ensures steps { GoesInSteps first step }
-        ensures still { step ≡ 0 → StandsStill first }
+        // What is told in calls that a caller does not see.
+        ensures steps { TellsSteps result first step }
+        ensures still { step ≡ 0 → TellsOnly result first }
     {
         StepClock {
             first,

@@ -11,7 +11,7 @@ use std::marker::Model;
 
 /// Counts the bytes that it takes and keeps no other trace of them, so it needs no memory and never
 /// fails. Contracts see the bytes all the same.
-#[derive(Drop)]
+#[derive(Debug, Drop)]
 pub struct CountingSink {
     count: u64,
     taken: Trace,
@@ -44,6 +44,16 @@ impl CountingSink {
         ensures { result ≡ min (length self.now) (2 ^ 64 - 1) }
     {
         self.count
+    }
+}
+
+impl Default for CountingSink {
+    ghost use Rattle.std.specs.Prelude.{◌≡◌, []};
+
+    ghost is_default = { λ s. s ≡ [] };
+
+    fn default() -> Self {
+        CountingSink::new()
     }
 }
 

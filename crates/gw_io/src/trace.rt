@@ -6,7 +6,7 @@ use std::marker::Model;
 
 /// Numbers in the order in which they came. It takes no memory, and its calls do nothing when the
 /// program runs. A clause reads them as `numbers`.
-#[derive(Drop)]
+#[derive(Debug, Drop)]
 pub(crate) struct Trace {
     pub ghost numbers: { List ℕ },
 }
