@@ -2,3 +2,4 @@ pub mod ScanSteps
 pub mod Held
 pub mod Searching
 pub mod Taking
+pub mod Client
