@@ -3,3 +3,4 @@ pub mod Held
 pub mod Searching
 pub mod Taking
 pub mod Client
+pub mod Planned
