@@ -1,5 +1,5 @@
 -- What a reader of requests is at a moment, and what its calls do.
-use Rattle.std.specs.Prelude.{◌≡◌, ℕ, ◌+◌, ◌<◌, ◌≤◌, Bool, true, false, List, [], ◌++◌, length, take, Option, Some, None, Result, Ok, Err}
+use Rattle.std.specs.Prelude.{◌≡◌, ℕ, ◌+◌, ◌<◌, ◌≤◌, min, Bool, true, false, List, [], ◌++◌, length, take, Option, Some, None, Result, Ok, Err}
 use Rattle.std.specs.Io.KnownBytes.{Consumes, IsAtEnd}
 use Rattle.rgw_model.specs.declared.head.Framing.{Framing}
 use Rattle.rgw_model.specs.declared.head.Framing.TheVariants.{Empty, Length, Chunked}
@@ -67,7 +67,7 @@ pub record GivesBytes (before after : Option (List ℕ)) (old new : IntakeState)
   pub bytes : old.buffer ++ more ≡ take n out ++ new.buffer
   pub fits : n ≤ length out
   pub due : n + new.body_left ≡ old.body_left
-  pub some : 0 < old.body_left → 0 < length out → 0 < n
+  pub none : n ≡ 0 → min old.body_left (length out) ≡ 0
   pub chunked : new.chunked ≡ old.chunked
   pub failed : new.failed ≡ None
   pub largest : new.largest ≡ old.largest

@@ -12,3 +12,6 @@ mod scan;
 pub use fault::IntakeFault;
 pub use intake::Intake;
 pub use rgw_model::{Framing, Head};
+
+#[cfg(test)]
+mod tests;
