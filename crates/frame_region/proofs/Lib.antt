@@ -1,0 +1,3 @@
+pub mod Overwrites
+pub mod Contents
+pub mod JoinedPieces

@@ -1,0 +1,6 @@
+//! Frames of one size in a fixed block, which are taken and given back in runs.
+#![tactic(auto)]
+
+mod cells;
+
+pub use std::alloc::AllocError as OutOfMemory;
