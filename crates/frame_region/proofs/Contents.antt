@@ -1,11 +1,11 @@
 -- The bytes of one cell after a write among those of all cells.
-use Rattle.std.proofs.Common.{◌≡◌, ◌≢◌, ℕ, ◌+◌, ◌*◌, ◌≤◌, ◌<◌, List, length, take, drop, arith, inl, inr, ap, rules, length-drop, length-take}
-use Rattle.std.proofs.lemmas.List.{length-take-le}
+use Rattle.std.proofs.Common.{◌≡◌, ◌≢◌, ℕ, ◌+◌, ◌*◌, ◌≤◌, ◌<◌, List, length, take, drop, replicate, arith, inl, inr, ap, length-drop}
+use Rattle.std.proofs.lemmas.List.{length-take-le, length-replicate}
 use Rattle.std.proofs.lemmas.Nat.{row_fits}
 use Rattle.std.proofs.lemmas.Bool.{cases_order}
 use Rattle.frame_region.specs.Region.{overwritten}
 use Rattle.frame_region.specs.Cells.{content}
-use Rattle.frame_region.proofs.Overwrites.{take-drop-part, take-drop-overwritten_before, drop-overwritten_behind, take-drop-overwritten_inside}
+use Rattle.frame_region.proofs.Overwrites.{overwritten_all, take-drop-part, take-drop-overwritten_before, drop-overwritten_behind, take-drop-overwritten_inside}
 
 module _ (frame count : ℕ) (bytes : List ℕ) (filled : length bytes ≡ count * frame) (cell : ℕ) (here : cell < count) where
   pub length-content : length (content frame bytes cell) ≡ frame
@@ -38,3 +38,14 @@ module _ (frame count : ℕ) (bytes : List ℕ) (filled : length bytes ≡ count
   take-drop-content offset size fits =
       let row = row_fits cell frame count frame here (omega arith) in
       take-drop-part bytes (cell * frame) frame offset size fits (omega arith)
+
+  pub content_cleared : content frame (overwritten bytes (cell * frame) (replicate frame 0)) cell ≡ replicate frame 0
+  content_cleared =
+      let start : cell * frame ≡ cell * frame + 0 = omega arith in
+      rw (start, content-overwritten_same 0 (replicate frame 0) (omega (arith, length-replicate {A = ℕ} frame 0)))
+      (overwritten_all (content frame bytes cell) (replicate frame 0) (omega (arith, length-replicate {A = ℕ} frame 0, length-content)))
+
+  pub content_beside_cleared : (other : ℕ) → other ≢ cell → content frame (overwritten bytes (cell * frame) (replicate frame 0)) other ≡ content frame bytes other
+  content_beside_cleared other apart =
+      let start : cell * frame ≡ cell * frame + 0 = omega arith in
+      rw start (content-overwritten_other 0 (replicate frame 0) (omega (arith, length-replicate {A = ℕ} frame 0)) other apart)

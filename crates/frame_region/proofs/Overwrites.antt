@@ -1,7 +1,6 @@
 -- What is written over a part of a list, read at another part.
-use Rattle.std.proofs.Common.{◌≡◌, ℕ, ◌+◌, ◌-◌, ◌≤◌, ◌<◌, ◌⊎◌, List, [], ◌++◌, length, get_or, take, drop, arith, rules, length-append, length-take, length-drop, sym, ◌∙◌, ap}
-use Rattle.std.proofs.lemmas.List.{same_lists, places, drop-append-le, take-append-le, drop-drop, drop_at}
-use Rattle.std.proofs.lemmas.Bool.{cases_lt}
+use Rattle.std.proofs.Common.{◌≡◌, ℕ, ◌+◌, ◌≤◌, List, [], ◌++◌, length, take, drop, arith, rules, length-drop, sym, ◌∙◌, ap, add-zero}
+use Rattle.std.proofs.lemmas.List.{same_lists, places, drop-append-le, take-append-le, drop-drop, drop_at, take-append-drop}
 use Rattle.frame_region.specs.Region.{overwritten}
 
 -- parts of a part, and of two lists joined
@@ -44,4 +43,11 @@ overwritten-append_right front bytes start written within =
 -- two pieces, one behind the other
 pub overwritten-overwritten : (bytes : List ℕ) (start : ℕ) (written more : List ℕ) → start + length written + length more ≤ length bytes → overwritten (overwritten bytes start written) (start + length written) more ≡ overwritten bytes start (written ++ more)
 overwritten-overwritten bytes start written more within =
+    same_lists _ _ (search (rules, places)) (λ k d h. grind (arith, places))
+
+pub overwritten_none : (bytes : List ℕ) (start : ℕ) → overwritten bytes start [] ≡ bytes
+overwritten_none bytes start = rw add-zero (take-append-drop start bytes)
+
+pub overwritten_all : (bytes written : List ℕ) → length written ≡ length bytes → overwritten bytes 0 written ≡ written
+overwritten_all bytes written whole =
     same_lists _ _ (search (rules, places)) (λ k d h. grind (arith, places))

@@ -10,6 +10,8 @@ pub struct Cells {
     pub links: Vec<u32>,
     pub bytes: Vec<u8>,
     ghost filled: { length bytes.items ≡ length links.items * frame },
+    ghost not_empty: { 0 < frame },
+    ghost limited: { frame ≤ 65536 },
 }
 
 // The numbers from 1 on, by which each of `count` cells is linked to the one behind it.
@@ -43,7 +45,9 @@ fn clear_part(bytes: &mut [u8], start: usize, count: usize)
 impl Cells {
     /// `count` cells of `frame` bytes, each byte 0, and each cell linked to the next.
     pub fn new(alloc: Global, count: u32, frame: u32) -> Result<Self, AllocError>
-        requires { count * frame < 2 ^ 63 }
+        requires count { count ≤ 4194304 }
+        requires not_empty { 0 < frame }
+        requires limited { frame ≤ 65536 }
         ensures frame { IfOk result (λ cells. cells.frame ≡ frame) }
         ensures len { IfOk result (λ cells. length cells.links.items ≡ count) }
         ensures links { IfOk result (λ cells. (i : ℕ) → i < count → slice_index cells.links.items i ≡ i + 1) }

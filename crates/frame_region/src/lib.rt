@@ -2,5 +2,8 @@
 #![tactic(auto)]
 
 mod cells;
+mod lines;
+mod run;
 
+pub use run::FrameRun;
 pub use std::alloc::AllocError as OutOfMemory;
