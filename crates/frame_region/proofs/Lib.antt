@@ -4,3 +4,10 @@ pub mod JoinedPieces
 pub mod LineLemmas
 pub mod Places
 pub mod Transfers
+pub mod Chains
+pub mod Runs
+pub mod Taking
+pub mod Giving
+pub mod Owned
+pub mod Start
+pub mod Views

@@ -1,5 +1,5 @@
 -- What a contract sees of a region and of its runs.
-use Rattle.std.specs.Prelude.{◌≡◌, ℕ, ◌+◌, ◌*◌, ◌/◌, ◌≤◌, List, [], ◌++◌, length, take, drop, sum_by, Option, None, unwrap_or, slice_index_or}
+use Rattle.std.specs.Prelude.{◌≡◌, ℕ, ◌+◌, ◌*◌, ◌/◌, ◌≤◌, List, [], ◌++◌, length, take, drop, sum_by, Option, None, unwrap_or, slice_index_or, slice_set}
 
 -- a run of frames: the number of its first frame, by which it is known, and how many frames it has
 pub record Run : Type 0 where
@@ -56,3 +56,7 @@ used region = sum_by (frames_at region.frame) region.runs
 -- the free frames and those in runs are all frames
 abbrev pub HasFrameSum : RegionView → Type 0
 HasFrameSum region = region.free + used region ≡ region.frames
+
+-- the region with this at the place of a run, and so many free frames
+abbrev pub with_run : RegionView → Run → Option (List ℕ) → ℕ → RegionView
+with_run region run place free = record region { free = free; runs = slice_set region.runs run.first place }

@@ -12,6 +12,7 @@ pub struct Cells {
     ghost filled: { length bytes.items ≡ length links.items * frame },
     ghost not_empty: { 0 < frame },
     ghost limited: { frame ≤ 65536 },
+    ghost numbered: { length links.items ≤ 4194304 },
 }
 
 // The numbers from 1 on, by which each of `count` cells is linked to the one behind it.

@@ -3,7 +3,9 @@
 
 mod cells;
 mod lines;
+mod region;
 mod run;
 
+pub use region::{NoFrames, Region};
 pub use run::FrameRun;
 pub use std::alloc::AllocError as OutOfMemory;

@@ -1,0 +1,43 @@
+-- What a change of one run's place leaves to the other runs.
+use Rattle.std.proofs.Common.{◌≡◌, ◌≢◌, ℕ, ◌+◌, ◌-◌, ◌*◌, ◌≤◌, ◌<◌, List, [], length, set, get_or, Option, Some, None, unwrap_or, arith, inl, inr, refl, sym, ◌∙◌, ap}
+use native.Mathlib.Nat.{mul-pos}
+use Rattle.std.proofs.lemmas.Bool.{cases_eq, cases_lt}
+use Rattle.std.proofs.lemmas.List.{get_or-set_same, get_or-set_other, set_past, get_or_past}
+use Rattle.frame_region.specs.Region.{RegionView, Run, Owns, Apart, Keeps, AddsRun, KeepsOthers, bytes_of, with_run}
+
+module _ (region : RegionView) (numbered : length region.runs ≡ region.frames) (run : Run) (place : Option (List ℕ)) (free : ℕ) where
+  bytes_elsewhere : (other : Run) → other.first ≢ run.first → bytes_of (with_run region run place free) other ≡ bytes_of region other
+  bytes_elsewhere other apart =
+      ap (λ o. unwrap_or o []) (get_or-set_other region.runs run.first other.first place None apart)
+
+  pub bytes_here : (bytes : List ℕ) → place ≡ Some bytes → run.first < region.frames → bytes_of (with_run region run place free) run ≡ bytes
+  bytes_here bytes is within =
+      ap (λ o. unwrap_or o []) (get_or-set_same region.runs run.first place None (omega arith) ∙ is)
+
+  pub KeepsOthers-with_run : KeepsOthers region (with_run region run place free) run
+  KeepsOthers-with_run other others apart =
+      let same : bytes_of (with_run region run place free) other ≡ bytes_of region other =
+      elim (cases_eq other.first run.first) [
+        | inl at ↦
+            let none : other.count ≡ 0 = omega (arith, apart (sym at)) in
+            let past = others.begins none in
+            ap (λ (runs : List (Option (List ℕ))). unwrap_or (get_or runs other.first None) []) (set_past region.runs run.first place (omega arith))
+        | inr off ↦ bytes_elsewhere other off
+      ] in
+      record { owned = record { length_of = ap length same ∙ others.length_of; begins = others.begins }; bytes = same }
+
+  pub AddsRun-with_run : 0 < region.frame → get_or region.runs run.first None ≡ None → (0 < run.count → run.first < region.frames) → AddsRun region (with_run region run place free) run
+  AddsRun-with_run positive new within other others =
+      let apart : Apart run other = λ same.
+      let other_none : other.count ≡ 0 =
+      elim (cases_lt 0 other.count) [
+        | inl some ↦
+            let nothing : length (bytes_of region other) ≡ 0 = rw (← same) (ap (λ o. length (unwrap_or o [])) new) in
+            absurd (omega (arith, others.length_of, mul-pos some positive))
+        | inr none ↦ omega arith
+      ] in
+      elim (cases_lt 0 run.count) [
+        | inl some ↦ absurd (omega (arith, within some, others.begins other_none))
+        | inr none ↦ omega arith
+      ] in
+      (apart, KeepsOthers-with_run other others apart)
