@@ -11,3 +11,4 @@ pub mod Giving
 pub mod Owned
 pub mod Start
 pub mod Views
+pub mod Written

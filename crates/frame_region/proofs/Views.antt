@@ -1,9 +1,28 @@
 -- What a change of one run's place leaves to the other runs.
-use Rattle.std.proofs.Common.{◌≡◌, ◌≢◌, ℕ, ◌+◌, ◌-◌, ◌*◌, ◌≤◌, ◌<◌, List, [], length, set, get_or, Option, Some, None, unwrap_or, arith, inl, inr, refl, sym, ◌∙◌, ap}
+use Rattle.std.proofs.Common.{◌≡◌, ◌≢◌, ℕ, ◌+◌, ◌-◌, ◌*◌, ◌≤◌, ◌<◌, List, [], length, set, get_or, Option, Some, None, unwrap_or, arith, inl, inr, refl, sym, subst, ◌∙◌, ap}
 use native.Mathlib.Nat.{mul-pos}
 use Rattle.std.proofs.lemmas.Bool.{cases_eq, cases_lt}
 use Rattle.std.proofs.lemmas.List.{get_or-set_same, get_or-set_other, set_past, get_or_past}
+use Rattle.frame_region.specs.Cells.{bytes_along}
+use Rattle.frame_region.specs.Links.{runs_of, IsSound}
 use Rattle.frame_region.specs.Region.{RegionView, Run, Owns, Apart, Keeps, AddsRun, KeepsOthers, bytes_of, with_run}
+use Rattle.frame_region.proofs.Owned.{IsOut, IsOut-from_owned, bytes_out}
+
+-- regions that agree in each part
+pub same_view : (a b : RegionView) → a.frame ≡ b.frame → a.frames ≡ b.frames → a.free ≡ b.free → a.runs ≡ b.runs → a ≡ b
+same_view a b frame frames free runs = λ i. record { frame = frame i; frames = frames i; free = free i; runs = runs i }
+
+-- the region that cells show
+abbrev pub view_of : ℕ → List ℕ → List ℕ → ℕ → ℕ → RegionView
+view_of frame links bytes first_free free =
+    record { frame = frame; frames = length links; free = free; runs = runs_of frame links bytes first_free }
+
+-- a run of the region among the cells
+pub owned_out : (frame : ℕ) (links bytes : List ℕ) (first_free free : ℕ) → IsSound frame links bytes first_free free → 0 < frame → length bytes ≡ length links * frame → (region : RegionView) (run : Run) → view_of frame links bytes first_free free ≡ region → Owns region run → IsOut links first_free run.first run.count × (bytes_of region run ≡ bytes_along frame links bytes run.first run.count)
+owned_out frame links bytes first_free free sound positive filled region run is owned =
+    let here : Owns (view_of frame links bytes first_free free) run = subst (λ r. Owns r run) (sym is) owned in
+    let out = IsOut-from_owned frame links bytes first_free free sound positive filled run.first run.count here.length_of here.begins in
+    (out, rw (← is) (bytes_out frame links bytes first_free free sound positive filled run.first run.count out))
 
 module _ (region : RegionView) (numbered : length region.runs ≡ region.frames) (run : Run) (place : Option (List ℕ)) (free : ℕ) where
   bytes_elsewhere : (other : Run) → other.first ≢ run.first → bytes_of (with_run region run place free) other ≡ bytes_of region other

@@ -118,13 +118,13 @@ impl Region {
         ensures sum { HasFrameSum self.new }
     {
         let FrameRun { first, count } = run;
+        self.free += count;
         if count == 0 {
             return;
         }
         let last = self.cells.cell_after(first, u64::from(count - 1));
         self.cells.set_link(last, self.first_free);
         self.first_free = first;
-        self.free += count;
     }
 
     /// Copies bytes of a run, from `start` on, until `out` is full.
