@@ -12,3 +12,5 @@ pub mod Owned
 pub mod Start
 pub mod Views
 pub mod Written
+pub mod Taken
+pub mod Given

@@ -114,7 +114,7 @@ module _ (frame : ℕ) (links bytes : List ℕ) (first_free free : ℕ) (sound :
     chain_after cell count begun chain =
         IsChain-set links last none cell count (λ i h e. off_line cell count begun chain i (n - 1) h (omega arith) (sym e)) chain
 
-    short : n ≤ length links
+    pub short : n ≤ length links
     short = omega (arith, sound.sum)
 
     chains' : (cell : ℕ) → Begins links' next cell → (count : ℕ) × (count ≤ length links') × IsChain links' cell count
@@ -146,7 +146,7 @@ module _ (frame : ℕ) (links bytes : List ℕ) (first_free free : ℕ) (sound :
           let kept = sound.chains cell begun in
           (kept.0, kept.1, kept.2, chain_after cell kept.0 begun kept.2, bytes_kept cell kept.0 begun kept.2)))
 
-    none_before : get_or (runs_of frame links bytes first_free) first_free None ≡ None
+    pub none_before : get_or (runs_of frame links bytes first_free) first_free None ≡ None
     none_before =
         get_or-runs_of frame links bytes first_free first_free None head_within
         ∙ run_at_none frame links bytes first_free first_free head_within (λ b. b.taken refl)
