@@ -91,6 +91,8 @@ impl Region {
         ensures others { IfOk result (λ run. AddsRun self.old self.new run) }
         ensures after { IfOk result (λ run. self.new ≡ with_run self.old run (Some (replicate (n * self.old.frame) 0)) (self.old.free - n)) }
         ensures sum { HasFrameSum self.new }
+        ensures frame { self.new.frame ≡ self.old.frame }
+        ensures frames { self.new.frames ≡ self.old.frames }
     {
         if self.free < n {
             return Err(NoFrames { free: self.free });
@@ -116,6 +118,8 @@ impl Region {
         ensures others { KeepsOthers self.old self.new run }
         ensures after { self.new ≡ with_run self.old run None (self.old.free + run.count) }
         ensures sum { HasFrameSum self.new }
+        ensures frame { self.new.frame ≡ self.old.frame }
+        ensures frames { self.new.frames ≡ self.old.frames }
     {
         let FrameRun { first, count } = run;
         self.free += count;
@@ -148,6 +152,8 @@ impl Region {
         ensures others { KeepsOthers self.old self.new run.now }
         ensures after { self.new ≡ with_run self.old run.now (Some (overwritten (bytes_of self.old run.now) start bytes.now)) self.old.free }
         ensures sum { HasFrameSum self.new }
+        ensures frame { self.new.frame ≡ self.old.frame }
+        ensures frames { self.new.frames ≡ self.old.frames }
     {
         self.cells.write_run(run, start as usize, bytes);
     }

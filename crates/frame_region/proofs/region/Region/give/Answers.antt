@@ -22,6 +22,8 @@ returns-then-count-eq0 c =
       others = subst (KeepsOthers c.args.self.now _) c.run.view_is given.others;
       after = given.after ∙ ap (λ (v : Run). with_run c.args.self.now v None (c.args.self.now.free + v.count)) c.run.view_is;
       sum = given.sum;
+      frame = search rules;
+      frames = search rules;
     }
 
 pub cell_after-last-requires : goal.cell_after-last-requires
@@ -64,4 +66,6 @@ returns c =
       others = subst (KeepsOthers c.args.self.now _) c.run.view_is given.others;
       after = given.after ∙ ap (λ (v : Run). with_run c.args.self.now v None (c.args.self.now.free + v.count)) c.run.view_is;
       sum = given.sum;
+      frame = search rules;
+      frames = search rules;
     }

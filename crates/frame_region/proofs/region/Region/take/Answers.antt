@@ -18,6 +18,8 @@ returns-then-n-eq0 c =
       others = taken.others;
       after = taken.after;
       sum = taken.sum;
+      frame = search rules;
+      frames = search rules;
     }
 
 pub clear_line-last-requires-clause-line : goal.clear_line-last-requires-clause-line
@@ -45,4 +47,6 @@ returns c =
       others = taken.others;
       after = taken.after;
       sum = taken.sum;
+      frame = search rules;
+      frames = search rules;
     }
