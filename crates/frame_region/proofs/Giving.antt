@@ -99,7 +99,7 @@ module _ (frame : ℕ) (links bytes : List ℕ) (first_free free : ℕ) (sound :
   chain_after cell length apart begun along =
       IsChain-set links last first_free cell length (off_line cell length apart begun along) along
 
-  chains' : (cell : ℕ) → Begins links' first cell → (length_of : ℕ) × (length_of ≤ length links') × IsChain links' cell length_of
+  chains' : (cell : ℕ) → Begins links' first cell → (more : ℕ) × (more ≤ length links') × IsChain links' cell more
   chains' cell begun =
       let old = begins_before cell begun in
       let kept = sound.chains cell old in

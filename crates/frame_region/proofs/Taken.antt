@@ -58,7 +58,7 @@ module _ (old mid new : Cells) (first_free free : ℕ) (sound : IsSound old.fram
       same_view seen (with_run region run (Some zero) (region.free - n)) same_frame (ap length links ∙ length-set old.links.items _ none ∙ ap (λ (r : RegionView). r.frames) is) (ap (λ (r : RegionView). r.free - n) is) runs in
       let bytes : bytes_of seen run ≡ zero = ap (λ r. bytes_of r run) after_take ∙ bytes_here region numbered run (Some zero) (region.free - n) zero refl within in
       record {
-        owned = record { length_of = ap length bytes ∙ length-replicate (n * region.frame) 0 ∙ ap (λ f. n * f) (sym same_frame); begins = λ none. absurd (omega arith) };
+        owned = record { sized = ap length bytes ∙ length-replicate (n * region.frame) 0 ∙ ap (λ f. n * f) (sym same_frame); placed = λ none. absurd (omega arith) };
         zero = bytes;
         others = subst (λ r. AddsRun region r run) (sym after_take) (AddsRun-with_run region numbered run (Some zero) (region.free - n) positive nothing (λ _. within));
         after = after_take;
@@ -79,7 +79,7 @@ HasTaken-none old first_free free sound region is first n past none_taken =
     let after_take : region ≡ with_run region run (Some zero) (region.free - n) =
     same_view region (with_run region run (Some zero) (region.free - n)) refl refl free (sym (set_past region.runs first (Some zero) (omega arith))) in
     record {
-      owned = record { length_of = ap (λ o. length (unwrap_or o [])) nothing ∙ (let none : 0 ≡ 0 * region.frame = omega arith in none); begins = λ _. behind };
+      owned = record { sized = ap (λ o. length (unwrap_or o [])) nothing ∙ (let none : 0 ≡ 0 * region.frame = omega arith in none); placed = λ _. behind };
       zero = ap (λ o. unwrap_or o []) nothing ∙ ap (λ m. replicate m 0) none_long;
       others = subst (λ r. AddsRun region r run) (sym after_take) (AddsRun-with_run region numbered run (Some zero) (region.free - n) positive nothing (λ some. absurd (omega arith)));
       after = after_take;

@@ -21,7 +21,7 @@ view_of frame links bytes first_free free =
 pub owned_out : (frame : ℕ) (links bytes : List ℕ) (first_free free : ℕ) → IsSound frame links bytes first_free free → 0 < frame → length bytes ≡ length links * frame → (region : RegionView) (run : Run) → view_of frame links bytes first_free free ≡ region → Owns region run → IsOut links first_free run.first run.count × (bytes_of region run ≡ bytes_along frame links bytes run.first run.count)
 owned_out frame links bytes first_free free sound positive filled region run is owned =
     let here : Owns (view_of frame links bytes first_free free) run = subst (λ r. Owns r run) (sym is) owned in
-    let out = IsOut-from_owned frame links bytes first_free free sound positive filled run.first run.count here.length_of here.begins in
+    let out = IsOut-from_owned frame links bytes first_free free sound positive filled run.first run.count here.sized here.placed in
     (out, rw (← is) (bytes_out frame links bytes first_free free sound positive filled run.first run.count out))
 
 module _ (region : RegionView) (numbered : length region.runs ≡ region.frames) (run : Run) (place : Option (List ℕ)) (free : ℕ) where
@@ -39,11 +39,11 @@ module _ (region : RegionView) (numbered : length region.runs ≡ region.frames)
       elim (cases_eq other.first run.first) [
         | inl at ↦
             let none : other.count ≡ 0 = omega (arith, apart (sym at)) in
-            let past = others.begins none in
+            let past = others.placed none in
             ap (λ (runs : List (Option (List ℕ))). unwrap_or (get_or runs other.first None) []) (set_past region.runs run.first place (omega arith))
         | inr off ↦ bytes_elsewhere other off
       ] in
-      record { owned = record { length_of = ap length same ∙ others.length_of; begins = others.begins }; bytes = same }
+      record { owned = record { sized = ap length same ∙ others.sized; placed = others.placed }; bytes = same }
 
   pub AddsRun-with_run : 0 < region.frame → get_or region.runs run.first None ≡ None → (0 < run.count → run.first < region.frames) → AddsRun region (with_run region run place free) run
   AddsRun-with_run positive new within other others =
@@ -52,11 +52,11 @@ module _ (region : RegionView) (numbered : length region.runs ≡ region.frames)
       elim (cases_lt 0 other.count) [
         | inl some ↦
             let nothing : length (bytes_of region other) ≡ 0 = rw (← same) (ap (λ o. length (unwrap_or o [])) new) in
-            absurd (omega (arith, others.length_of, mul-pos some positive))
+            absurd (omega (arith, others.sized, mul-pos some positive))
         | inr none ↦ omega arith
       ] in
       elim (cases_lt 0 run.count) [
-        | inl some ↦ absurd (omega (arith, within some, others.begins other_none))
+        | inl some ↦ absurd (omega (arith, within some, others.placed other_none))
         | inr none ↦ omega arith
       ] in
       (apart, KeepsOthers-with_run other others apart)

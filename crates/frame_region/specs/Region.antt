@@ -21,8 +21,8 @@ bytes_of region run = unwrap_or (slice_index_or region.runs run.first None) []
 -- the run is this region's: it is out, with as many bytes as its frames have. A run without frames
 -- begins past the last one
 pub record Owns (region : RegionView) (run : Run) : Type 0 where
-  pub length_of : length (bytes_of region run) ≡ run.count * region.frame
-  pub begins : run.count ≡ 0 → region.frames ≤ run.first
+  pub sized : length (bytes_of region run) ≡ run.count * region.frame
+  pub placed : run.count ≡ 0 → region.frames ≤ run.first
 
 -- no frame is in both runs: only runs without frames begin at one place
 abbrev pub Apart : Run → Run → Type 0
