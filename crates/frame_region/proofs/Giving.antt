@@ -108,15 +108,15 @@ module _ (frame : ℕ) (links bytes : List ℕ) (first_free free : ℕ) (sound :
   bytes_kept : (cell length : ℕ) → cell ≢ first → Begins links first_free cell → IsChain links cell length → bytes_along frame links' bytes cell length ≡ bytes_along frame links bytes cell length
   bytes_kept cell length apart begun along =
       joined_same (λ i. content frame bytes (after links' cell i)) (λ i. content frame bytes (after links cell i)) length (λ i h.
-        ap (content frame bytes) (after-set links last first_free cell length (off_line cell length apart begun along) i (omega arith)))
+      ap (content frame bytes) (after-set links last first_free cell length (off_line cell length apart begun along) i (omega arith)))
 
   pub runs_given : runs_of frame links' bytes first ≡ set (runs_of frame links bytes first_free) first None
   runs_given =
       runs_of-set frame links bytes links' bytes first_free first first None size
       (λ _. run_at_none frame links' bytes first first (omega (arith, size, out.within)) (λ b. b.taken refl))
       (λ cell within apart. run_at_same frame links bytes links' bytes first_free first cell within size (begins_after cell apart) (begins_before cell) (λ begun.
-        let kept = sound.chains cell begun in
-        (kept.0, kept.1, kept.2, chain_after cell kept.0 apart begun kept.2, bytes_kept cell kept.0 apart begun kept.2)))
+      let kept = sound.chains cell begun in
+      (kept.0, kept.1, kept.2, chain_after cell kept.0 apart begun kept.2, bytes_kept cell kept.0 apart begun kept.2)))
 
   run_before : get_or (runs_of frame links bytes first_free) first None ≡ Some (bytes_along frame links bytes first count)
   run_before =

@@ -79,12 +79,12 @@ module _ (frame : ℕ) (links bytes : List ℕ) (first_free free : ℕ) (sound :
       runs_written =
           runs_of-set frame links bytes links bytes' first_free first_free first (Some (bytes_along frame links bytes' first count)) refl
           (λ within.
-            let some : 0 < count = elim (cases_lt 0 count) [ inl some ↦ some | inr none ↦ absurd (omega (arith, out.none (omega arith))) ] in
-            let run = out.some some in
-            run_at_begun frame links bytes' first_free first count run.0 run.1 run.2)
+          let some : 0 < count = elim (cases_lt 0 count) [ inl some ↦ some | inr none ↦ absurd (omega (arith, out.none (omega arith))) ] in
+          let run = out.some some in
+          run_at_begun frame links bytes' first_free first count run.0 run.1 run.2)
           (λ cell within apart. run_at_same frame links bytes links bytes' first_free first_free cell within refl (λ b. b) (λ b. b) (λ begun.
-            let kept = sound.chains cell begun in
-            (kept.0, kept.1, kept.2, kept.2, joined_same (λ i. content frame bytes' (after links cell i)) (λ i. content frame bytes (after links cell i)) kept.0 (λ i h. beside (after links cell i) (λ j k. elsewhere cell kept.0 apart begun kept.2 i j h k)))))
+          let kept = sound.chains cell begun in
+          (kept.0, kept.1, kept.2, kept.2, joined_same (λ i. content frame bytes' (after links cell i)) (λ i. content frame bytes (after links cell i)) kept.0 (λ i h. beside (after links cell i) (λ j k. elsewhere cell kept.0 apart begun kept.2 i j h k)))))
 
       pub sum_written : free + sum_by (frames_at frame) (runs_of frame links bytes' first_free) ≡ length links
       sum_written =

@@ -21,11 +21,14 @@ begins_cases links first_free cell within =
             let found = Any-from_list_any test links linked in
             let same : found.1 ≡ cell = eqb-true found.1 cell found.4 in
             inr (ap₂ (λ a b. not a && not b) (ne_eqb cell first_free taken) linked, λ b. b.unlinked found.0 found.2 (get_or_default links found.0 0 found.1 found.2 ∙ found.3 ∙ same))
-        | inr unlinked ↦ inl (ap₂ (λ a b. not a && not b) (ne_eqb cell first_free taken) unlinked, record {
-          within = within;
-          taken = taken;
-          unlinked = λ other h same. both_ways _ unlinked (list_any_at test links other 0 h (eq-eqb _ cell same));
-        })
+        | inr unlinked ↦ inl (
+          ap₂ (λ a b. not a && not b) (ne_eqb cell first_free taken) unlinked,
+          record {
+            within = within;
+            taken = taken;
+            unlinked = λ other h same. both_ways _ unlinked (list_any_at test links other 0 h (eq-eqb _ cell same));
+          },
+        )
       ]
     ]
 
@@ -69,13 +72,13 @@ runs_of-set frame links bytes links' bytes' first_free first_free' first run sam
     let size = length-runs_of frame links bytes first_free in
     let size' = length-runs_of frame links' bytes' first_free' in
     same_lists _ _ (omega (arith, length-set old first run)) (λ cell d within.
-      let inside : cell < length links = omega arith in
-      get_or-runs_of frame links' bytes' first_free' cell d (omega arith) ∙ elim (cases_eq cell first) [
-        | inl at ↦
-            let below : first < length links = omega arith in
-            rw at (here below ∙ sym (get_or-set_same old first run d (omega arith)))
-        | inr apart ↦ others cell inside apart ∙ sym (get_or-runs_of frame links bytes first_free cell d inside) ∙ sym (get_or-set_other old first cell run d apart)
-      ])
+    let inside : cell < length links = omega arith in
+    get_or-runs_of frame links' bytes' first_free' cell d (omega arith) ∙ elim (cases_eq cell first) [
+      | inl at ↦
+          let below : first < length links = omega arith in
+          rw at (here below ∙ sym (get_or-set_same old first run d (omega arith)))
+      | inr apart ↦ others cell inside apart ∙ sym (get_or-runs_of frame links bytes first_free cell d inside) ∙ sym (get_or-set_other old first cell run d apart)
+    ])
 
 -- a run that begins at one cell before and after has the same bytes, where its chain and their contents stay
 pub run_at_same : (frame : ℕ) (links bytes links' bytes' : List ℕ) (first_free first_free' cell : ℕ) → cell < length links → length links' ≡ length links → (Begins links first_free cell → Begins links' first_free' cell) → (Begins links' first_free' cell → Begins links first_free cell) → ((begun : Begins links first_free cell) → (count : ℕ) × (count ≤ length links) × IsChain links cell count × IsChain links' cell count × (bytes_along frame links' bytes' cell count ≡ bytes_along frame links bytes cell count)) → run_at frame links' bytes' first_free' cell ≡ run_at frame links bytes first_free cell

@@ -23,8 +23,8 @@ module _ (frame : ℕ) (links bytes : List ℕ) (count : ℕ) (sized : length li
   runs_start =
       let size = length-runs_of frame links bytes 0 in
       same_lists _ _ (omega (arith, length-replicate {A = Option (List ℕ)} count None)) (λ cell d within.
-        let inside : cell < length links = omega arith in
-        get_or-runs_of frame links bytes 0 cell d inside ∙ run_at_none frame links bytes 0 cell inside (none_begins cell) ∙ sym (get_or-replicate count cell None d (omega arith)))
+      let inside : cell < length links = omega arith in
+      get_or-runs_of frame links bytes 0 cell d inside ∙ run_at_none frame links bytes 0 cell inside (none_begins cell) ∙ sym (get_or-replicate count cell None d (omega arith)))
 
   pub IsSound-start : IsSound frame links bytes 0 count
   IsSound-start = record {

@@ -71,8 +71,8 @@ module _ (frame : ℕ) (links bytes : List ℕ) (first_free free : ℕ) (sound :
     free_chain' : IsChain links' next (free - n)
     free_chain' =
         IsChain-set links last none next (free - n) (λ i h e.
-          let twice = (meets first_free free unlinked sound.free_chain.within (n + i) (n - 1) (omega arith) (omega arith) (sym (after-add links first_free n i) ∙ e)).1 in
-          omega arith) (IsChain-behind links first_free free n enough sound.free_chain)
+        let twice = (meets first_free free unlinked sound.free_chain.within (n + i) (n - 1) (omega arith) (omega arith) (sym (after-add links first_free n i) ∙ e)).1 in
+        omega arith) (IsChain-behind links first_free free n enough sound.free_chain)
 
     taken_chain : IsChain links' first_free n
     taken_chain = IsChain-cut links first_free n none some taken_line past
@@ -135,16 +135,16 @@ module _ (frame : ℕ) (links bytes : List ℕ) (first_free free : ℕ) (sound :
     bytes_kept : (cell count : ℕ) → Begins links first_free cell → IsChain links cell count → bytes_along frame links' bytes' cell count ≡ bytes_along frame links bytes cell count
     bytes_kept cell count begun chain =
         joined_same (λ i. content frame bytes' (after links' cell i)) (λ i. content frame bytes (after links cell i)) count (λ i h.
-          ap (content frame bytes') (after-set links last none cell count (λ j k e. off_line cell count begun chain j (n - 1) k (omega arith) (sym e)) i (omega arith))
-          ∙ beside (after links cell i) (λ j k e. off_line cell count begun chain i j h k e))
+        ap (content frame bytes') (after-set links last none cell count (λ j k e. off_line cell count begun chain j (n - 1) k (omega arith) (sym e)) i (omega arith))
+        ∙ beside (after links cell i) (λ j k e. off_line cell count begun chain i j h k e))
 
     pub runs_taken : runs_of frame links' bytes' next ≡ set (runs_of frame links bytes first_free) first_free (Some (replicate (n * frame) 0))
     runs_taken =
         runs_of-set frame links bytes links' bytes' first_free next first_free (Some (replicate (n * frame) 0)) size
         (λ _. run_at_begun frame links' bytes' next first_free n begins_taken (omega (arith, size, short)) taken_chain ∙ ap Some bytes_taken)
         (λ cell within apart. run_at_same frame links bytes links' bytes' first_free next cell within size (begins_after cell) (begins_before cell apart) (λ begun.
-          let kept = sound.chains cell begun in
-          (kept.0, kept.1, kept.2, chain_after cell kept.0 begun kept.2, bytes_kept cell kept.0 begun kept.2)))
+        let kept = sound.chains cell begun in
+        (kept.0, kept.1, kept.2, chain_after cell kept.0 begun kept.2, bytes_kept cell kept.0 begun kept.2)))
 
     pub none_before : get_or (runs_of frame links bytes first_free) first_free None ≡ None
     none_before =

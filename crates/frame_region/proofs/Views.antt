@@ -59,4 +59,4 @@ module _ (region : RegionView) (numbered : length region.runs ≡ region.frames)
         | inl some ↦ absurd (omega (arith, within some, others.placed other_none))
         | inr none ↦ omega arith
       ] in
-      (apart, KeepsOthers-with_run other others apart)
+      (apart, λ same. omega (arith, apart (sym same)), KeepsOthers-with_run other others apart)

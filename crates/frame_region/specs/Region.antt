@@ -35,7 +35,8 @@ pub record Keeps (old new : RegionView) (run : Run) : Type 0 where
 
 -- every run that is the region's stays so with its bytes, and has no frame of this one, which is new
 abbrev pub AddsRun : RegionView → RegionView → Run → Type 0
-AddsRun old new run = (other : Run) → Owns old other → Apart run other × Keeps old new other
+AddsRun old new run =
+    (other : Run) → Owns old other → Apart run other × Apart other run × Keeps old new other
 
 -- every run that is the region's, and has no frame of this one, stays so with its bytes
 abbrev pub KeepsOthers : RegionView → RegionView → Run → Type 0

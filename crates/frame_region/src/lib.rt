@@ -5,6 +5,8 @@ mod cells;
 mod lines;
 mod region;
 mod run;
+#[cfg(test)]
+mod tests;
 
 pub use region::{NoFrames, Region};
 pub use run::FrameRun;

@@ -48,10 +48,10 @@ impl Model for Region {
     ghost Value = { RegionView };
 
     ghost view = { λ r. record {
-        frame = r.cells.frame;
-        frames = length r.cells.links.items;
-        free = r.free;
-        runs = runs_of r.cells.frame r.cells.links.items r.cells.bytes.items r.first_free;
+      frame = r.cells.frame;
+      frames = length r.cells.links.items;
+      free = r.free;
+      runs = runs_of r.cells.frame r.cells.links.items r.cells.bytes.items r.first_free;
     } };
 
     ghost invariant = { λ r. IsSound r.cells.frame r.cells.links.items r.cells.bytes.items r.first_free r.free };
