@@ -1,9 +1,9 @@
 -- The region after a run was given back.
-use Rattle.std.proofs.Common.{◌≡◌, ◌≢◌, ℕ, ◌+◌, ◌-◌, ◌*◌, ◌≤◌, ◌<◌, List, [], length, set, get_or, Option, Some, None, arith, inl, inr, refl, sym, subst, ◌∙◌, ap, length-set}
+use Rattle.std.proofs.Common.{◌≡◌, ℕ, ◌+◌, ◌-◌, ◌≤◌, ◌<◌, length, set, None, arith, inl, inr, sym, subst, ◌∙◌, ap, length-set}
 use Rattle.std.proofs.lemmas.Bool.{cases_lt}
 use Rattle.std.proofs.lemmas.List.{set_past}
 use Rattle.frame_region.specs.declared.cells.Cells.{Cells}
-use Rattle.frame_region.specs.Cells.{after, IsWithin}
+use Rattle.frame_region.specs.Cells.{after, IsWalk}
 use Rattle.frame_region.specs.Links.{runs_of, IsSound}
 use Rattle.frame_region.specs.Region.{RegionView, Run, Owns, KeepsOthers, HasFrameSum, with_run}
 use Rattle.frame_region.proofs.Giving.{runs_given, sum_given, IsSound-given}
@@ -54,8 +54,8 @@ module _ (old : Cells) (first_free free : ℕ) (sound : IsSound old.frame old.li
       (sym (set_past runs run.first None (omega (arith, out.none none))) ∙ ap (λ (r : RegionView). set r.runs run.first None) is)) (IsSound-given_none none).sum
 
   module _ (some : 0 < run.count) where
-    pub IsWithin-given : IsWithin old.links.items run.first run.count
-    IsWithin-given = (out.some some).2.within
+    pub IsWalk-given : IsWalk old.links.items run.first run.count
+    IsWalk-given = (out.some some).2.within
 
     module _ (new : Cells) (frame : new.frame ≡ old.frame) (links : new.links.items ≡ set old.links.items (after old.links.items run.first (run.count - 1)) first_free) (bytes : new.bytes.items ≡ old.bytes.items) where
       pub IsSound-after_give : IsSound new.frame new.links.items new.bytes.items run.first (free + run.count)

@@ -1,15 +1,15 @@
 -- A run is given back: its cells come before the free ones.
-use Rattle.std.proofs.Common.{◌≡◌, ◌≢◌, ◌⊎◌, ℕ, zero, suc, ◌+◌, ◌-◌, ◌*◌, ◌/◌, ◌≤◌, ◌<◌, List, [], length, map, set, replicate, get_or, slice_index, Option, Some, None, unwrap_or, sum_by, arith, inl, inr, refl, sym, ◌∙◌, ap, length-set}
+use Rattle.std.proofs.Common.{◌≡◌, ◌≢◌, ℕ, suc, ◌+◌, ◌-◌, ◌*◌, ◌/◌, ◌≤◌, ◌<◌, List, length, set, get_or, slice_index, Some, None, sum_by, arith, inl, inr, refl, sym, ◌∙◌, ap, length-set}
 use native.Mathlib.Nat.{mul-div_cancel, zero-div}
 use Rattle.std.proofs.lemmas.Bool.{cases_eq}
 use Rattle.std.proofs.lemmas.List.{get_or-set_same, get_or-set_other}
 use Rattle.std.proofs.lemmas.List.Sums.{sum_by-set}
 use Rattle.frame_region.specs.Region.{frames_at}
-use Rattle.frame_region.specs.Cells.{content, after, bytes_along, IsWithin, IsLine}
-use Rattle.frame_region.specs.Links.{IsUnlinked, IsOneToOne, IsChain, Begins, run_at, runs_of, IsSound}
-use Rattle.frame_region.proofs.Chains.{same_place, IsLine-from_chain, after-set, IsChain-set, IsChain-joined, after-relinked, after-relinked_end}
+use Rattle.frame_region.specs.Cells.{content, after, bytes_along, IsPath}
+use Rattle.frame_region.specs.Links.{IsUnlinked, IsOneToOne, IsChain, Begins, runs_of, IsSound}
+use Rattle.frame_region.proofs.Chains.{same_place, IsPath-from_chain, after-set, IsChain-set, IsChain-joined, after-relinked, after-relinked_end}
 use Rattle.frame_region.proofs.JoinedPieces.{joined_same}
-use Rattle.frame_region.proofs.LineLemmas.{length-bytes_along}
+use Rattle.frame_region.proofs.PathLemmas.{length-bytes_along}
 use Rattle.frame_region.proofs.Runs.{run_at_begun, run_at_none, run_at_same, runs_of-set, length-runs_of, get_or-runs_of}
 
 module _ (frame : ℕ) (links bytes : List ℕ) (first_free free : ℕ) (sound : IsSound frame links bytes first_free free) (positive : 0 < frame) (filled : length bytes ≡ length links * frame) (first count : ℕ) (some : 0 < count) (short : count ≤ length links) (out : Begins links first_free first) (chain : IsChain links first count) where
@@ -19,8 +19,8 @@ module _ (frame : ℕ) (links bytes : List ℕ) (first_free free : ℕ) (sound :
   abbrev links' : List ℕ
   links' = set links last first_free
 
-  line : IsLine links first count
-  line = IsLine-from_chain links sound.one_to_one first count out.unlinked chain.within
+  path : IsPath links first count
+  path = IsPath-from_chain links sound.one_to_one first count out.unlinked chain.within
 
   last_within : last < length links
   last_within = chain.within (count - 1) (omega arith)
@@ -69,7 +69,7 @@ module _ (frame : ℕ) (links bytes : List ℕ) (first_free free : ℕ) (sound :
   free_chain' : IsChain links' first (free + count)
   free_chain' =
       let order : count + free ≡ free + count = omega arith in
-      rw (← order) (IsChain-joined links' first count first_free free (λ i h. rw (size, after-relinked links first count first_free some line i h) (chain.within i h)) (after-relinked_end links first count first_free some line) (IsChain-set links last first_free first_free free free_off sound.free_chain))
+      rw (← order) (IsChain-joined links' first count first_free free (λ i h. rw (size, after-relinked links first count first_free some path i h) (chain.within i h)) (after-relinked_end links first count first_free some path) (IsChain-set links last first_free first_free free free_off sound.free_chain))
 
   begins_before : (cell : ℕ) → Begins links' first cell → Begins links first_free cell
   begins_before cell begun = record {
@@ -91,13 +91,13 @@ module _ (frame : ℕ) (links bytes : List ℕ) (first_free free : ℕ) (sound :
     ];
   }
 
-  off_line : (cell length : ℕ) → cell ≢ first → Begins links first_free cell → IsChain links cell length → (i : ℕ) → i < length → after links cell i ≢ last
-  off_line cell length apart begun along i h e =
+  off_path : (cell length : ℕ) → cell ≢ first → Begins links first_free cell → IsChain links cell length → (i : ℕ) → i < length → after links cell i ≢ last
+  off_path cell length apart begun along i h e =
       apart (same_place links sound.one_to_one cell first length count begun.unlinked out.unlinked along.within chain.within i (count - 1) h (omega arith) e).0
 
   chain_after : (cell length : ℕ) → cell ≢ first → Begins links first_free cell → IsChain links cell length → IsChain links' cell length
   chain_after cell length apart begun along =
-      IsChain-set links last first_free cell length (off_line cell length apart begun along) along
+      IsChain-set links last first_free cell length (off_path cell length apart begun along) along
 
   chains' : (cell : ℕ) → Begins links' first cell → (more : ℕ) × (more ≤ length links') × IsChain links' cell more
   chains' cell begun =
@@ -108,7 +108,7 @@ module _ (frame : ℕ) (links bytes : List ℕ) (first_free free : ℕ) (sound :
   bytes_kept : (cell length : ℕ) → cell ≢ first → Begins links first_free cell → IsChain links cell length → bytes_along frame links' bytes cell length ≡ bytes_along frame links bytes cell length
   bytes_kept cell length apart begun along =
       joined_same (λ i. content frame bytes (after links' cell i)) (λ i. content frame bytes (after links cell i)) length (λ i h.
-      ap (content frame bytes) (after-set links last first_free cell length (off_line cell length apart begun along) i (omega arith)))
+      ap (content frame bytes) (after-set links last first_free cell length (off_path cell length apart begun along) i (omega arith)))
 
   pub runs_given : runs_of frame links' bytes first ≡ set (runs_of frame links bytes first_free) first None
   runs_given =

@@ -1,7 +1,7 @@
 pub mod Overwrites
 pub mod Contents
 pub mod JoinedPieces
-pub mod LineLemmas
+pub mod PathLemmas
 pub mod Places
 pub mod Transfers
 pub mod Chains

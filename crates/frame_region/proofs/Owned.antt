@@ -1,15 +1,15 @@
 -- What a run of a region is among its cells, and what a write into it leaves.
-use Rattle.std.proofs.Common.{◌≡◌, ◌≢◌, ◌⊎◌, ℕ, zero, suc, ◌+◌, ◌-◌, ◌*◌, ◌/◌, ◌≤◌, ◌<◌, List, [], length, set, get_or, Option, Some, None, unwrap_or, sum_by, arith, inl, inr, refl, sym, subst, ◌∙◌, ap}
+use Rattle.std.proofs.Common.{◌≡◌, ◌≢◌, ◌⊎◌, ℕ, ◌+◌, ◌*◌, ◌/◌, ◌≤◌, ◌<◌, List, [], length, set, get_or, Option, Some, None, unwrap_or, sum_by, arith, inl, inr, refl, sym, subst, ◌∙◌, ap}
 use native.Mathlib.Nat.{mul-div_cancel, mul-pos}
-use Rattle.std.proofs.lemmas.Bool.{cases_eq, cases_lt}
+use Rattle.std.proofs.lemmas.Bool.{cases_lt}
 use Rattle.std.proofs.lemmas.List.{get_or_past, set_past}
 use Rattle.std.proofs.lemmas.List.Sums.{sum_by-set}
 use Rattle.frame_region.specs.Region.{frames_at}
-use Rattle.frame_region.specs.Cells.{content, after, bytes_along, IsWithin, IsLine, KeepsBeside}
-use Rattle.frame_region.specs.Links.{IsUnlinked, IsOneToOne, IsChain, Begins, run_at, runs_of, IsSound}
-use Rattle.frame_region.proofs.Chains.{same_place, IsLine-from_chain}
+use Rattle.frame_region.specs.Cells.{content, after, bytes_along, IsPath, KeepsOffPath}
+use Rattle.frame_region.specs.Links.{IsChain, Begins, runs_of, IsSound}
+use Rattle.frame_region.proofs.Chains.{same_place, IsPath-from_chain}
 use Rattle.frame_region.proofs.JoinedPieces.{joined_same}
-use Rattle.frame_region.proofs.LineLemmas.{length-bytes_along}
+use Rattle.frame_region.proofs.PathLemmas.{length-bytes_along}
 use Rattle.frame_region.proofs.Runs.{begins_cases, run_at_begun, run_at_none, run_at_same, runs_of-set, length-runs_of, get_or-runs_of}
 
 -- so many cells from this one on are a run that is out, or no cells
@@ -50,10 +50,10 @@ module _ (frame : ℕ) (links bytes : List ℕ) (first_free free : ℕ) (sound :
   }
 
   module _ (out : IsOut links first_free first count) where
-    pub line_out : IsLine links first count
-    line_out =
+    pub path_out : IsPath links first count
+    path_out =
         elim (cases_lt 0 count) [
-          | inl some ↦ IsLine-from_chain links sound.one_to_one first count (out.some some).0.unlinked (out.some some).2.within
+          | inl some ↦ IsPath-from_chain links sound.one_to_one first count (out.some some).0.unlinked (out.some some).2.within
           | inr none ↦ record { within = λ i h. absurd (omega arith); once = λ i j h k e. absurd (omega arith) }
         ]
 
@@ -68,7 +68,7 @@ module _ (frame : ℕ) (links bytes : List ℕ) (first_free free : ℕ) (sound :
               rw zero_count (ap (λ o. unwrap_or o []) (get_or_past (runs_of frame links bytes first_free) first None (omega (arith, length-runs_of frame links bytes first_free, out.none zero_count))))
         ]
 
-    module _ (bytes' : List ℕ) (filled' : length bytes' ≡ length links * frame) (beside : KeepsBeside frame links first count bytes bytes') where
+    module _ (bytes' : List ℕ) (filled' : length bytes' ≡ length links * frame) (beside : KeepsOffPath frame links first count bytes bytes') where
       -- the cells of another run are not among those of this one
       elsewhere : (cell length : ℕ) → cell ≢ first → Begins links first_free cell → IsChain links cell length → (i j : ℕ) → i < length → j < count → after links first j ≢ after links cell i
       elsewhere cell length apart begun along i j h k e =
@@ -94,7 +94,7 @@ module _ (frame : ℕ) (links bytes : List ℕ) (first_free free : ℕ) (sound :
             | inl within ↦
                 let change = sum_by-set (frames_at frame) runs first run None (omega (arith, length-runs_of frame links bytes first_free, within)) in
                 let held : frames_at frame place ≡ frames_at frame run =
-                ap (λ bs. length bs / frame) bytes_out ∙ ap (λ k. k / frame) (length-bytes_along frame links bytes filled first count line_out.within ∙ sym (length-bytes_along frame links bytes' filled' first count line_out.within)) in
+                ap (λ bs. length bs / frame) bytes_out ∙ ap (λ k. k / frame) (length-bytes_along frame links bytes filled first count path_out.within ∙ sym (length-bytes_along frame links bytes' filled' first count path_out.within)) in
                 omega (arith, sound.sum)
             | inr past ↦ rw (set_past runs first run (omega (arith, length-runs_of frame links bytes first_free))) sound.sum
           ])

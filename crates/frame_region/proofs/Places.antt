@@ -1,15 +1,15 @@
--- A place among the bytes of a line: its cell and its offset there.
+-- A place among the bytes of a path: its cell and its offset there.
 use Rattle.std.proofs.Common.{◌≡◌, ℕ, ◌+◌, ◌-◌, ◌*◌, ◌/◌, ◌%◌, ◌≤◌, ◌<◌, List, slice_index, arith, ap, ◌∙◌, sym}
 use Rattle.std.proofs.lemmas.Nat.{div-add-mod', div-mul-add, mod-mul-add, div_below, mod_below}
 use Rattle.frame_region.specs.Cells.{after}
-use Rattle.frame_region.proofs.LineLemmas.{after_more}
+use Rattle.frame_region.proofs.PathLemmas.{after_more}
 
 -- the place is in this cell, at this offset
 pub record IsPlace (frame : ℕ) (links : List ℕ) (first place cell offset : ℕ) : Type 0 where
   pub cell_is : cell ≡ after links first (place / frame)
   pub offset_is : offset ≡ place % frame
 
--- the cell of a place is one of the line, or right behind it
+-- the cell of a place is one of the path, or right behind it
 pub place_cell-lt : (frame count place : ℕ) → 0 < frame → place < count * frame → place / frame < count
 place_cell-lt frame count place positive below = div_below place frame count positive below
 

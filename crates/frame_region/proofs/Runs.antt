@@ -1,14 +1,13 @@
 -- Which runs are out, as the links tell it, and what they hold.
-use Rattle.std.proofs.Common.{◌≡◌, ◌≢◌, ◌⊎◌, ℕ, zero, suc, ◌+◌, ◌-◌, ◌*◌, ◌≤◌, ◌<◌, Bool, true, false, not, ◌&&◌, cond, eqb, ltb, List, [], length, map, set, get_or, slice_index, Option, Some, None, unwrap_or, arith, inl, inr, refl, sym, ◌∙◌, ap, ap₂, length-set, eq-eqb}
-use Rattle.std.specs.List.{list_any, prefix_len, range_with_len}
+use Rattle.std.proofs.Common.{◌≡◌, ◌≢◌, ◌⊎◌, ℕ, ◌≤◌, ◌<◌, Bool, true, false, not, ◌&&◌, eqb, ltb, List, length, map, set, get_or, Option, Some, None, arith, inl, inr, sym, ◌∙◌, ap, ap₂, length-set, eq-eqb}
+use Rattle.std.specs.List.{list_any, range_with_len}
 use Rattle.std.proofs.lemmas.Bool.{cases_eq, cases_Bool, eqb-true, ne_eqb, lt-ltb, le-ltb, cond-true, cond-false, both_ways}
-use Rattle.std.proofs.lemmas.List.{same_lists, get_or-set_same, get_or-set_other, get_or_past, get_or_default}
+use Rattle.std.proofs.lemmas.List.{same_lists, get_or-set_same, get_or-set_other, get_or_default}
 use Rattle.std.proofs.lemmas.List.Folds.{Any-from_list_any, list_any_at}
 use Rattle.std.proofs.lemmas.List.FromFn.{get_or-map-range_with_len, length-map-range_with_len}
 use Rattle.std.proofs.lemmas.List.Sums.{prefix_len_is}
-use Rattle.frame_region.specs.Region.{frames_at}
-use Rattle.frame_region.specs.Cells.{content, after, bytes_along, IsWithin, IsLine}
-use Rattle.frame_region.specs.Links.{IsUnlinked, IsOneToOne, IsChain, Begins, begins, chain_length, run_at, runs_of, IsSound}
+use Rattle.frame_region.specs.Cells.{after, bytes_along}
+use Rattle.frame_region.specs.Links.{IsChain, Begins, begins, chain_length, run_at, runs_of}
 
 -- the test tells whether a run begins at a cell
 pub begins_cases : (links : List ℕ) (first_free cell : ℕ) → cell < length links → ((begins links first_free cell ≡ true) × Begins links first_free cell) ⊎ ((begins links first_free cell ≡ false) × (Begins links first_free cell → ⊥))

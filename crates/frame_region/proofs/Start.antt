@@ -1,11 +1,11 @@
 -- A new region: each cell is linked to the next, and all are free.
-use Rattle.std.proofs.Common.{◌≡◌, ◌≢◌, ℕ, zero, suc, ◌+◌, ◌-◌, ◌*◌, ◌≤◌, ◌<◌, List, length, replicate, get_or, slice_index, Option, None, sum_by, arith, refl, sym, ◌∙◌, ap}
+use Rattle.std.proofs.Common.{◌≡◌, ℕ, zero, suc, ◌+◌, ◌-◌, ◌*◌, ◌≤◌, ◌<◌, List, length, replicate, slice_index, Option, None, arith, refl, sym, ◌∙◌, ap}
 use native.Mathlib.Nat.{zero-div}
 use Rattle.std.proofs.lemmas.List.{same_lists, length-replicate, get_or-replicate}
 use Rattle.std.proofs.lemmas.List.Folds.{sum_by-replicate}
 use Rattle.frame_region.specs.Region.{frames_at}
 use Rattle.frame_region.specs.Cells.{after}
-use Rattle.frame_region.specs.Links.{IsUnlinked, IsOneToOne, IsChain, Begins, run_at, runs_of, IsSound}
+use Rattle.frame_region.specs.Links.{Begins, runs_of, IsSound}
 use Rattle.frame_region.proofs.Runs.{run_at_none, length-runs_of, get_or-runs_of}
 
 module _ (frame : ℕ) (links bytes : List ℕ) (count : ℕ) (sized : length links ≡ count) (some : 0 < count) (linked : (i : ℕ) → i < count → slice_index links i ≡ i + 1) where

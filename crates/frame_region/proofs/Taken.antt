@@ -1,8 +1,8 @@
 -- The region after a run was taken.
-use Rattle.std.proofs.Common.{◌≡◌, ◌≢◌, ℕ, suc, ◌+◌, ◌-◌, ◌*◌, ◌≤◌, ◌<◌, List, [], length, set, get_or, slice_index, replicate, Option, Some, None, unwrap_or, arith, refl, sym, subst, ◌∙◌, ap, ap₂, length-set}
+use Rattle.std.proofs.Common.{◌≡◌, ℕ, suc, ◌-◌, ◌*◌, ◌≤◌, ◌<◌, List, [], length, set, get_or, slice_index, replicate, Some, None, unwrap_or, arith, refl, sym, subst, ◌∙◌, ap, ap₂, length-set}
 use Rattle.std.proofs.lemmas.List.{set_past, get_or_past, length-replicate}
 use Rattle.frame_region.specs.declared.cells.Cells.{Cells}
-use Rattle.frame_region.specs.Cells.{after, bytes_along, KeepsBeside}
+use Rattle.frame_region.specs.Cells.{after, bytes_along, KeepsOffPath}
 use Rattle.frame_region.specs.Links.{runs_of, IsSound}
 use Rattle.frame_region.specs.Region.{RegionView, Run, Owns, AddsRun, HasFrameSum, bytes_of, with_run}
 use Rattle.frame_region.proofs.Runs.{length-runs_of}
@@ -18,7 +18,7 @@ pub record HasTaken (region seen : RegionView) (run : Run) (n : ℕ) : Type 0 wh
   pub sum : HasFrameSum seen
 
 -- `mid` are the cells once those of the run are cleared, and `new` once its last cell is linked to none
-module _ (old mid new : Cells) (first_free free : ℕ) (sound : IsSound old.frame old.links.items old.bytes.items first_free free) (n last next none : ℕ) (some : 0 < n) (enough : n ≤ free) (past : length old.links.items ≤ none) (last_is : last ≡ after old.links.items first_free (n - 1)) (mid_zero : bytes_along old.frame old.links.items mid.bytes.items first_free n ≡ replicate (n * old.frame) 0) (mid_beside : KeepsBeside old.frame old.links.items first_free n old.bytes.items mid.bytes.items) (mid_frame : mid.frame ≡ old.frame) (mid_links : mid.links.items ≡ old.links.items) (next_is : next ≡ slice_index mid.links.items last) (new_links : new.links.items ≡ set mid.links.items last none) (new_frame : new.frame ≡ mid.frame) (new_bytes : new.bytes.items ≡ mid.bytes.items) where
+module _ (old mid new : Cells) (first_free free : ℕ) (sound : IsSound old.frame old.links.items old.bytes.items first_free free) (n last next none : ℕ) (some : 0 < n) (enough : n ≤ free) (past : length old.links.items ≤ none) (last_is : last ≡ after old.links.items first_free (n - 1)) (mid_zero : bytes_along old.frame old.links.items mid.bytes.items first_free n ≡ replicate (n * old.frame) 0) (mid_beside : KeepsOffPath old.frame old.links.items first_free n old.bytes.items mid.bytes.items) (mid_frame : mid.frame ≡ old.frame) (mid_links : mid.links.items ≡ old.links.items) (next_is : next ≡ slice_index mid.links.items last) (new_links : new.links.items ≡ set mid.links.items last none) (new_frame : new.frame ≡ mid.frame) (new_bytes : new.bytes.items ≡ mid.bytes.items) where
   follows : next ≡ after old.links.items first_free n
   follows =
       let whole : suc (n - 1) ≡ n = omega arith in
@@ -33,7 +33,7 @@ module _ (old mid new : Cells) (first_free free : ℕ) (sound : IsSound old.fram
   zeros : bytes_along old.frame old.links.items new.bytes.items first_free n ≡ replicate (n * old.frame) 0
   zeros = rw new_bytes mid_zero
 
-  beside : KeepsBeside old.frame old.links.items first_free n old.bytes.items new.bytes.items
+  beside : KeepsOffPath old.frame old.links.items first_free n old.bytes.items new.bytes.items
   beside = rw new_bytes mid_beside
 
   pub IsSound-after_take : IsSound new.frame new.links.items new.bytes.items next (free - n)

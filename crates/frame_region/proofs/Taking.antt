@@ -1,13 +1,13 @@
 -- A run is taken: the first free cells are cut off, and their bytes are 0.
-use Rattle.std.proofs.Common.{◌≡◌, ◌≢◌, ◌⊎◌, ℕ, zero, suc, ◌+◌, ◌-◌, ◌*◌, ◌/◌, ◌≤◌, ◌<◌, List, [], length, map, set, replicate, get_or, slice_index, Option, Some, None, unwrap_or, sum_by, arith, inl, inr, refl, sym, ◌∙◌, ap, length-set}
+use Rattle.std.proofs.Common.{◌≡◌, ◌≢◌, ℕ, suc, ◌+◌, ◌-◌, ◌*◌, ◌/◌, ◌≤◌, ◌<◌, List, length, set, replicate, get_or, slice_index, Option, Some, None, sum_by, arith, inl, inr, refl, sym, ◌∙◌, ap, length-set}
 use native.Mathlib.Nat.{mul-div_cancel, zero-div}
 use Rattle.std.proofs.lemmas.Bool.{cases_eq}
 use Rattle.std.proofs.lemmas.List.{get_or-set_same, get_or-set_other, length-replicate}
 use Rattle.std.proofs.lemmas.List.Sums.{sum_by-set}
 use Rattle.frame_region.specs.Region.{frames_at}
-use Rattle.frame_region.specs.Cells.{content, after, bytes_along, IsWithin, IsLine, KeepsBeside}
-use Rattle.frame_region.specs.Links.{IsUnlinked, IsOneToOne, IsChain, Begins, run_at, runs_of, IsSound}
-use Rattle.frame_region.proofs.Chains.{same_place, IsLine-from_chain, after-add, after-set, IsChain-set, IsChain-behind, IsChain-cut, after-relinked}
+use Rattle.frame_region.specs.Cells.{content, after, bytes_along, IsWalk, IsPath, KeepsOffPath}
+use Rattle.frame_region.specs.Links.{IsUnlinked, IsOneToOne, IsChain, Begins, runs_of, IsSound}
+use Rattle.frame_region.proofs.Chains.{same_place, IsPath-from_chain, after-add, after-set, IsChain-set, IsChain-behind, IsChain-cut, after-relinked}
 use Rattle.frame_region.proofs.JoinedPieces.{joined_same}
 use Rattle.frame_region.proofs.Runs.{run_at_begun, run_at_none, run_at_same, runs_of-set, length-runs_of, get_or-runs_of}
 
@@ -15,10 +15,10 @@ module _ (frame : ℕ) (links bytes : List ℕ) (first_free free : ℕ) (sound :
   pub head_within : first_free < length links
   head_within = sound.free_chain.within 0 (omega arith)
 
-  pub taken_line : IsLine links first_free n
-  taken_line = IsLine-from_chain links sound.one_to_one first_free n (sound.head head_within) (λ i h. sound.free_chain.within i (omega arith))
+  pub taken_path : IsPath links first_free n
+  taken_path = IsPath-from_chain links sound.one_to_one first_free n (sound.head head_within) (λ i h. sound.free_chain.within i (omega arith))
 
-  module _ (bytes' : List ℕ) (positive : 0 < frame) (zeros : bytes_along frame links bytes' first_free n ≡ replicate (n * frame) 0) (beside : KeepsBeside frame links first_free n bytes bytes') (none : ℕ) (past : length links ≤ none) where
+  module _ (bytes' : List ℕ) (positive : 0 < frame) (zeros : bytes_along frame links bytes' first_free n ≡ replicate (n * frame) 0) (beside : KeepsOffPath frame links first_free n bytes bytes') (none : ℕ) (past : length links ≤ none) where
     abbrev last : ℕ
     last = after links first_free (n - 1)
 
@@ -32,7 +32,7 @@ module _ (frame : ℕ) (links bytes : List ℕ) (first_free free : ℕ) (sound :
     unlinked = sound.head head_within
 
     last_within : last < length links
-    last_within = taken_line.within (n - 1) (omega arith)
+    last_within = taken_path.within (n - 1) (omega arith)
 
     size : length links' ≡ length links
     size = length-set links last none
@@ -47,7 +47,7 @@ module _ (frame : ℕ) (links bytes : List ℕ) (first_free free : ℕ) (sound :
     elsewhere cell apart = get_or-set_other links last cell none 0 apart
 
     -- a chain that begins at a cell to which none is linked meets the free cells only where it is theirs
-    meets : (cell count : ℕ) → IsUnlinked links cell → IsWithin links cell count → (i j : ℕ) → i < count → j < free → after links cell i ≡ after links first_free j → (cell ≡ first_free) × (i ≡ j)
+    meets : (cell count : ℕ) → IsUnlinked links cell → IsWalk links cell count → (i j : ℕ) → i < count → j < free → after links cell i ≡ after links first_free j → (cell ≡ first_free) × (i ≡ j)
     meets cell count free_cell within i j h k e =
         same_place links sound.one_to_one cell first_free count free free_cell unlinked within sound.free_chain.within i j h k e
 
@@ -75,7 +75,7 @@ module _ (frame : ℕ) (links bytes : List ℕ) (first_free free : ℕ) (sound :
         omega arith) (IsChain-behind links first_free free n enough sound.free_chain)
 
     taken_chain : IsChain links' first_free n
-    taken_chain = IsChain-cut links first_free n none some taken_line past
+    taken_chain = IsChain-cut links first_free n none some taken_path past
 
     begins_taken : Begins links' next first_free
     begins_taken = record {
@@ -107,12 +107,12 @@ module _ (frame : ℕ) (links bytes : List ℕ) (first_free free : ℕ) (sound :
       ];
     }
 
-    off_line : (cell count : ℕ) → Begins links first_free cell → IsChain links cell count → (i j : ℕ) → i < count → j < n → after links first_free j ≢ after links cell i
-    off_line cell count begun chain i j h k e = begun.taken (meets cell count begun.unlinked chain.within i j h (omega arith) (sym e)).0
+    off_path : (cell count : ℕ) → Begins links first_free cell → IsChain links cell count → (i j : ℕ) → i < count → j < n → after links first_free j ≢ after links cell i
+    off_path cell count begun chain i j h k e = begun.taken (meets cell count begun.unlinked chain.within i j h (omega arith) (sym e)).0
 
     chain_after : (cell count : ℕ) → Begins links first_free cell → IsChain links cell count → IsChain links' cell count
     chain_after cell count begun chain =
-        IsChain-set links last none cell count (λ i h e. off_line cell count begun chain i (n - 1) h (omega arith) (sym e)) chain
+        IsChain-set links last none cell count (λ i h e. off_path cell count begun chain i (n - 1) h (omega arith) (sym e)) chain
 
     pub short : n ≤ length links
     short = omega (arith, sound.sum)
@@ -129,14 +129,14 @@ module _ (frame : ℕ) (links bytes : List ℕ) (first_free free : ℕ) (sound :
 
     bytes_taken : bytes_along frame links' bytes' first_free n ≡ replicate (n * frame) 0
     bytes_taken =
-        joined_same (λ i. content frame bytes' (after links' first_free i)) (λ i. content frame bytes' (after links first_free i)) n (λ i h. ap (content frame bytes') (after-relinked links first_free n none some taken_line i h))
+        joined_same (λ i. content frame bytes' (after links' first_free i)) (λ i. content frame bytes' (after links first_free i)) n (λ i h. ap (content frame bytes') (after-relinked links first_free n none some taken_path i h))
         ∙ zeros
 
     bytes_kept : (cell count : ℕ) → Begins links first_free cell → IsChain links cell count → bytes_along frame links' bytes' cell count ≡ bytes_along frame links bytes cell count
     bytes_kept cell count begun chain =
         joined_same (λ i. content frame bytes' (after links' cell i)) (λ i. content frame bytes (after links cell i)) count (λ i h.
-        ap (content frame bytes') (after-set links last none cell count (λ j k e. off_line cell count begun chain j (n - 1) k (omega arith) (sym e)) i (omega arith))
-        ∙ beside (after links cell i) (λ j k e. off_line cell count begun chain i j h k e))
+        ap (content frame bytes') (after-set links last none cell count (λ j k e. off_path cell count begun chain j (n - 1) k (omega arith) (sym e)) i (omega arith))
+        ∙ beside (after links cell i) (λ j k e. off_path cell count begun chain i j h k e))
 
     pub runs_taken : runs_of frame links' bytes' next ≡ set (runs_of frame links bytes first_free) first_free (Some (replicate (n * frame) 0))
     runs_taken =

@@ -1,11 +1,11 @@
 -- What a change of one run's place leaves to the other runs.
-use Rattle.std.proofs.Common.{◌≡◌, ◌≢◌, ℕ, ◌+◌, ◌-◌, ◌*◌, ◌≤◌, ◌<◌, List, [], length, set, get_or, Option, Some, None, unwrap_or, arith, inl, inr, refl, sym, subst, ◌∙◌, ap}
+use Rattle.std.proofs.Common.{◌≡◌, ◌≢◌, ℕ, ◌*◌, ◌<◌, List, [], length, get_or, Option, Some, None, unwrap_or, arith, inl, inr, sym, subst, ◌∙◌, ap}
 use native.Mathlib.Nat.{mul-pos}
 use Rattle.std.proofs.lemmas.Bool.{cases_eq, cases_lt}
-use Rattle.std.proofs.lemmas.List.{get_or-set_same, get_or-set_other, set_past, get_or_past}
+use Rattle.std.proofs.lemmas.List.{get_or-set_same, get_or-set_other, set_past}
 use Rattle.frame_region.specs.Cells.{bytes_along}
 use Rattle.frame_region.specs.Links.{runs_of, IsSound}
-use Rattle.frame_region.specs.Region.{RegionView, Run, Owns, Apart, Keeps, AddsRun, KeepsOthers, bytes_of, with_run}
+use Rattle.frame_region.specs.Region.{RegionView, Run, Owns, Apart, AddsRun, KeepsOthers, bytes_of, with_run}
 use Rattle.frame_region.proofs.Owned.{IsOut, IsOut-from_owned, bytes_out}
 
 -- regions that agree in each part

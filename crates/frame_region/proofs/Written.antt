@@ -1,11 +1,11 @@
 -- The region after bytes were written into a run.
-use Rattle.std.proofs.Common.{◌≡◌, ◌≢◌, ℕ, ◌+◌, ◌-◌, ◌*◌, ◌≤◌, ◌<◌, List, [], length, set, Option, Some, None, arith, refl, sym, subst, ◌∙◌, ap, ap₂}
+use Rattle.std.proofs.Common.{◌≡◌, ℕ, ◌*◌, ◌<◌, List, length, set, Option, Some, sym, subst, ◌∙◌, ap, ap₂}
 use Rattle.frame_region.specs.declared.cells.Cells.{Cells}
-use Rattle.frame_region.specs.Cells.{bytes_along, IsLine, KeepsBeside}
-use Rattle.frame_region.specs.Links.{runs_of, IsSound}
+use Rattle.frame_region.specs.Cells.{bytes_along, IsPath, KeepsOffPath}
+use Rattle.frame_region.specs.Links.{IsSound}
 use Rattle.frame_region.specs.Region.{RegionView, Run, Owns, KeepsOthers, HasFrameSum, bytes_of, overwritten, with_run}
-use Rattle.frame_region.proofs.LineLemmas.{length-bytes_along}
-use Rattle.frame_region.proofs.Owned.{IsOut, line_out, bytes_out, runs_written, IsSound-written}
+use Rattle.frame_region.proofs.PathLemmas.{length-bytes_along}
+use Rattle.frame_region.proofs.Owned.{IsOut, path_out, bytes_out, runs_written, IsSound-written}
 use Rattle.frame_region.proofs.Runs.{length-runs_of}
 use Rattle.frame_region.proofs.Views.{same_view, view_of, owned_out, KeepsOthers-with_run}
 
@@ -13,7 +13,7 @@ module _ (frame : ℕ) (links bytes : List ℕ) (first_free free : ℕ) (sound :
   abbrev out : IsOut links first_free run.first run.count × (bytes_of region run ≡ bytes_along frame links bytes run.first run.count)
   out = owned_out frame links bytes first_free free sound positive filled region run is owned
 
-  module _ (start : ℕ) (written : List ℕ) (bytes' : List ℕ) (filled' : length bytes' ≡ length links * frame) (writes : bytes_along frame links bytes' run.first run.count ≡ overwritten (bytes_along frame links bytes run.first run.count) start written) (beside : KeepsBeside frame links run.first run.count bytes bytes') where
+  module _ (start : ℕ) (written : List ℕ) (bytes' : List ℕ) (filled' : length bytes' ≡ length links * frame) (writes : bytes_along frame links bytes' run.first run.count ≡ overwritten (bytes_along frame links bytes run.first run.count) start written) (beside : KeepsOffPath frame links run.first run.count bytes bytes') where
     -- what the run has now
     after : bytes_along frame links bytes' run.first run.count ≡ overwritten (bytes_of region run) start written
     after = writes ∙ ap (λ (bs : List ℕ). overwritten bs start written) (sym out.1)
@@ -29,7 +29,7 @@ module _ (frame : ℕ) (links bytes : List ℕ) (first_free free : ℕ) (sound :
 
     owned_written : Owns (view_of frame links bytes' first_free free) run
     owned_written = record {
-      sized = ap length bytes_after ∙ length-bytes_along frame links bytes' filled' run.first run.count (line_out frame links bytes first_free free sound positive filled run.first run.count out.0).within;
+      sized = ap length bytes_after ∙ length-bytes_along frame links bytes' filled' run.first run.count (path_out frame links bytes first_free free sound positive filled run.first run.count out.0).within;
       placed = out.0.none;
     }
 
@@ -53,10 +53,10 @@ pub record HasWritten (region seen : RegionView) (run : Run) (start : ℕ) (writ
   pub sum : HasFrameSum seen
 
 module _ (old : Cells) (first_free free : ℕ) (sound : IsSound old.frame old.links.items old.bytes.items first_free free) (region : RegionView) (run : Run) (is : view_of old.frame old.links.items old.bytes.items first_free free ≡ region) (owned : Owns region run) where
-  pub line_of_run : IsLine old.links.items run.first run.count
-  line_of_run = line_out old.frame old.links.items old.bytes.items first_free free sound old.not_empty old.filled run.first run.count (out old.frame old.links.items old.bytes.items first_free free sound old.not_empty old.filled region run is owned).0
+  pub path_of_run : IsPath old.links.items run.first run.count
+  path_of_run = path_out old.frame old.links.items old.bytes.items first_free free sound old.not_empty old.filled run.first run.count (out old.frame old.links.items old.bytes.items first_free free sound old.not_empty old.filled region run is owned).0
 
-  module _ (new : Cells) (start : ℕ) (written : List ℕ) (frame : new.frame ≡ old.frame) (links : new.links.items ≡ old.links.items) (writes : bytes_along old.frame old.links.items new.bytes.items run.first run.count ≡ overwritten (bytes_along old.frame old.links.items old.bytes.items run.first run.count) start written) (beside : KeepsBeside old.frame old.links.items run.first run.count old.bytes.items new.bytes.items) where
+  module _ (new : Cells) (start : ℕ) (written : List ℕ) (frame : new.frame ≡ old.frame) (links : new.links.items ≡ old.links.items) (writes : bytes_along old.frame old.links.items new.bytes.items run.first run.count ≡ overwritten (bytes_along old.frame old.links.items old.bytes.items run.first run.count) start written) (beside : KeepsOffPath old.frame old.links.items run.first run.count old.bytes.items new.bytes.items) where
     filled_after : length new.bytes.items ≡ length old.links.items * old.frame
     filled_after = rw (frame, links) at new.filled
 

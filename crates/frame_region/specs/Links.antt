@@ -3,7 +3,7 @@
 use Rattle.std.specs.Prelude.{◌≡◌, ◌≢◌, ℕ, ◌+◌, ◌<◌, ◌≤◌, Bool, not, ◌&&◌, ◌==◌, nat_lt, if◌then◌else◌, List, length, map, sum_by, Option, Some, None, slice_index}
 use Rattle.std.specs.List.{list_any, prefix_len, range_with_len}
 use Rattle.frame_region.specs.Region.{frames_at}
-use Rattle.frame_region.specs.Cells.{after, bytes_along, IsWithin}
+use Rattle.frame_region.specs.Cells.{after, bytes_along, IsWalk}
 
 -- no cell is linked to this one
 abbrev pub IsUnlinked : List ℕ → ℕ → Type 0
@@ -17,7 +17,7 @@ IsOneToOne links =
 
 -- so many cells from this one on, the last of which is linked to no cell
 pub record IsChain (links : List ℕ) (first count : ℕ) : Type 0 where
-  pub within : IsWithin links first count
+  pub within : IsWalk links first count
   pub ends : length links ≤ after links first count
 
 -- a run that is out begins at this cell

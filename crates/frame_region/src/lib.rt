@@ -2,11 +2,11 @@
 #![tactic(auto)]
 
 mod cells;
-mod lines;
 mod region;
 mod run;
 #[cfg(test)]
 mod tests;
+mod walks;
 
 pub use region::{NoFrames, Region};
 pub use run::FrameRun;

@@ -104,7 +104,7 @@ impl Region {
             });
         }
         let first = self.first_free;
-        let last = self.cells.clear_line(first, n);
+        let last = self.cells.clear_path(first, n);
         self.first_free = self.cells.link(last);
         self.cells.set_link(last, NO_FRAME);
         self.free -= n;

@@ -11,7 +11,7 @@ cell_after-cell-requires c =
     let cells = c.args.self.now in
     let run = c.args.run.now in
     let first : c.run.inside.first ≡ run.first = ap (λ (r : Run). r.first) c.run.view_is in
-    λ i below. rw first (c.requires.within i (omega (arith, place_cell-le cells.frame run.count c.args.start cells.not_empty (omega arith))))
+    λ i below. rw first (c.requires.walk i (omega (arith, place_cell-le cells.frame run.count c.args.start cells.not_empty (omega arith))))
 
 pub loop-done-preserved : goal.loop-done-preserved
 loop-done-preserved c =
@@ -31,5 +31,5 @@ loop-done-preserved c =
       within = omega arith;
       offset = cells.not_empty;
       place = λ more. IsPlace_next cells.frame cells.links.items run.first (c.args.start + done) c.loop-done.cell c.loop-done.offset c.link-cell.result (c.args.start + (done + part)) cells.not_empty here c.link-cell.ensures (omega (arith, more));
-      copied = copied_more cells.frame cells.not_empty cells.links.items cells.bytes.items cells.filled run.first run.count c.args.start done part c.loop-done.cell c.loop-done.offset inside here fits c.requires.within c.loop-done.out c.copy_out.new.out (done + part - done) piece c.loop-done.invariant.within read c.loop-done.invariant.copied;
+      copied = copied_more cells.frame cells.not_empty cells.links.items cells.bytes.items cells.filled run.first run.count c.args.start done part c.loop-done.cell c.loop-done.offset inside here fits c.requires.walk c.loop-done.out c.copy_out.new.out (done + part - done) piece c.loop-done.invariant.within read c.loop-done.invariant.copied;
     }

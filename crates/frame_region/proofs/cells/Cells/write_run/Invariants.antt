@@ -1,6 +1,6 @@
 use Rattle.std.proofs.Common.{◌≡◌, ◌<◌, ◌≤◌, ◌+◌, ◌-◌, length, take}
 use Rattle.frame_region.specs.Region.{overwritten}
-use Rattle.frame_region.specs.Cells.{bytes_along, KeepsBeside}
+use Rattle.frame_region.specs.Cells.{bytes_along, KeepsOffPath}
 use Rattle.frame_region.proofs.Places.{IsPlace}
 use Rattle.frame_region.proofs.cells.Cells.write_run.Given as goal
 
@@ -12,7 +12,7 @@ invariant-loop-done l =
       offset : l.offset < l.frame;
       place : l.done < length l.source → IsPlace l.frame cells.links.items l.run.first (l.start + l.done) l.cell l.offset;
       written : bytes_along cells.frame cells.links.items l.self.bytes.items l.run.first l.run.count ≡ overwritten (bytes_along cells.frame cells.links.items cells.bytes.items l.run.first l.run.count) l.start (take l.done l.source);
-      others : KeepsBeside cells.frame cells.links.items l.run.first l.run.count cells.bytes.items l.self.bytes.items;
+      others : KeepsOffPath cells.frame cells.links.items l.run.first l.run.count cells.bytes.items l.self.bytes.items;
       frame : l.self.frame ≡ cells.frame;
       links : l.self.links.items ≡ cells.links.items;
     }

@@ -1,7 +1,7 @@
-use Rattle.std.proofs.Common.{◌≡◌, ℕ, ◌+◌, ◌-◌, ◌≤◌, ◌<◌, None, length, set, ap, sym, subst, ◌∙◌, arith, rules}
+use Rattle.std.proofs.Common.{◌≡◌, ℕ, ◌+◌, ◌-◌, ◌<◌, None, set, ap, sym, subst, ◌∙◌, arith, rules}
 use Rattle.frame_region.specs.Cells.{after}
 use Rattle.frame_region.specs.Region.{Run, Owns, KeepsOthers, with_run}
-use Rattle.frame_region.proofs.Given.{given_fits, IsSound-given_none, HasGiven-none, IsWithin-given, IsSound-after_give, HasGiven-after_give}
+use Rattle.frame_region.proofs.Given.{given_fits, HasGiven-none, IsWalk-given, IsSound-after_give, HasGiven-after_give}
 use Rattle.frame_region.proofs.region.Region.give.Goals as goal
 
 pub overflow_add-self : goal.overflow_add-self
@@ -32,7 +32,7 @@ cell_after-last-requires c =
     let run : Run = record { first = c.run.inside.first; count = c.run.inside.count } in
     let owned : Owns c.args.self.now run = subst (Owns c.args.self.now) (sym c.run.view_is) c.requires in
     let some : 0 < run.count = omega (arith, c.if-count-eq0.false) in
-    λ i below. IsWithin-given r.cells r.first_free r.free c.self.invariant c.args.self.now run c.self.view_is owned some i (omega arith)
+    λ i below. IsWalk-given r.cells r.first_free r.free c.self.invariant c.args.self.now run c.self.view_is owned some i (omega arith)
 
 pub set_link-requires : goal.set_link-requires
 set_link-requires c =
@@ -40,7 +40,7 @@ set_link-requires c =
     let run : Run = record { first = c.run.inside.first; count = c.run.inside.count } in
     let owned : Owns c.args.self.now run = subst (Owns c.args.self.now) (sym c.run.view_is) c.requires in
     let some : 0 < run.count = omega (arith, c.if-count-eq0.false) in
-    rw c.cell_after-last.ensures (IsWithin-given r.cells r.first_free r.free c.self.invariant c.args.self.now run c.self.view_is owned some c.from.result (omega arith))
+    rw c.cell_after-last.ensures (IsWalk-given r.cells r.first_free r.free c.self.invariant c.args.self.now run c.self.view_is owned some c.from.result (omega arith))
 
 pub invariant_of-self-2 : goal.invariant_of-self-2
 invariant_of-self-2 c =

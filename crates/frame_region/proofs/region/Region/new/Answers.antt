@@ -1,4 +1,4 @@
-use Rattle.std.proofs.Common.{◌<◌, arith, refl}
+use Rattle.std.proofs.Common.{arith, refl}
 use Rattle.frame_region.proofs.Start.{IsSound-start, runs_start}
 use Rattle.frame_region.proofs.Views.{same_view}
 use Rattle.frame_region.proofs.region.Region.new.Goals as goal

@@ -1,14 +1,14 @@
 use Rattle.std.proofs.Common.{List, ℕ, length, take, drop, ap, sym, ◌∙◌}
-use Rattle.frame_region.proofs.Owned.{line_out}
+use Rattle.frame_region.proofs.Owned.{path_out}
 use Rattle.frame_region.proofs.Views.{owned_out}
 use Rattle.frame_region.proofs.region.Region.read.Goals as goal
 
-pub read_run-requires-clause-within : goal.read_run-requires-clause-within
-read_run-requires-clause-within c =
+pub read_run-requires-clause-walk : goal.read_run-requires-clause-walk
+read_run-requires-clause-walk c =
     let r = c.self.inside in
     let run = c.args.run.now in
     let out = owned_out r.cells.frame r.cells.links.items r.cells.bytes.items r.first_free r.free c.self.invariant r.cells.not_empty r.cells.filled c.args.self.now run c.self.view_is c.requires.owned in
-    (line_out r.cells.frame r.cells.links.items r.cells.bytes.items r.first_free r.free c.self.invariant r.cells.not_empty r.cells.filled run.first run.count out.0).within
+    (path_out r.cells.frame r.cells.links.items r.cells.bytes.items r.first_free r.free c.self.invariant r.cells.not_empty r.cells.filled run.first run.count out.0).within
 
 pub returns : goal.returns
 returns c =

@@ -1,5 +1,5 @@
 use Rattle.std.proofs.Common.{arith, rules}
-use Rattle.frame_region.proofs.Taking.{taken_line}
+use Rattle.frame_region.proofs.Taking.{taken_path}
 use Rattle.frame_region.proofs.Taken.{HasTaken-none, IsSound-after_take, HasTaken-after_take}
 use Rattle.frame_region.proofs.region.Region.take.Goals as goal
 
@@ -22,20 +22,20 @@ returns-then-n-eq0 c =
       frames = search rules;
     }
 
-pub clear_line-last-requires-clause-line : goal.clear_line-last-requires-clause-line
-clear_line-last-requires-clause-line c =
+pub clear_path-last-requires-clause-path : goal.clear_path-last-requires-clause-path
+clear_path-last-requires-clause-path c =
     let r = c.self.inside in
-    taken_line r.cells.frame r.cells.links.items r.cells.bytes.items r.first_free r.free c.self.invariant c.args.n (omega arith) c.if-self-n.false
+    taken_path r.cells.frame r.cells.links.items r.cells.bytes.items r.first_free r.free c.self.invariant c.args.n (omega arith) c.if-self-n.false
 
 pub invariant_of-self : goal.invariant_of-self
 invariant_of-self c =
     let r = c.self.inside in
-    IsSound-after_take r.cells c.clear_line-last.new.self c.set_link.new.self r.first_free r.free c.self.invariant c.args.n c.clear_line-last.result c.link-self-inside.result 4294967295 (omega arith) c.if-self-n.false (omega arith) c.clear_line-last.ensures.last c.clear_line-last.ensures.zero c.clear_line-last.ensures.others c.clear_line-last.ensures.frame c.clear_line-last.ensures.links c.link-self-inside.ensures c.set_link.ensures.links c.set_link.ensures.frame c.set_link.ensures.bytes
+    IsSound-after_take r.cells c.clear_path-last.new.self c.set_link.new.self r.first_free r.free c.self.invariant c.args.n c.clear_path-last.result c.link-self-inside.result 4294967295 (omega arith) c.if-self-n.false (omega arith) c.clear_path-last.ensures.last c.clear_path-last.ensures.zero c.clear_path-last.ensures.others c.clear_path-last.ensures.frame c.clear_path-last.ensures.links c.link-self-inside.ensures c.set_link.ensures.links c.set_link.ensures.frame c.set_link.ensures.bytes
 
 pub returns : goal.returns
 returns c =
     let r = c.self.inside in
-    let taken = HasTaken-after_take r.cells c.clear_line-last.new.self c.set_link.new.self r.first_free r.free c.self.invariant c.args.n c.clear_line-last.result c.link-self-inside.result 4294967295 (omega arith) c.if-self-n.false (omega arith) c.clear_line-last.ensures.last c.clear_line-last.ensures.zero c.clear_line-last.ensures.others c.clear_line-last.ensures.frame c.clear_line-last.ensures.links c.link-self-inside.ensures c.set_link.ensures.links c.set_link.ensures.frame c.set_link.ensures.bytes c.args.self.now c.self.view_is in
+    let taken = HasTaken-after_take r.cells c.clear_path-last.new.self c.set_link.new.self r.first_free r.free c.self.invariant c.args.n c.clear_path-last.result c.link-self-inside.result 4294967295 (omega arith) c.if-self-n.false (omega arith) c.clear_path-last.ensures.last c.clear_path-last.ensures.zero c.clear_path-last.ensures.others c.clear_path-last.ensures.frame c.clear_path-last.ensures.links c.link-self-inside.ensures c.set_link.ensures.links c.set_link.ensures.frame c.set_link.ensures.bytes c.args.self.now c.self.view_is in
     record {
       refused = search rules;
       told = search rules;

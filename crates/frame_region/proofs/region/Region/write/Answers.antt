@@ -1,11 +1,11 @@
 use Rattle.std.proofs.Common.{rules}
-use Rattle.frame_region.proofs.Written.{line_of_run, IsSound-after_write, HasWritten-after_write}
+use Rattle.frame_region.proofs.Written.{path_of_run, IsSound-after_write, HasWritten-after_write}
 use Rattle.frame_region.proofs.region.Region.write.Goals as goal
 
-pub write_run-requires-clause-line : goal.write_run-requires-clause-line
-write_run-requires-clause-line c =
+pub write_run-requires-clause-path : goal.write_run-requires-clause-path
+write_run-requires-clause-path c =
     let r = c.self.inside in
-    line_of_run r.cells r.first_free r.free c.self.invariant c.args.self.now c.args.run.now c.self.view_is c.requires.owned
+    path_of_run r.cells r.first_free r.free c.self.invariant c.args.self.now c.args.run.now c.self.view_is c.requires.owned
 
 pub invariant_of-self : goal.invariant_of-self
 invariant_of-self c =

@@ -1,9 +1,9 @@
 use Rattle.std.proofs.Common.{◌≡◌, ◌*◌, length, replicate, slice_index, ap, ◌∙◌, arith}
 use Rattle.frame_region.specs.Region.{overwritten}
 use Rattle.frame_region.specs.Cells.{content, after}
-use Rattle.frame_region.proofs.LineLemmas.{after_more, cleared_more, beside_more}
+use Rattle.frame_region.proofs.PathLemmas.{after_more, cleared_more, beside_more}
 use Rattle.frame_region.proofs.JoinedPieces.{joined-replicate}
-use Rattle.frame_region.proofs.cells.Cells.clear_line.Goals as goal
+use Rattle.frame_region.proofs.cells.Cells.clear_path.Goals as goal
 
 pub loop-step-preserved : goal.loop-step-preserved
 loop-step-preserved c =
@@ -15,8 +15,8 @@ loop-step-preserved c =
     record {
       cell = c.link-cell.ensures ∙ ap (λ ls. slice_index ls c.loop-step.cell) links ∙ after_more cells.links.items c.args.first c.loop-step._step c.loop-step.cell c.loop-step.invariant.cell;
       last = c.loop-step.invariant.cell ∙ ap (after cells.links.items c.args.first) (omega arith);
-      zero = cleared_more cells.frame cells.links.items now.bytes.items c.clear.new.self.bytes.items filled c.args.first c.args.count c.loop-step._step c.loop-step.cell c.requires.line c.loop-step-test.true c.loop-step.invariant.cell cleared c.loop-step.invariant.zero;
-      others = beside_more cells.frame cells.links.items now.bytes.items c.clear.new.self.bytes.items filled c.args.first c.args.count c.loop-step._step c.loop-step.cell c.requires.line c.loop-step-test.true c.loop-step.invariant.cell cleared cells.bytes.items c.loop-step.invariant.others;
+      zero = cleared_more cells.frame cells.links.items now.bytes.items c.clear.new.self.bytes.items filled c.args.first c.args.count c.loop-step._step c.loop-step.cell c.requires.path c.loop-step-test.true c.loop-step.invariant.cell cleared c.loop-step.invariant.zero;
+      others = beside_more cells.frame cells.links.items now.bytes.items c.clear.new.self.bytes.items filled c.args.first c.args.count c.loop-step._step c.loop-step.cell c.requires.path c.loop-step-test.true c.loop-step.invariant.cell cleared cells.bytes.items c.loop-step.invariant.others;
       frame = c.clear.ensures.frame ∙ c.loop-step.invariant.frame;
       links = links;
     }
