@@ -20,9 +20,13 @@ pub struct NoFrames {
 }
 
 impl fmt::Display for NoFrames {
+    ghost use Rattle.std.specs.Prelude.{◌++◌, Some, codes, decimal};
+
+    ghost output = { λ e. Some (codes "too few free frames: " ++ decimal e.free) };
+
     fn fmt<W: fmt::Write>(&self, f: &mut fmt::Formatter<W>) -> fmt::Result {
         let free = self.free;
-        write!(f, "not enough free frames: {free}")
+        write!(f, "too few free frames: {free}")
     }
 }
 
