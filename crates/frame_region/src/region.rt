@@ -9,7 +9,7 @@ use std::error::Error;
 use std::fmt;
 use std::marker::Model;
 
-// No frame has this number.
+// No frame has this number: the last frame of a run is linked to it.
 const NO_FRAME: u32 = u32::MAX;
 
 /// Fewer frames are free than were asked for.
@@ -32,10 +32,14 @@ impl fmt::Display for NoFrames {
 
 impl Error for NoFrames {}
 
-/// Frames of one size, which are taken in runs and given back. A run needs no frames beside each other:
-/// as long as as many frames are free as it has, it can be taken.
+/// Frames of one size in a fixed block of memory, which are taken in runs and given back.
 ///
-/// All memory is taken by `new`.
+/// The frames of a run need not lie beside each other, so a run can be taken whenever enough frames are
+/// free. Only `new` takes memory. To take and to give back costs a step for each frame of the run.
+///
+/// A holder of many runs keeps two facts: each run is the region's (`Owns`), and no two runs share a
+/// frame (`Apart`). The run that `take` gives shares none with any other, and the clauses `others` carry
+/// both facts, and the bytes of each run, over every call.
 #[derive(Drop)]
 pub struct Region {
     cells: Cells,
@@ -62,7 +66,7 @@ impl Model for Region {
 }
 
 impl Region {
-    /// A region of `frames` frames of `frame` bytes each, all of them free.
+    /// A region of `frames` frames of `frame` bytes each, all of them free. It fails only for want of memory.
     pub fn new(alloc: Global, frames: u32, frame: u32) -> Result<Region, OutOfMemory>
         requires some_frames { 1 ≤ frames }
         requires not_too_many { frames ≤ 4194304 }
@@ -78,7 +82,8 @@ impl Region {
         })
     }
 
-    /// Takes `n` free frames, whose bytes are then 0.
+    /// Takes `n` free frames, which need not lie beside each other, and makes their bytes 0. A run of no
+    /// frames can always be taken.
     pub fn take(&mut self, n: u32) -> Result<FrameRun, NoFrames>
         // It fails exactly where fewer frames are free, and then nothing changes.
         ensures refused { IsErr result ↔ (self.old.free < n) }
@@ -115,9 +120,11 @@ impl Region {
         Ok(FrameRun { first, count: n })
     }
 
-    /// Gives the frames of a run back.
+    /// Gives the frames of a run back, so that they are free again.
     pub fn give(&mut self, run: FrameRun)
         requires { Owns self.old run }
+
+        // Exactly the frames of the run come back, and no other run changes.
         ensures free { self.new.free ≡ self.old.free + run.count }
         ensures others { KeepsOthers self.old self.new run }
         ensures after { self.new ≡ with_run self.old run None (self.old.free + run.count) }
@@ -130,12 +137,12 @@ impl Region {
         if count == 0 {
             return;
         }
-        let last = self.cells.cell_after(first, u64::from(count - 1));
+        let last = self.cells.cell_after(first, count as usize - 1);
         self.cells.set_link(last, self.first_free);
         self.first_free = first;
     }
 
-    /// Copies bytes of a run, from `start` on, until `out` is full.
+    /// Copies the bytes of a run into `out` until it is full, from the byte `start` of the run on.
     pub fn read(&self, run: &FrameRun, start: u64, out: &mut [u8])
         requires owned { Owns self.now run.now }
         requires range { start + length out.old ≤ length (bytes_of self.now run.now) }
@@ -144,14 +151,14 @@ impl Region {
         self.cells.read_run(run, start as usize, out);
     }
 
-    /// Writes bytes into a run, from `start` on.
+    /// Writes bytes over those of a run, from the byte `start` of the run on.
     pub fn write(&mut self, run: &FrameRun, start: u64, bytes: &[u8])
         requires owned { Owns self.old run.now }
         requires range { start + length bytes.now ≤ length (bytes_of self.old run.now) }
-
         ensures owned { Owns self.new run.now }
         ensures written { bytes_of self.new run.now ≡ overwritten (bytes_of self.old run.now) start bytes.now }
 
+        // Nothing but the bytes of this run changes.
         ensures free { self.new.free ≡ self.old.free }
         ensures others { KeepsOthers self.old self.new run.now }
         ensures after { self.new ≡ with_run self.old run.now (Some (overwritten (bytes_of self.old run.now) start bytes.now)) self.old.free }

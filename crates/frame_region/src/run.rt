@@ -1,7 +1,7 @@
 use std::marker::Model;
 
-/// A run of frames that was taken from a region. It is given back by `Region::give`; where it is let
-/// go instead, its frames stay taken.
+/// A run of frames that was taken from a region, which has nothing to release it by itself: where it is
+/// let go and not passed to `Region::give`, its frames stay taken.
 #[derive(Debug, Drop)]
 pub struct FrameRun {
     pub(crate) first: u32,

@@ -6,8 +6,8 @@ use crate::cells::Cells;
 use crate::run::FrameRun;
 
 impl Cells {
-    /// The cell that so many links lead to.
-    pub fn cell_after(&self, first: u32, steps: u64) -> u32
+    /// The cell that so many links lead to from this one.
+    pub fn cell_after(&self, first: u32, steps: usize) -> u32
         requires { IsWalk self.now.links.items first steps }
         ensures { result ≡ after self.now.links.items first steps }
     {
@@ -18,7 +18,7 @@ impl Cells {
         cell
     }
 
-    /// Makes each byte of so many cells 0, from this one on along the links, and answers the last.
+    /// Makes each byte of so many cells 0, from this one on along the links, and gives the last of them.
     pub fn clear_path(&mut self, first: u32, count: u32) -> u32
         requires some { 0 < count }
         requires path { IsPath self.old.links.items first count }
@@ -45,7 +45,7 @@ impl Cells {
         ensures { out.new ≡ take (length out.old) (drop start (bytes_along self.now.frame self.now.links.items self.now.bytes.items run.now.first run.now.count)) }
     {
         let frame = self.frame;
-        let mut cell = self.cell_after(run.first, (start / frame) as u64);
+        let mut cell = self.cell_after(run.first, start / frame);
         let mut offset = start % frame;
         let mut done = 0;
         while done < out.len() {
@@ -67,7 +67,7 @@ impl Cells {
         ensures links { self.new.links.items ≡ self.old.links.items }
     {
         let frame = self.frame;
-        let mut cell = self.cell_after(run.first, (start / frame) as u64);
+        let mut cell = self.cell_after(run.first, start / frame);
         let mut offset = start % frame;
         let mut done = 0;
         while done < source.len() {

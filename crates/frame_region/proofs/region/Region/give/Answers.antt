@@ -40,7 +40,7 @@ set_link-requires c =
     let run : Run = record { first = c.run.inside.first; count = c.run.inside.count } in
     let owned : Owns c.args.self.now run = subst (Owns c.args.self.now) (sym c.run.view_is) c.requires in
     let some : 0 < run.count = omega (arith, c.if-count-eq0.false) in
-    rw c.cell_after-last.ensures (IsWalk-given r.cells r.first_free r.free c.self.invariant c.args.self.now run c.self.view_is owned some c.from.result (omega arith))
+    rw c.cell_after-last.ensures (IsWalk-given r.cells r.first_free r.free c.self.invariant c.args.self.now run c.self.view_is owned some (run.count - 1) (omega arith))
 
 pub invariant_of-self-2 : goal.invariant_of-self-2
 invariant_of-self-2 c =
@@ -49,7 +49,7 @@ invariant_of-self-2 c =
     let owned : Owns c.args.self.now run = subst (Owns c.args.self.now) (sym c.run.view_is) c.requires in
     let some : 0 < run.count = omega (arith, c.if-count-eq0.false) in
     let links : c.set_link.new.self.links.items ≡ set r.cells.links.items (after r.cells.links.items run.first (run.count - 1)) r.first_free =
-    c.set_link.ensures.links ∙ ap (λ (i : ℕ). set r.cells.links.items i r.first_free) (c.cell_after-last.ensures ∙ ap (after r.cells.links.items run.first) c.from.ensures) in
+    c.set_link.ensures.links ∙ ap (λ (i : ℕ). set r.cells.links.items i r.first_free) (c.cell_after-last.ensures) in
     IsSound-after_give r.cells r.first_free r.free c.self.invariant c.args.self.now run c.self.view_is owned some c.set_link.new.self c.set_link.ensures.frame links c.set_link.ensures.bytes
 
 pub returns : goal.returns
@@ -59,7 +59,7 @@ returns c =
     let owned : Owns c.args.self.now run = subst (Owns c.args.self.now) (sym c.run.view_is) c.requires in
     let some : 0 < run.count = omega (arith, c.if-count-eq0.false) in
     let links : c.set_link.new.self.links.items ≡ set r.cells.links.items (after r.cells.links.items run.first (run.count - 1)) r.first_free =
-    c.set_link.ensures.links ∙ ap (λ (i : ℕ). set r.cells.links.items i r.first_free) (c.cell_after-last.ensures ∙ ap (after r.cells.links.items run.first) c.from.ensures) in
+    c.set_link.ensures.links ∙ ap (λ (i : ℕ). set r.cells.links.items i r.first_free) (c.cell_after-last.ensures) in
     let given = HasGiven-after_give r.cells r.first_free r.free c.self.invariant c.args.self.now run c.self.view_is owned some c.set_link.new.self c.set_link.ensures.frame links c.set_link.ensures.bytes in
     record {
       free = search rules;

@@ -25,17 +25,17 @@ returns-then-n-eq0 c =
 pub clear_path-last-requires-clause-path : goal.clear_path-last-requires-clause-path
 clear_path-last-requires-clause-path c =
     let r = c.self.inside in
-    taken_path r.cells.frame r.cells.links.items r.cells.bytes.items r.first_free r.free c.self.invariant c.args.n (omega arith) c.if-self-n.false
+    taken_path r.cells.frame r.cells.links.items r.cells.bytes.items r.first_free r.free c.self.invariant c.args.n (omega arith) (omega arith)
 
 pub invariant_of-self : goal.invariant_of-self
 invariant_of-self c =
     let r = c.self.inside in
-    IsSound-after_take r.cells c.clear_path-last.new.self c.set_link.new.self r.first_free r.free c.self.invariant c.args.n c.clear_path-last.result c.link-self-inside.result 4294967295 (omega arith) c.if-self-n.false (omega arith) c.clear_path-last.ensures.last c.clear_path-last.ensures.zero c.clear_path-last.ensures.others c.clear_path-last.ensures.frame c.clear_path-last.ensures.links c.link-self-inside.ensures c.set_link.ensures.links c.set_link.ensures.frame c.set_link.ensures.bytes
+    IsSound-after_take r.cells c.clear_path-last.new.self c.set_link.new.self r.first_free r.free c.self.invariant c.args.n c.clear_path-last.result c.link-self-inside.result 4294967295 (omega arith) (omega arith) (omega arith) c.clear_path-last.ensures.last c.clear_path-last.ensures.zero c.clear_path-last.ensures.others c.clear_path-last.ensures.frame c.clear_path-last.ensures.links c.link-self-inside.ensures c.set_link.ensures.links c.set_link.ensures.frame c.set_link.ensures.bytes
 
 pub returns : goal.returns
 returns c =
     let r = c.self.inside in
-    let taken = HasTaken-after_take r.cells c.clear_path-last.new.self c.set_link.new.self r.first_free r.free c.self.invariant c.args.n c.clear_path-last.result c.link-self-inside.result 4294967295 (omega arith) c.if-self-n.false (omega arith) c.clear_path-last.ensures.last c.clear_path-last.ensures.zero c.clear_path-last.ensures.others c.clear_path-last.ensures.frame c.clear_path-last.ensures.links c.link-self-inside.ensures c.set_link.ensures.links c.set_link.ensures.frame c.set_link.ensures.bytes c.args.self.now c.self.view_is in
+    let taken = HasTaken-after_take r.cells c.clear_path-last.new.self c.set_link.new.self r.first_free r.free c.self.invariant c.args.n c.clear_path-last.result c.link-self-inside.result 4294967295 (omega arith) (omega arith) (omega arith) c.clear_path-last.ensures.last c.clear_path-last.ensures.zero c.clear_path-last.ensures.others c.clear_path-last.ensures.frame c.clear_path-last.ensures.links c.link-self-inside.ensures c.set_link.ensures.links c.set_link.ensures.frame c.set_link.ensures.bytes c.args.self.now c.self.view_is in
     record {
       refused = search rules;
       told = search rules;
