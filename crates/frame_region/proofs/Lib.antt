@@ -1,0 +1,16 @@
+pub mod Overwrites
+pub mod Contents
+pub mod JoinedPieces
+pub mod PathLemmas
+pub mod Places
+pub mod Transfers
+pub mod Chains
+pub mod Runs
+pub mod Taking
+pub mod Giving
+pub mod Owned
+pub mod Start
+pub mod Views
+pub mod Written
+pub mod Taken
+pub mod Given

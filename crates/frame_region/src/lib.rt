@@ -1,0 +1,13 @@
+//! Frames of one size in a fixed block, which are taken and given back in runs.
+#![tactic(auto)]
+
+mod cells;
+mod region;
+mod run;
+#[cfg(test)]
+mod tests;
+mod walks;
+
+pub use region::{NoFrames, Region};
+pub use run::FrameRun;
+pub use std::alloc::AllocError as OutOfMemory;
