@@ -1,0 +1,6 @@
+pub mod Events
+pub mod Passes
+pub mod Opening
+pub mod Taking
+pub mod Giving
+pub mod Splitting

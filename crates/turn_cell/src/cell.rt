@@ -1,0 +1,222 @@
+ghost use Rattle.std.specs.Prelude.{◌≡◌, ◌+◌, ◌-◌, ◌<◌, ◌≤◌, ◌^◌, ◌↔◌, ◌++◌, [], ◌∷◌, length, Some, IfOk, OnOk, IfErr, OnErr};
+ghost use Rattle.turn_cell.specs.declared.machine.DoorFault.TheVariants.{Worn};
+ghost use Rattle.turn_cell.specs.Histories.{NoneBy, NoneFrom, numbers_of};
+ghost use Rattle.turn_cell.specs.Steps.{Finds, Extends};
+ghost use Rattle.turn_cell.specs.Rule.{resting};
+ghost use Rattle.turn_cell.specs.Plays.{Holds, IsChanged, IsUnchanged};
+
+use crate::knowledge::Knowledge;
+use crate::machine::{Machine, Stopped};
+use crate::pass::Pass;
+use crate::rule::{Cut, GiveNext, GiveSame, OneHistory, Share, Take};
+use atomic_table::{Refused, Seat, Table};
+use std::alloc::{AllocError, Global};
+use std::hint::spin_loop;
+use std::marker::{Brand, Model};
+use std::snapshot::Snapshot;
+use std::sync::Wait;
+use std::sync::atomic::AtomicU64;
+use std::sync::atomic::Ordering::SeqCst;
+
+/// One value that threads change in turns.
+#[derive(Drop)]
+pub struct Turn<M: Machine> {
+    table: Table<M, Knowledge<M::Event, M::Fixed>, Snapshot<M>, OneHistory<M>, Global>,
+    // How many threads sleep until the value is at home, or are about to.
+    sleepers: AtomicU64,
+}
+
+impl<M: Machine> Model for Turn<M> {
+    ghost use Rattle.std.specs.Prelude.{◌≡◌};
+    ghost use Rattle.turn_cell.specs.Views.{CellView};
+
+    ghost Value = { CellView M.Fixed };
+
+    ghost view = { λ t. record { id = t.table.shared.table_id; fixed = M.fixed t.table.shared.key.value } };
+
+    ghost invariant = { λ t. (t.table.shared.table_id.words ≡ 1) × (t.table.shared.table_id.slots ≡ 1) };
+}
+
+impl<M: Machine + Drop> Turn<M> {
+    /// A cell with this value at home, and its first pass, whose number is 1. At `Err` the value is
+    /// dropped.
+    pub fn new(alloc: Global, state: M) -> Result<(Turn<M>, Pass<M>), AllocError>
+        requires legal { M.lawful (M.fixed state) (M.history state) }
+        requires unnumbered { NoneFrom M.by 1 (M.history state) }
+        ensures cell { IfOk result (λ r. r.0.fixed ≡ M.fixed state) }
+        ensures pass { IfOk result (λ r. r.1 ≡ record { cell = r.0; number = 1; room = 2 ^ 62; seen = M.history state }) }
+    {
+        let about = Snapshot::of(&state);
+        let mut slots = Vec::new(alloc);
+        slots.push(state)?;
+        match Table::new(alloc, &[0], slots, &about) {
+            Ok((table, seat)) => Ok((
+                Turn {
+                    table,
+                    sleepers: AtomicU64::new(0),
+                },
+                Pass {
+                    number: 1,
+                    room: 1 << 62,
+                    seat,
+                },
+            )),
+            Err(Refused { slots: _ }) => Err(AllocError),
+        }
+    }
+}
+
+impl<M: Machine> Turn<M> {
+    /// Gives the last `share` numbers of a pass to a new pass, which has seen what the first has seen.
+    pub fn split(&self, pass: &mut Pass<M>, share: u64) -> Pass<M>
+        requires pass { pass.old.cell ≡ self.now }
+        requires share { (1 ≤ share) × (share < pass.old.room) }
+        ensures left { pass.new ≡ record pass.old { room = pass.old.room - share } }
+        ensures right { result ≡ record pass.old { number = pass.old.number + (pass.old.room - share); room = share } }
+        ensures fresh { NoneBy M.by result.number result.seen }
+    {
+        let seat = self.cut::<Brand>(&mut pass.seat, share);
+        pass.room -= share;
+        Pass {
+            number: pass.number + pass.room,
+            room: share,
+            seat,
+        }
+    }
+
+    /// Waits for the turn, and applies one operation to the value.
+    pub fn step<R: Wait>(
+        &self,
+        rt: &R,
+        alloc: Global,
+        pass: &mut Pass<M>,
+        actor: &mut M::Actor,
+        op: M::Op,
+        moment: u64,
+    ) -> Result<M::Answer, Stopped<M::Op>>
+        requires pass { pass.old.cell ≡ self.now }
+        requires actor { M.pass actor.old ≡ pass.old.number }
+        requires allowed { M.allowed self.now.fixed pass.old.seen actor.old op }
+        ensures pass { pass.new ≡ record pass.old { seen = pass.new.seen } }
+        ensures actor { M.pass actor.new ≡ M.pass actor.old }
+
+        ensures made { IfOk result (λ answer. Extends M.by M.lawful self.now.fixed pass.old.number pass.old.seen (M.event actor.old op moment answer) pass.new.seen) }
+        ensures mine { OnOk result (numbers_of M.by pass.old.number pass.new.seen ≡ numbers_of M.by pass.old.number pass.old.seen ++ length pass.new.seen ∷ []) }
+        ensures tells { IfOk result (λ answer. M.tells actor.old op answer actor.new pass.new.seen) }
+        ensures room { OnOk result (length pass.new.seen ≤ 2 ^ 62) }
+
+        ensures stopped { OnErr result ((pass.new ≡ pass.old) × (actor.new ≡ actor.old)) }
+        ensures handed_back { IfErr result (λ s. s.op ≡ Some op) }
+        ensures worn { IfErr result (λ s. Finds M.by M.lawful self.now.fixed pass.old.number pass.old.seen (λ found. (s.fault ≡ Worn) ↔ (length found ≡ 2 ^ 62))) }
+    {
+        self.take(rt, &mut pass.seat);
+        let state = pass.seat.slot_mut(&self.table.shared, 0);
+        match state.apply(alloc, actor, op, moment) {
+            Ok(answer) => {
+                self.give_next(&mut pass.seat);
+                Ok(answer)
+            }
+            Err(stopped) => {
+                self.give_same(&mut pass.seat);
+                Err(stopped)
+            }
+        }
+    }
+}
+
+// The kinds of atomic step.
+impl<M: Machine> Turn<M> {
+    // Waits until the value is at home, and takes it.
+    fn take<R: Wait>(&self, rt: &R, seat: &mut Seat<M, Knowledge<M::Event, M::Fixed>>)
+        requires { seat.old.table_id ≡ self.now.id }
+        ensures same { (seat.new.table_id ≡ seat.old.table_id) × (seat.new.id ≡ seat.old.id) }
+        ensures holds { (m : M) × (seat.new.me.1 ≡ (0, m) ∷ seat.old.me.1) × Holds M.history M.fixed M.by M.lawful seat.old.me.0 m seat.new.me.0 }
+    {
+        for _ in rt.forever() {
+            let number = self.look();
+            if number % 2 == 1 {
+                self.sleep(rt, number);
+                continue;
+            }
+            let found = self
+                .table
+                .shared
+                .compare_exchange::<Take<M>>(seat, 0, number, number + 1);
+            if found == number {
+                return;
+            }
+        }
+        unreachable!()
+    }
+
+    // Gives the value back, which has one event more.
+    fn give_next(&self, seat: &mut Seat<M, Knowledge<M::Event, M::Fixed>>)
+        requires cell { seat.old.table_id ≡ self.now.id }
+        requires changed { IsChanged M.history M.fixed M.by M.lawful seat.old.me }
+        ensures same { seat.new.table_id ≡ seat.old.table_id }
+        ensures seen { (m : M) → seat.old.me.1 ≡ (0, m) ∷ [] → seat.new.me ≡ (resting seat.old.me.0.number seat.old.me.0.room (M.history m) seat.old.me.0.fixed, []) }
+    {
+        let _number = self.table.shared.fetch_add::<GiveNext<M>>(seat, 0, 1);
+        self.wake();
+    }
+
+    // Gives the value back unchanged.
+    fn give_same(&self, seat: &mut Seat<M, Knowledge<M::Event, M::Fixed>>)
+        requires cell { seat.old.table_id ≡ self.now.id }
+        requires unchanged { IsUnchanged M.history M.fixed M.lawful seat.old.me }
+        ensures same { seat.new.table_id ≡ seat.old.table_id }
+        ensures seen { seat.new.me ≡ (resting seat.old.me.0.number seat.old.me.0.room seat.old.me.0.seen seat.old.me.0.fixed, []) }
+    {
+        let _number = self.table.shared.fetch_sub::<GiveSame<M>>(seat, 0, 1);
+        self.wake();
+    }
+
+    // Cuts the numbers of a pass in two.
+    fn cut<B: Share>(
+        &self,
+        seat: &mut Seat<M, Knowledge<M::Event, M::Fixed>>,
+        share: u64,
+    ) -> Seat<M, Knowledge<M::Event, M::Fixed>>
+        requires cell { seat.old.table_id ≡ self.now.id }
+        requires share { (B.share ≡ share) × (0 < share) × (share < seat.old.me.0.room) }
+        ensures left { (seat.new.table_id ≡ seat.old.table_id) × (seat.new.me ≡ (resting seat.old.me.0.number (seat.old.me.0.room - share) seat.old.me.0.seen seat.old.me.0.fixed, seat.old.me.1)) }
+        ensures right { (result.table_id ≡ seat.old.table_id) × (result.me ≡ (resting (seat.old.me.0.number + (seat.old.me.0.room - share)) share seat.old.me.0.seen seat.old.me.0.fixed, [])) }
+    {
+        self.table.shared.split_seat::<Cut<B>>(seat)
+    }
+}
+
+// How often a thread looks before it sleeps.
+const LOOKS: u32 = 100;
+
+// Waiting, which changes nothing that a pass knows.
+impl<M: Machine> Turn<M> {
+    // The number, once it is even, which says that the value is at home, or after some looks.
+    fn look(&self) -> u64 {
+        for _ in 0..LOOKS {
+            let number = self.table.shared.peek(0);
+            if number % 2 == 0 {
+                return number;
+            }
+            spin_loop();
+        }
+        self.table.shared.peek(0)
+    }
+
+    // Sleeps until a wake, if the number is still this one. A thread counts itself first, so whoever
+    // has the value sees it when the value is given back.
+    fn sleep<R: Wait>(&self, rt: &R, number: u64) {
+        self.sleepers.fetch_add(1, SeqCst);
+        self.table
+            .shared
+            .park(rt, 0, (number % (1 << 32)) as u32);
+        self.sleepers.fetch_sub(1, SeqCst);
+    }
+
+    // Wakes one thread, if any sleeps.
+    fn wake(&self) {
+        if self.sleepers.load(SeqCst) > 0 {
+            self.table.shared.wake_one(0);
+        }
+    }
+}

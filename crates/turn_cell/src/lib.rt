@@ -1,0 +1,12 @@
+//! Turns on one value.
+#![tactic(auto)]
+
+mod cell;
+mod knowledge;
+mod machine;
+mod pass;
+mod rule;
+
+pub use cell::Turn;
+pub use machine::{DoorFault, Machine, Stopped};
+pub use pass::Pass;
