@@ -42,12 +42,13 @@ module _ {E : Type 0} (by : E → ℕ) where
   none_by_between low high pass es l h p =
       all_weaker (λ e. (by e < low) ⊎ (high ≤ by e)) (λ e. by e ≢ pass) (λ e d is. ⊎_elim (λ a. absurd (omega (arith, a, l, is))) (λ b. absurd (omega (arith, b, h, is))) d) es p
 
-  pub none_by_from : (low pass : ℕ) (es : List E) → low ≤ pass → NoneFrom by low es → NoneBy by pass es
-  none_by_from low pass es l p = all_weaker (λ e. by e < low) (λ e. by e ≢ pass) (λ e a is. absurd (omega (arith, a, l, is))) es p
-
   numbers_of_none : (next pass : ℕ) (es : List E) → NoneBy by pass es → numbers_from by next pass es ≡ []
   numbers_of_none next pass [] p = refl
   numbers_of_none next pass (e ∷ es) p = rw (ne_eqb (by e) pass p.0) (numbers_of_none (next + 1) pass es p.1)
+
+  -- a pass that made no event has no numbers
+  pub numbers_of_fresh : (low high pass : ℕ) (es : List E) → low ≤ pass → pass < high → NoneBetween by low high es → numbers_of by pass es ≡ []
+  numbers_of_fresh low high pass es l h p = numbers_of_none 1 pass es (none_by_between low high pass es l h p)
 
   numbers_append : (next pass : ℕ) (xs ys : List E) → numbers_from by next pass (xs ++ ys) ≡ numbers_from by next pass xs ++ numbers_from by (next + length xs) pass ys
   numbers_append next pass [] ys = ap (λ n. numbers_from by n pass ys) (sym (add-zero next))

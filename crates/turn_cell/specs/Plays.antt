@@ -31,10 +31,11 @@ module _ {M E F : Type 0} where
   abbrev pub GivesSame : Step M → Me M (Knowledge E F) → ℕ → Me M (Knowledge E F) → Type 0
   GivesSame s before found after = after ≡ (resting before.0.number before.0.room before.0.seen before.0.fixed, rest before.1)
 
--- The seat of a pass that is not in a step. No event that it has seen is by one of the numbers that it keeps for splits
-pub record IsAtRest {M E F : Type 0} (by : E → ℕ) (number room : ℕ) (me : Me M (Knowledge E F)) : Type 0 where
+-- The seat of a pass that is not in a step. What it has seen is lawful, and no event there is by one of the numbers that it keeps for splits
+pub record IsAtRest {M E F : Type 0} (by : E → ℕ) (lawful : F → List E → Type 0) (number room : ℕ) (me : Me M (Knowledge E F)) : Type 0 where
   pub knows : me.0 ≡ resting number room me.0.seen me.0.fixed
   pub empty : me.1 ≡ []
+  pub legal : lawful me.0.fixed me.0.seen
   pub unused : NoneBetween by (number + 1) (number + room) me.0.seen
   pub first : 1 ≤ number
   pub some_room : 0 < room

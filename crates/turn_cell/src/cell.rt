@@ -45,6 +45,8 @@ impl<M: Machine + Drop> Turn<M> {
         requires unnumbered { NoneFrom M.by 1 (M.history state) }
         ensures cell { IfOk result (λ r. r.0.fixed ≡ M.fixed state) }
         ensures pass { IfOk result (λ r. r.1 ≡ record { cell = r.0; number = 1; room = 2 ^ 62; seen = M.history state }) }
+        ensures fresh { IfOk result (λ r. NoneBy M.by r.1.number r.1.seen) }
+        ensures mine { IfOk result (λ r. numbers_of M.by r.1.number r.1.seen ≡ []) }
     {
         let about = Snapshot::of(&state);
         let mut slots = Vec::new(alloc);
@@ -74,6 +76,8 @@ impl<M: Machine> Turn<M> {
         ensures left { pass.new ≡ record pass.old { room = pass.old.room - share } }
         ensures right { result ≡ record pass.old { number = pass.old.number + (pass.old.room - share); room = share } }
         ensures fresh { NoneBy M.by result.number result.seen }
+        ensures mine { numbers_of M.by result.number result.seen ≡ [] }
+        ensures legal { M.lawful self.now.fixed result.seen }
     {
         let seat = self.cut::<Brand>(&mut pass.seat, share);
         pass.room -= share;
@@ -99,11 +103,12 @@ impl<M: Machine> Turn<M> {
         requires allowed { M.allowed self.now.fixed pass.old.seen actor.old op }
         ensures pass { pass.new ≡ record pass.old { seen = pass.new.seen } }
         ensures actor { M.pass actor.new ≡ M.pass actor.old }
+        ensures legal { M.lawful self.now.fixed pass.new.seen }
 
         ensures made { IfOk result (λ answer. Extends M.by M.lawful self.now.fixed pass.old.number pass.old.seen (M.event actor.old op moment answer) pass.new.seen) }
         ensures mine { OnOk result (numbers_of M.by pass.old.number pass.new.seen ≡ numbers_of M.by pass.old.number pass.old.seen ++ length pass.new.seen ∷ []) }
         ensures tells { IfOk result (λ answer. M.tells actor.old op answer actor.new pass.new.seen) }
-        ensures room { OnOk result (length pass.new.seen ≤ 2 ^ 62) }
+        ensures number { OnOk result ((length pass.old.seen < length pass.new.seen) × (length pass.new.seen ≤ 2 ^ 62)) }
 
         ensures stopped { OnErr result ((pass.new ≡ pass.old) × (actor.new ≡ actor.old)) }
         ensures handed_back { IfErr result (λ s. s.op ≡ Some op) }

@@ -22,20 +22,22 @@ impl<M: Machine> Model for Pass<M> {
 
     ghost view = { λ p. record { cell = record { id = p.seat.table_id; fixed = p.seat.me.0.fixed }; number = p.number; room = p.room; seen = p.seat.me.0.seen } };
 
-    ghost invariant = { λ p. IsAtRest M.by p.number p.room p.seat.me };
+    ghost invariant = { λ p. IsAtRest M.by M.lawful p.number p.room p.seat.me };
 }
 
 impl<M: Machine> Pass<M> {
-    /// The number of the pass, which its actors and its events have. It is 1 to 2^62.
+    /// The pass's number, which its actors and its events have.
     pub fn number(&self) -> u64
-        ensures { result ≡ self.now.number }
+        ensures value { result ≡ self.now.number }
+        ensures range { (1 ≤ result) × (result ≤ 2 ^ 62) }
     {
         self.number
     }
 
-    /// How many numbers the pass owns, its own number the first of them. There is at least one.
+    /// How many numbers are the pass's own, from `number` on.
     pub fn room(&self) -> u64
-        ensures { result ≡ self.now.room }
+        ensures value { result ≡ self.now.room }
+        ensures range { (1 ≤ result) × (self.now.number + result ≤ 2 ^ 62 + 1) }
     {
         self.room
     }
