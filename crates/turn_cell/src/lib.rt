@@ -10,3 +10,6 @@ mod rule;
 pub use cell::Turn;
 pub use machine::{DoorFault, Machine, Stopped};
 pub use pass::Pass;
+
+#[cfg(test)]
+mod tests;
