@@ -4,3 +4,4 @@ pub mod Steps
 pub mod Rule
 pub mod Plays
 pub mod Deposits
+pub mod Faults

@@ -212,9 +212,7 @@ impl<M: Machine> Turn<M> {
     // has the value sees it when the value is given back.
     fn sleep<R: Wait>(&self, rt: &R, number: u64) {
         self.sleepers.fetch_add(1, SeqCst);
-        self.table
-            .shared
-            .park(rt, 0, (number % (1 << 32)) as u32);
+        self.table.shared.park(rt, 0, (number % (1 << 32)) as u32);
         self.sleepers.fetch_sub(1, SeqCst);
     }
 

@@ -14,6 +14,10 @@ pub enum DoorFault {
 }
 
 impl fmt::Display for DoorFault {
+    ghost use Rattle.turn_cell.specs.Faults.{text_of};
+
+    ghost output = { λ fault. Some (text_of fault) };
+
     fn fmt<W: fmt::Write>(&self, f: &mut fmt::Formatter<W>) -> fmt::Result {
         f.write_str(match self {
             DoorFault::OutOfMemory => "out of memory",
@@ -25,7 +29,7 @@ impl fmt::Display for DoorFault {
 impl Error for DoorFault {}
 
 /// A step that made no event, and the operation that was not done.
-#[derive(Debug, Drop)]
+#[derive(Debug, PartialEq, Eq, Drop)]
 pub struct Stopped<O> {
     pub fault: DoorFault,
     /// `Some` where the fault is `OutOfMemory` or `Worn`.

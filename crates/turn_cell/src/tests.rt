@@ -1,6 +1,4 @@
-ghost use Rattle.std.specs.Prelude.{◌≡◌, ◌+◌, ◌≤◌, ◌<◌, ◌^◌, IfOk, OnOk, vec_len};
-ghost use Rattle.turn_cell.specs.Deposits.{IsBalanced, history_of};
-ghost use Rattle.turn_cell.specs.Histories.{NoneFrom};
+ghost use Rattle.std.specs.Prelude.{◌≡◌, ◌≤◌, ◌^◌, IfOk};
 
 mod deposits;
 
@@ -15,7 +13,7 @@ use std::thread::{Threads, join};
 // A cell of deposits after `before` events, and its first pass.
 fn cell_after(alloc: Global, before: u64) -> Result<(Turn<Deposits>, Pass<Deposits>), Fail>
     requires { before ≤ 2 ^ 62 }
-    ensures { IfOk result (λ r. r.1.cell ≡ r.0) }
+    ensures { IfOk result (λ r. (r.1.cell ≡ r.0) × (r.1.room ≡ 2 ^ 62)) }
 {
     Ok(Turn::new(alloc, Deposits::after(alloc, before))?)
 }
@@ -61,7 +59,6 @@ fn deposit_often<R: Wait + Abort>(
 
 fn two_threads<R: Threads + Wait + Abort + Sync>(rt: &R, alloc: Global) -> Result<(), Fail> {
     let (cell, mut first) = cell_after(alloc, 0)?;
-    assert!(rt; first.room() > 1000);
     let second = cell.split(&mut first, 1000);
     let (mut first, _second) = join(
         rt,
@@ -83,4 +80,59 @@ fn two_threads<R: Threads + Wait + Abort + Sync>(rt: &R, alloc: Global) -> Resul
 fn a_third_pass_sees_the_steps_of_two_threads(rt: HostRuntime) -> Result<(), Fail> {
     let alloc = rt.alloc();
     two_threads(&rt, alloc)
+}
+
+#[test]
+fn a_split_gives_away_the_last_numbers(rt: HostRuntime) -> Result<(), Fail> {
+    let (cell, mut first) = cell_after(rt.alloc(), 0)?;
+    let mut second = cell.split(&mut first, 1000);
+    let third = cell.split(&mut second, 999);
+    let owned = [
+        (first.number(), first.room()),
+        (second.number(), second.room()),
+        (third.number(), third.room()),
+    ];
+    assert!(rt;
+        owned
+            == [
+                (1, 4611686018427386904),
+                (4611686018427386905, 1),
+                (4611686018427386906, 999)
+            ]
+    );
+    Ok(())
+}
+
+#[test]
+fn a_stopped_step_hands_its_operation_back_and_changes_nothing(
+    rt: HostRuntime,
+) -> Result<(), Fail> {
+    let alloc = rt.alloc();
+    let paid = Deposit {
+        cents: 5,
+        starves: false,
+    };
+    let starved = Deposit {
+        cents: 7,
+        starves: true,
+    };
+    let (cell, mut pass) = cell_after(alloc, 0)?;
+    assert!(rt; deposit(&rt, alloc, &cell, &mut pass, paid) == Ok((5, 1)));
+    assert!(rt;
+        deposit(&rt, alloc, &cell, &mut pass, starved)
+            == Err(Stopped {
+                fault: DoorFault::OutOfMemory,
+                op: Some(starved)
+            })
+    );
+    assert!(rt; deposit(&rt, alloc, &cell, &mut pass, paid) == Ok((10, 2)));
+    let (full, mut pass) = cell_after(alloc, 1 << 62)?;
+    assert!(rt;
+        deposit(&rt, alloc, &full, &mut pass, paid)
+            == Err(Stopped {
+                fault: DoorFault::Worn,
+                op: Some(paid)
+            })
+    );
+    Ok(())
 }
