@@ -15,11 +15,15 @@ pub record Holds {M E F : Type 0} (history : M → List E) (fixed : M → F) (by
   pub legal : lawful v.fixed (v.seen ++ between)
   pub unused : NoneBetween by (v.number + 1) (v.number + v.room) (v.seen ++ between)
 
+-- the seat has taken the value
+abbrev pub HasTaken : {M E F : Type 0} → (M → List E) → (M → F) → (E → ℕ) → (F → List E → Type 0) → Me M (Knowledge E F) → Me M (Knowledge E F) → Type 0
+HasTaken {M} history fixed by lawful before after = (m : M) × (after.1 ≡ (0, m) ∷ before.1) × Holds history fixed by lawful before.0 m after.0
+
 module _ {M E F : Type 0} where
   -- the seat took the value where the number was as expected, and nothing changed elsewhere
   abbrev pub Takes : (M → List E) → (M → F) → (E → ℕ) → (F → List E → Type 0) → Step M → Me M (Knowledge E F) → ℕ → Me M (Knowledge E F) → Type 0
   Takes history fixed by lawful s before found after =
-      (found ≡ s.first → (m : M) × (after.1 ≡ (0, m) ∷ before.1) × Holds history fixed by lawful before.0 m after.0)
+      (found ≡ s.first → HasTaken history fixed by lawful before after)
       × (found ≢ s.first → after ≡ before)
 
   -- the seat gave the value back, and has seen its history

@@ -1,29 +1,28 @@
 ghost use Rattle.std.specs.Prelude.{◌≡◌, ◌+◌, ◌-◌, ◌<◌, ◌≤◌, ◌^◌, ◌↔◌, ◌++◌, [], ◌∷◌, length, Some, IfOk, OnOk, IfErr, OnErr};
+ghost use Rattle.std.specs.Bool.{OnTrue, OnFalse};
 ghost use Rattle.turn_cell.specs.declared.machine.DoorFault.TheVariants.{Worn};
 ghost use Rattle.turn_cell.specs.Histories.{NoneBy, NoneFrom, numbers_of};
 ghost use Rattle.turn_cell.specs.Steps.{Finds, Extends};
 ghost use Rattle.turn_cell.specs.Rule.{resting};
-ghost use Rattle.turn_cell.specs.Plays.{Holds, IsChanged, IsUnchanged};
+ghost use Rattle.turn_cell.specs.Plays.{HasTaken, IsChanged, IsUnchanged};
 
 use crate::knowledge::Knowledge;
 use crate::machine::{Machine, Stopped};
 use crate::pass::Pass;
 use crate::rule::{Cut, GiveNext, GiveSame, OneHistory, Share, Take};
+use crate::sleepers::Sleepers;
 use atomic_table::{Refused, Seat, Table};
 use std::alloc::{AllocError, Global};
 use std::hint::spin_loop;
 use std::marker::{Brand, Model};
 use std::snapshot::Snapshot;
 use std::sync::Wait;
-use std::sync::atomic::AtomicU64;
-use std::sync::atomic::Ordering::SeqCst;
 
 /// One value that threads change in turns.
 #[derive(Drop)]
 pub struct Turn<M: Machine> {
     table: Table<M, Knowledge<M::Event, M::Fixed>, Snapshot<M>, OneHistory<M>, Global>,
-    // How many threads sleep until the value is at home, or are about to.
-    sleepers: AtomicU64,
+    sleepers: Sleepers,
 }
 
 impl<M: Machine> Model for Turn<M> {
@@ -55,7 +54,7 @@ impl<M: Machine + Drop> Turn<M> {
             Ok((table, seat)) => Ok((
                 Turn {
                     table,
-                    sleepers: AtomicU64::new(0),
+                    sleepers: Sleepers::new(),
                 },
                 Pass {
                     number: 1,
@@ -131,24 +130,54 @@ impl<M: Machine> Turn<M> {
 
 // The kinds of atomic step.
 impl<M: Machine> Turn<M> {
-    // Waits until the value is at home, and takes it.
+    // Takes the value once it is at home.
     fn take<R: Wait>(&self, rt: &R, seat: &mut Seat<M, Knowledge<M::Event, M::Fixed>>)
         requires { seat.old.table_id ≡ self.now.id }
-        ensures same { (seat.new.table_id ≡ seat.old.table_id) × (seat.new.id ≡ seat.old.id) }
-        ensures holds { (m : M) × (seat.new.me.1 ≡ (0, m) ∷ seat.old.me.1) × Holds M.history M.fixed M.by M.lawful seat.old.me.0 m seat.new.me.0 }
+        ensures same { seat.new.table_id ≡ seat.old.table_id }
+        ensures holds { HasTaken M.history M.fixed M.by M.lawful seat.old.me seat.new.me }
     {
+        if !self.try_take(seat) {
+            self.wait_and_take(rt, seat);
+        }
+    }
+
+    // Takes the value if it is at home and no other thread is faster.
+    fn try_take(&self, seat: &mut Seat<M, Knowledge<M::Event, M::Fixed>>) -> bool
+        requires { seat.old.table_id ≡ self.now.id }
+        ensures same { (seat.new.table_id ≡ seat.old.table_id) × (seat.new.id ≡ seat.old.id) }
+        ensures holds { OnTrue result (HasTaken M.history M.fixed M.by M.lawful seat.old.me seat.new.me) }
+        ensures missed { OnFalse result (seat.new.me ≡ seat.old.me) }
+    {
+        let number = self.table.shared.peek(0);
+        if number % 2 == 1 {
+            return false;
+        }
+        let found = self
+            .table
+            .shared
+            .compare_exchange::<Take<M>>(seat, 0, number, number + 1);
+        found == number
+    }
+
+    #[cold]
+    fn wait_and_take<R: Wait>(&self, rt: &R, seat: &mut Seat<M, Knowledge<M::Event, M::Fixed>>)
+        requires { seat.old.table_id ≡ self.now.id }
+        ensures same { seat.new.table_id ≡ seat.old.table_id }
+        ensures holds { HasTaken M.history M.fixed M.by M.lawful seat.old.me seat.new.me }
+    {
+        let mut has_announced = false;
         for _ in rt.forever() {
-            let number = self.look();
-            if number % 2 == 1 {
-                self.sleep(rt, number);
-                continue;
-            }
-            let found = self
-                .table
-                .shared
-                .compare_exchange::<Take<M>>(seat, 0, number, number + 1);
-            if found == number {
+            self.look();
+            if self.try_take(seat) {
+                if has_announced {
+                    self.sleepers.call();
+                }
                 return;
+            }
+            let key = self.sleepers.announce();
+            has_announced = true;
+            if self.is_out() {
+                key.wait(rt);
             }
         }
         unreachable!()
@@ -162,7 +191,7 @@ impl<M: Machine> Turn<M> {
         ensures seen { (m : M) → seat.old.me.1 ≡ (0, m) ∷ [] → seat.new.me ≡ (resting seat.old.me.0.number seat.old.me.0.room (M.history m) seat.old.me.0.fixed, []) }
     {
         let _number = self.table.shared.fetch_add::<GiveNext<M>>(seat, 0, 1);
-        self.wake();
+        self.sleepers.wake_one();
     }
 
     // Gives the value back unchanged.
@@ -173,7 +202,7 @@ impl<M: Machine> Turn<M> {
         ensures seen { seat.new.me ≡ (resting seat.old.me.0.number seat.old.me.0.room seat.old.me.0.seen seat.old.me.0.fixed, []) }
     {
         let _number = self.table.shared.fetch_sub::<GiveSame<M>>(seat, 0, 1);
-        self.wake();
+        self.sleepers.wake_one();
     }
 
     // Cuts the numbers of a pass in two.
@@ -194,32 +223,18 @@ impl<M: Machine> Turn<M> {
 // How often a thread looks before it sleeps.
 const LOOKS: u32 = 100;
 
-// Waiting, which changes nothing that a pass knows.
 impl<M: Machine> Turn<M> {
-    // The number, once it is even, which says that the value is at home, or after some looks.
-    fn look(&self) -> u64 {
+    fn is_out(&self) -> bool {
+        self.table.shared.peek(0) % 2 == 1
+    }
+
+    // Looks for a while, as long as the value is out.
+    fn look(&self) {
         for _ in 0..LOOKS {
-            let number = self.table.shared.peek(0);
-            if number % 2 == 0 {
-                return number;
+            if !self.is_out() {
+                return;
             }
             spin_loop();
-        }
-        self.table.shared.peek(0)
-    }
-
-    // Sleeps until a wake, if the number is still this one. A thread counts itself first, so whoever
-    // has the value sees it when the value is given back.
-    fn sleep<R: Wait>(&self, rt: &R, number: u64) {
-        self.sleepers.fetch_add(1, SeqCst);
-        self.table.shared.park(rt, 0, (number % (1 << 32)) as u32);
-        self.sleepers.fetch_sub(1, SeqCst);
-    }
-
-    // Wakes one thread, if any sleeps.
-    fn wake(&self) {
-        if self.sleepers.load(SeqCst) > 0 {
-            self.table.shared.wake_one(0);
         }
     }
 }

@@ -6,6 +6,7 @@ mod knowledge;
 mod machine;
 mod pass;
 mod rule;
+mod sleepers;
 
 pub use cell::Turn;
 pub use machine::{DoorFault, Machine, Stopped};

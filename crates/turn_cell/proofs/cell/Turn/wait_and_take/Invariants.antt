@@ -1,5 +1,5 @@
 use Rattle.std.proofs.Common.{◌≡◌}
-use Rattle.turn_cell.proofs.cell.Turn.take.Given as goal
+use Rattle.turn_cell.proofs.cell.Turn.wait_and_take.Given as goal
 
 -- a look or a sleep changes nothing that the pass knows
 abbrev pub invariant-loop : goal.invariant-loop
