@@ -60,6 +60,7 @@ impl<M: Machine + Drop> Turn<M> {
                     number: 1,
                     room: 1 << 62,
                     seat,
+                    expected: 0,
                 },
             )),
             Err(Refused { slots: _ }) => Err(AllocError),
@@ -84,6 +85,7 @@ impl<M: Machine> Turn<M> {
             number: pass.number + pass.room,
             room: share,
             seat,
+            expected: pass.expected,
         }
     }
 
@@ -113,15 +115,17 @@ impl<M: Machine> Turn<M> {
         ensures handed_back { IfErr result (λ s. s.op ≡ Some op) }
         ensures worn { IfErr result (λ s. Finds M.by M.lawful self.now.fixed pass.old.number pass.old.seen (λ found. (s.fault ≡ Worn) ↔ (length found ≡ 2 ^ 62))) }
     {
-        self.take(rt, &mut pass.seat);
+        let number = self.take(rt, &mut pass.seat, pass.expected);
         let state = pass.seat.slot_mut(&self.table.shared, 0);
         match state.apply(alloc, actor, op, moment) {
             Ok(answer) => {
                 self.give_next(&mut pass.seat);
+                pass.expected = number.wrapping_add(2);
                 Ok(answer)
             }
             Err(stopped) => {
                 self.give_same(&mut pass.seat);
+                pass.expected = number;
                 Err(stopped)
             }
         }
@@ -130,25 +134,31 @@ impl<M: Machine> Turn<M> {
 
 // The kinds of atomic step.
 impl<M: Machine> Turn<M> {
-    // Takes the value once it is at home.
-    fn take<R: Wait>(&self, rt: &R, seat: &mut Seat<M, Knowledge<M::Event, M::Fixed>>)
+    // Takes the value once it is at home, and answers the number that the word had then.
+    fn take<R: Wait>(
+        &self,
+        rt: &R,
+        seat: &mut Seat<M, Knowledge<M::Event, M::Fixed>>,
+        expected: u64,
+    ) -> u64
         requires { seat.old.table_id ≡ self.now.id }
         ensures same { seat.new.table_id ≡ seat.old.table_id }
         ensures holds { HasTaken M.history M.fixed M.by M.lawful seat.old.me seat.new.me }
     {
-        if !self.try_take(seat) {
-            self.wait_and_take(rt, seat);
+        if self.try_take(seat, expected) {
+            expected
+        } else {
+            self.wait_and_take(rt, seat)
         }
     }
 
-    // Takes the value if it is at home and no other thread is faster.
-    fn try_take(&self, seat: &mut Seat<M, Knowledge<M::Event, M::Fixed>>) -> bool
+    // Takes the value if the word has this number, which says that the value is at home.
+    fn try_take(&self, seat: &mut Seat<M, Knowledge<M::Event, M::Fixed>>, number: u64) -> bool
         requires { seat.old.table_id ≡ self.now.id }
         ensures same { (seat.new.table_id ≡ seat.old.table_id) × (seat.new.id ≡ seat.old.id) }
         ensures holds { OnTrue result (HasTaken M.history M.fixed M.by M.lawful seat.old.me seat.new.me) }
         ensures missed { OnFalse result (seat.new.me ≡ seat.old.me) }
     {
-        let number = self.table.shared.peek(0);
         if number % 2 == 1 {
             return false;
         }
@@ -160,19 +170,24 @@ impl<M: Machine> Turn<M> {
     }
 
     #[cold]
-    fn wait_and_take<R: Wait>(&self, rt: &R, seat: &mut Seat<M, Knowledge<M::Event, M::Fixed>>)
+    #[inline(never)]
+    fn wait_and_take<R: Wait>(
+        &self,
+        rt: &R,
+        seat: &mut Seat<M, Knowledge<M::Event, M::Fixed>>,
+    ) -> u64
         requires { seat.old.table_id ≡ self.now.id }
         ensures same { seat.new.table_id ≡ seat.old.table_id }
         ensures holds { HasTaken M.history M.fixed M.by M.lawful seat.old.me seat.new.me }
     {
         let mut has_announced = false;
         for _ in rt.forever() {
-            self.look();
-            if self.try_take(seat) {
+            let number = self.look();
+            if self.try_take(seat, number) {
                 if has_announced {
                     self.sleepers.call();
                 }
-                return;
+                return number;
             }
             let key = self.sleepers.announce();
             has_announced = true;
@@ -228,13 +243,15 @@ impl<M: Machine> Turn<M> {
         self.table.shared.peek(0) % 2 == 1
     }
 
-    // Looks for a while, as long as the value is out.
-    fn look(&self) {
+    // The number of the word, once the value is at home, or after some looks.
+    fn look(&self) -> u64 {
         for _ in 0..LOOKS {
-            if !self.is_out() {
-                return;
+            let number = self.table.shared.peek(0);
+            if number % 2 == 0 {
+                return number;
             }
             spin_loop();
         }
+        self.table.shared.peek(0)
     }
 }

@@ -12,6 +12,8 @@ pub struct Pass<M: Machine> {
     pub(crate) number: u64,
     pub(crate) room: u64,
     pub(crate) seat: Seat<M, Knowledge<M::Event, M::Fixed>>,
+    // The number that the cell's word had after the last step through this pass.
+    pub(crate) expected: u64,
 }
 
 impl<M: Machine> Model for Pass<M> {
