@@ -1,4 +1,9 @@
+//! What a pass knows.
+use crate::machine::Machine;
 use std::collections::LinkedList;
+
+/// The seat of a pass, with which it makes atomic steps.
+pub type Seat<M> = atomic_table::Seat<M, Knowledge<<M as Machine>::Event, <M as Machine>::Fixed>>;
 
 /// What a pass knows. No value of it is made.
 pub struct Knowledge<E, F> {

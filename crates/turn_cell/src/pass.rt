@@ -1,18 +1,18 @@
-ghost use Rattle.std.specs.Prelude.{◌≡◌, ◌+◌, ◌^◌, ◌<◌, ◌≤◌};
+//! Passes.
+ghost use Rattle.std.specs.Prelude.{◌≡◌, ◌+◌, ◌^◌, ◌≤◌};
 
-use crate::knowledge::Knowledge;
+use crate::knowledge::Seat;
 use crate::machine::Machine;
-use atomic_table::Seat;
 use std::marker::Model;
 
-/// A pass of one turn cell. Contracts see it as its cell, its own numbers and the history that it
-/// has seen.
+/// The right to make events in one cell, under a number that no other pass has. Contracts see which
+/// cell it is of, its numbers, and the history that it has seen.
 #[derive(Drop)]
 pub struct Pass<M: Machine> {
     pub(crate) number: u64,
     pub(crate) room: u64,
-    pub(crate) seat: Seat<M, Knowledge<M::Event, M::Fixed>>,
-    // The number that the cell's word had after the last step through this pass.
+    pub(crate) seat: Seat<M>,
+    // What the cell's word was after the last step through this pass.
     pub(crate) expected: u64,
 }
 
@@ -22,7 +22,12 @@ impl<M: Machine> Model for Pass<M> {
 
     ghost Value = { PassView M.Event M.Fixed };
 
-    ghost view = { λ p. record { cell = record { id = p.seat.table_id; fixed = p.seat.me.0.fixed }; number = p.number; room = p.room; seen = p.seat.me.0.seen } };
+    ghost view = { λ p. record {
+      cell = record { id = p.seat.table_id; fixed = p.seat.me.0.fixed };
+      number = p.number;
+      room = p.room;
+      seen = p.seat.me.0.seen;
+    } };
 
     ghost invariant = { λ p. IsAtRest M.by M.lawful p.number p.room p.seat.me };
 }

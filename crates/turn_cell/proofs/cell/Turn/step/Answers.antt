@@ -6,7 +6,7 @@ use Rattle.turn_cell.proofs.cell.Turn.step.Goals as goal
 pub returns-in-Ok-clause-mine : goal.returns-in-Ok-clause-mine
 returns-in-Ok-clause-mine g c =
     let by = g.M.Machine.by in
-    let h = c.take-number.ensures.holds.2 in
+    let h = c.take-number.ensures.taken.2 in
     let e = g.M.Machine.event c.args.actor.now c.args.op c.args.moment c.in-Ok.answer in
     let number : c.pass.inside.seat.me.0.number ≡ c.args.pass.now.number = search rules in
     let now : c.give_next.new.seat.me.0.seen ≡ (c.args.pass.now.seen ++ h.between) ++ e ∷ [] = search rules in
