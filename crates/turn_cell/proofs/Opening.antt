@@ -1,13 +1,12 @@
 -- A new cell keeps the rule.
-use Rattle.std.proofs.Common.{◌≡◌, ℕ, zero, suc, ◌+◌, ◌-◌, ◌*◌, ◌^◌, ◌<◌, ◌≤◌, true, false, List, [], ◌∷◌, ◌++◌, length, refl, sym, ap, ◌∙◌, subst, arith}
+use Rattle.std.proofs.Common.{◌≡◌, ℕ, zero, suc, ◌+◌, ◌-◌, ◌*◌, ◌^◌, false, List, [], ◌∷◌, length, refl, sym, ap, ◌∙◌, subst, arith}
 use Rattle.std.proofs.lemmas.List.{append-nil}
 use mathlib.Core.Option.{some, some-injective, some-ne-none}
 use lib.ListN.{get_elem?}
-use Rattle.atomic_table.specs.Table.{State, opening}
+use Rattle.atomic_table.specs.Table.{opening}
 use Rattle.turn_cell.specs.Histories.{NoneFrom}
 use Rattle.turn_cell.specs.declared.knowledge.Knowledge.{Knowledge}
 use Rattle.turn_cell.specs.Rule.{resting, Knows, HasOneHistory}
-use Rattle.turn_cell.specs.Plays.{IsAtRest}
 use Rattle.turn_cell.proofs.Events.{none_between_from, none_between_less}
 
 only_at : {A : Type 0} (Q : ℕ → A → Type 0) (w : A) → Q 0 w → (j : ℕ) (v : A) → get_elem? (w ∷ []) j ≡ some v → Q j v

@@ -1,10 +1,9 @@
 -- A pass is cut in two, and the rule is kept.
 use Rattle.std.proofs.Common.{◌≡◌, ℕ, zero, suc, ◌+◌, ◌-◌, ◌<◌, ◌≤◌, ◌⊎◌, List, [], ◌∷◌, ◌++◌, length, set, refl, sym, ap, ◌∙◌, subst, inl, inr, ⊎_elim, arith}
-use Rattle.std.specs.List.{AllByRecursion}
 use mathlib.Core.Option.{some, some-injective, some-ne-none}
 use lib.ListN.{get_elem?}
 use Rattle.atomic_table.specs.Table.{State, Splits}
-use Rattle.turn_cell.specs.Histories.{NoneBy, NoneBetween}
+use Rattle.turn_cell.specs.Histories.{NoneBetween}
 use Rattle.turn_cell.specs.declared.knowledge.Knowledge.{Knowledge}
 use Rattle.turn_cell.specs.Rule.{resting, Knows, AreApart, HasOneHistory}
 use Rattle.turn_cell.proofs.Events.{all_behind, none_between_less, none_by_between}

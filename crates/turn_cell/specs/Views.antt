@@ -7,7 +7,7 @@ pub record CellView (F : Type 0) : Type 0 where
   pub id : TableId
   pub fixed : F
 
--- Of which cell the pass is, and the history that it has seen. The numbers from `number` to below `number + room` are its own
+-- The cell that the pass is of, and the history that it has seen. The numbers from `number` to below `number + room` are its own
 pub record PassView (E F : Type 0) : Type 0 where
   pub cell : CellView F
   pub number : ℕ

@@ -8,7 +8,7 @@ ghost use Rattle.turn_cell.specs.Rule.{resting};
 ghost use Rattle.turn_cell.specs.Plays.{HasTaken, IsChanged, IsUnchanged};
 
 use crate::knowledge::{Knowledge, Seat};
-use crate::machine::{Machine, Stopped};
+use crate::machine::{Machine, OutOfMemory, Stopped};
 use crate::pass::Pass;
 use crate::rule::{Cut, GiveNext, GiveSame, OneHistory, Share, Take};
 use crate::sleepers::Sleepers;
@@ -49,7 +49,7 @@ impl<M: Machine> Model for Turn<M> {
 impl<M: Machine + Drop> Turn<M> {
     /// A cell with this value at home, and its first pass. The history so far is lawful and has no
     /// event of a pass, whose numbers begin with 1. At `Err` the value is dropped.
-    pub fn new(alloc: Global, state: M) -> Result<(Turn<M>, Pass<M>), AllocError>
+    pub fn new(alloc: Global, state: M) -> Result<(Turn<M>, Pass<M>), OutOfMemory>
         requires legal { M.lawful (M.fixed state) (M.history state) }
         requires unnumbered { NoneFrom M.by 1 (M.history state) }
         ensures cell { IfOk result (λ r. r.0.fixed ≡ M.fixed state) }
@@ -256,7 +256,7 @@ impl<M: Machine> Turn<M> {
             let number = self.look();
             if self.try_take(seat, number) {
                 if has_announced {
-                    self.sleepers.call();
+                    self.sleepers.ask_for_wake();
                 }
                 return number;
             }

@@ -19,7 +19,7 @@ mod rule;
 mod sleepers;
 
 pub use cell::Turn;
-pub use machine::{DoorFault, Machine, Stopped};
+pub use machine::{DoorFault, Machine, OutOfMemory, Stopped};
 pub use pass::Pass;
 
 #[cfg(test)]

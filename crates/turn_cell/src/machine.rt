@@ -1,9 +1,12 @@
 //! What a cell holds, and why a step stops.
 ghost use Rattle.std.specs.Prelude.{◌≡◌, ℕ, ◌^◌, ◌<◌, ◌↔◌, ◌++◌, ◌∷◌, [], List, length, IfOk, OnOk, IfErr, OnErr, Some};
 
-use std::alloc::Global;
+use std::alloc::{AllocError, Global};
 use std::error::Error;
 use std::fmt;
+
+/// Memory ran out.
+pub type OutOfMemory = AllocError;
 
 /// Why a step made no event.
 #[derive(Clone, Copy, Debug, PartialEq, Eq)]

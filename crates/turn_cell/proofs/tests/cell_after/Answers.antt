@@ -1,4 +1,3 @@
-use Rattle.std.proofs.Common.{ap, sym, subst}
 use Rattle.turn_cell.proofs.Deposits.{legal_before, none_before}
 use Rattle.turn_cell.proofs.tests.cell_after.Goals as goal
 

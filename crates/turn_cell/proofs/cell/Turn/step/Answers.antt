@@ -1,4 +1,4 @@
-use Rattle.std.proofs.Common.{◌≡◌, ◌∙◌, ◌++◌, ◌∷◌, [], ℕ, length, List, ap, sym, subst, rules}
+use Rattle.std.proofs.Common.{◌≡◌, ◌∙◌, ◌++◌, ◌∷◌, [], length, sym, subst, rules}
 use Rattle.turn_cell.specs.Histories.{NoneBy, numbers_of}
 use Rattle.turn_cell.proofs.Events.{numbers_grow}
 use Rattle.turn_cell.proofs.cell.Turn.step.Goals as goal

@@ -1,6 +1,5 @@
-use Rattle.std.proofs.Common.{◌≡◌, ℕ, ◌+◌, ◌%◌, ◌^◌, List, [], ◌∷◌, ◌++◌, ap, sym, subst, ◌∙◌, arith, rules}
+use Rattle.std.proofs.Common.{◌≡◌, ℕ, ◌+◌, ◌%◌, ◌^◌, [], ◌∷◌, ◌++◌, ap, sym, arith}
 use Rattle.std.proofs.lemmas.Grind.{common_steps}
-use Rattle.turn_cell.specs.Deposits.{balance_after, IsBalanced, history_of}
 use Rattle.turn_cell.proofs.Deposits.{balance_push, legal_push}
 use Rattle.turn_cell.proofs.tests.deposits.DepositsMachine.apply.Goals as goal
 
