@@ -22,12 +22,6 @@ impl Tally {
             asked: Vec::with_capacity(alloc, room)?,
         })
     }
-
-    pub fn len(&self) -> usize
-        ensures { result ≡ vec_len self.now.asked }
-    {
-        self.asked.len()
-    }
 }
 
 impl Machine for Tally {
