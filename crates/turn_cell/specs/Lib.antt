@@ -1,0 +1,7 @@
+pub mod Histories
+pub mod Views
+pub mod Steps
+pub mod Rule
+pub mod Plays
+pub mod Deposits
+pub mod Faults
