@@ -9,7 +9,8 @@ use Rattle.std.proofs.Math.Dec.{T}
 use Rattle.std.proofs.lemmas.Float.{T_from_true}
 use Rattle.std.proofs.lemmas.List.{length-map}
 use Rattle.std.proofs.lemmas.Cmp.{nat_list_cmp_total, tied_itself}
-use Rattle.omap_pages.specs.Contents.{Contents, Cell, Cells, values_of, rooms_of, contents_of, room_at}
+use Rattle.omap_pages.specs.Cells.{Cell, Cells, values_of, rooms_of, contents_of}
+use Rattle.omap_pages.specs.Contents.{Contents, room_at}
 use Rattle.omap_pages.specs.Rows.{Rows, IsInOrder, key_cmp, value_at, with_row}
 
 -- each entry with f of its value

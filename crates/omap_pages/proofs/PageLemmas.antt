@@ -7,7 +7,8 @@ use Rattle.std.specs.List.{take-map}
 use Rattle.std.proofs.lemmas.Bool.{and_parts, cases_lt}
 use Rattle.std.proofs.lemmas.Bool.Decides.{nat_tests}
 use Rattle.std.proofs.lemmas.List.{take_rest, take_all, length-map}
-use Rattle.omap_pages.specs.Contents.{Contents, Cell, Cells, values_of, contents_of}
+use Rattle.omap_pages.specs.Cells.{Cell, Cells, values_of, contents_of}
+use Rattle.omap_pages.specs.Contents.{Contents}
 use Rattle.omap_pages.specs.Places.{IsPartedAt}
 use Rattle.omap_pages.specs.Rows.{IsInOrder, key_cmp, rows_after}
 use Rattle.omap_pages.proofs.CellLemmas.{where_seen, order_seen, sorted_where}

@@ -1,5 +1,5 @@
 -- What an ordered map contains: its rows, the room of each, and how many spare rows it has ready.
-use Rattle.std.specs.Prelude.{◌≢◌, ℕ, ◌≤◌, List, map, unwrap_or}
+use Rattle.std.specs.Prelude.{◌≢◌, ℕ, ◌≤◌, List, unwrap_or}
 use Rattle.std.specs.FinMap.Entries.{find}
 use Rattle.omap_pages.specs.Rows.{Rows, key_cmp}
 
@@ -20,21 +20,3 @@ KeepsRooms old new = (q : List ℕ) → room_at old.rooms q ≤ room_at new.room
 -- no room is lowered but the key's
 abbrev pub KeepsOtherRooms : Contents → Contents → List ℕ → Type 0
 KeepsOtherRooms old new key = (q : List ℕ) → q ≢ key → room_at old.rooms q ≤ room_at new.rooms q
-
--- what a row keeps at its key
-pub record Cell : Type 0 where
-  pub value : List ℕ
-  pub room : ℕ
-
-abbrev pub Cells : Type 0
-Cells = List (List ℕ × Cell)
-
-abbrev pub values_of : Cells → Rows
-values_of cells = map (λ e. (e.0, e.1.value)) cells
-
-abbrev pub rooms_of : Cells → List (List ℕ × ℕ)
-rooms_of cells = map (λ e. (e.0, e.1.room)) cells
-
--- what is seen of the cells and of so many spare rows
-abbrev pub contents_of : Cells → ℕ → Contents
-contents_of cells spare = record { rows = values_of cells; rooms = rooms_of cells; spare = spare }

@@ -1,3 +1,4 @@
+pub mod Cells
 pub mod Contents
 pub mod Places
 pub mod Rows

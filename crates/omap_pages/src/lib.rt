@@ -13,3 +13,6 @@ pub use error::OutOfMemory;
 pub use omap::Omap;
 pub use page::{ByteRows, Page};
 pub use spare_row::{SPARE_KEY_LEN, SPARE_VALUE_LEN};
+
+#[cfg(test)]
+mod tests;

@@ -1,4 +1,4 @@
-ghost use Rattle.std.specs.Prelude.{◌≡◌, ◌≢◌, ◌↔◌, ℕ, ◌+◌, ◌<◌, ◌≤◌, List, [], take, length, IsTrue, IsSome, IfSome, IfOk, OnOk, OnErr, is_some, option_map, Some, None, false};
+ghost use Rattle.std.specs.Prelude.{◌≡◌, ◌≢◌, ◌↔◌, ℕ, ◌+◌, ◌<◌, ◌≤◌, List, [], take, length, IsTrue, IsSome, IfSome, IfNone, IfOk, OnOk, OnErr, is_some, option_map, Some, None, false};
 ghost use Rattle.std.specs.Bool.{OnFalse};
 ghost use Rattle.std.specs.List.{splice};
 ghost use Rattle.std.specs.Option.{ForSome};
@@ -28,7 +28,8 @@ pub struct Omap {
 impl Model for Omap {
     ghost use Rattle.std.specs.Prelude.{◌+◌, ◌≤◌, vec_len, vec_capacity, IsTrue};
     ghost use Rattle.std.specs.FinMap.Entries.{is_sorted};
-    ghost use Rattle.omap_pages.specs.Contents.{Contents, contents_of};
+    ghost use Rattle.omap_pages.specs.Cells.{contents_of};
+    ghost use Rattle.omap_pages.specs.Contents.{Contents};
     ghost use Rattle.omap_pages.specs.Rows.{key_cmp};
 
     ghost Value = { Contents };
@@ -60,6 +61,7 @@ impl Omap {
     pub fn get(&self, key: &[u8]) -> Option<&[u8]>
         ensures value { option_map (λ value. value.now) result ≡ value_at self.now.rows key.now }
         ensures fits { IfSome result (λ value. length value.now ≤ room_at self.now.rooms key.now) }
+        ensures no_room { IfNone result (room_at self.now.rooms key.now ≡ 0) }
         ensures in_order { IsInOrder self.now.rows }
     {
         match search(self.rows.as_slice(), key) {
@@ -117,6 +119,7 @@ impl Omap {
         ensures outside { (q : List ℕ) → is_within from.now to.now q ≡ false → value_at self.new.rows q ≡ value_at self.old.rows q }
         ensures rooms_outside { (q : List ℕ) → is_within from.now to.now q ≡ false → room_at self.old.rooms q ≤ room_at self.new.rooms q }
         ensures spare { self.new.spare ≡ self.old.spare }
+        ensures none { result ≡ 0 → self.new ≡ self.old }
     {
         let start = start_from(self.rows.as_slice(), from);
         let end = start_from(self.rows.as_slice(), to).max(start);

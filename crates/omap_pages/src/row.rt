@@ -1,6 +1,6 @@
 ghost use Rattle.std.specs.Prelude.{◌≡◌, ◌+◌, ◌≤◌, length, vec_len, vec_capacity, IfOk, OnOk, OnErr};
 ghost use Rattle.std.specs.List.{splice};
-ghost use Rattle.omap_pages.specs.Contents.{values_of};
+ghost use Rattle.omap_pages.specs.Cells.{values_of};
 
 use rgw_model::Bytes;
 use std::alloc::{AllocError, Global};
@@ -15,7 +15,7 @@ pub(crate) struct Row {
 
 impl Model for Row {
     ghost use Rattle.std.specs.Prelude.{ℕ, List, vec_capacity};
-    ghost use Rattle.omap_pages.specs.Contents.{Cell};
+    ghost use Rattle.omap_pages.specs.Cells.{Cell};
 
     ghost Value = { List ℕ × Cell };
 
@@ -75,8 +75,9 @@ impl Row {
         let shared = count.min(bytes.len());
         let (over, more) = bytes.split_at(shared);
         overwrite(&mut self.value, start, over);
+        let end = start + count;
         if more.is_empty() {
-            drop(self.value.drain(start + shared..start + count));
+            drop(self.value.drain(start + shared..end));
         } else {
             insert_reserved(&mut self.value, start + shared, more);
         }

@@ -1,5 +1,5 @@
 use Rattle.std.proofs.Common.{◌≡◌, take}
-use Rattle.omap_pages.specs.Contents.{values_of}
+use Rattle.omap_pages.specs.Cells.{values_of}
 use Rattle.omap_pages.proofs.row.copies.Given as goal
 
 abbrev pub invariant-loop-row : goal.invariant-loop-row

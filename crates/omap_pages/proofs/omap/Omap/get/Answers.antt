@@ -12,6 +12,7 @@ returns-in-Ok c =
     record {
       value = ap (λ v. Some v) c.value.ensures.value ∙ sym (value_seen cells spare c.args.self.now c.self.view_is c.args.key.now _ found);
       fits = omega (arith, room);
+      no_room = tt;
       in_order = order_seen cells spare c.args.self.now c.self.view_is c.self.invariant.0;
     }
 
@@ -23,5 +24,6 @@ returns-in-Err c =
     record {
       value = sym (value_seen cells spare c.args.self.now c.self.view_is c.args.key.now _ none);
       fits = tt;
+      no_room = room_seen cells spare c.args.self.now c.self.view_is c.args.key.now _ none;
       in_order = order_seen cells spare c.args.self.now c.self.view_is c.self.invariant.0;
     }

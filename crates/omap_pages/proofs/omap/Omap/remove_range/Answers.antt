@@ -2,6 +2,8 @@ use Rattle.std.proofs.Common.{◌≡◌, not, length, take, drop, subst, ap, ◌
 use Rattle.std.specs.List.{remove_range}
 use Rattle.std.specs.Ordering.{is_le}
 use Rattle.std.specs.FinMap.Entries.{where_key}
+use Rattle.std.proofs.lemmas.List.{take-append-drop}
+use Rattle.omap_pages.specs.Cells.{contents_of}
 use Rattle.omap_pages.specs.Places.{IsPartedAt}
 use Rattle.omap_pages.specs.Rows.{key_cmp, is_within}
 use Rattle.omap_pages.proofs.CellLemmas.{is_kept, sorted_where, length-where_seen}
@@ -42,4 +44,8 @@ returns c =
       outside = λ q not_in. seen.passing q (ap not not_in);
       rooms_outside = λ q not_in. seen.rooms q (ap not not_in);
       spare = ap (λ o. o.spare) c.self.view_is;
+      none = λ zero.
+          let same : c.max-end.result ≡ c.start_from-start.result = omega arith in
+          let unchanged = removed c ∙ ap (λ end. remove_range cells c.start_from-start.result end) same ∙ take-append-drop c.start_from-start.result cells in
+          ap (λ es. contents_of es spare) unchanged ∙ c.self.view_is;
     }
