@@ -1,0 +1,6 @@
+pub mod CellLemmas
+pub mod PageLemmas
+pub mod PlaceLemmas
+pub mod RangeLemmas
+pub mod Searched
+pub mod Splices

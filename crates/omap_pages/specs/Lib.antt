@@ -1,0 +1,4 @@
+pub mod Cells
+pub mod Contents
+pub mod Places
+pub mod Rows

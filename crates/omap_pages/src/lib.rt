@@ -1,0 +1,18 @@
+//! An ordered map from bytes to bytes whose rows have room to grow, and which can have spare rows
+//! ready: with these it changes and grows with no memory taken.
+#![tactic(auto)]
+
+mod error;
+mod lookup;
+mod omap;
+mod page;
+mod row;
+mod spare_row;
+
+pub use error::OutOfMemory;
+pub use omap::Omap;
+pub use page::{ByteRows, Page};
+pub use spare_row::{SPARE_KEY_LEN, SPARE_VALUE_LEN};
+
+#[cfg(test)]
+mod tests;
