@@ -1,0 +1,6 @@
+//! The gateway as a program: one connection from standard input to standard output.
+#![tactic(auto)]
+
+mod words;
+
+fn main() {}
