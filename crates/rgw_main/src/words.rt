@@ -1,5 +1,5 @@
 // The words of the command line.
-ghost use Rattle.std.specs.Prelude.{◌≡◌, ◌↔◌, IfOk, MatchOption, None, Some, map, string_bytes};
+ghost use Rattle.std.specs.Prelude.{◌≡◌, ◌↔◌, IfOk, IsErrOf, IsSome, MatchOption, map, string_bytes};
 ghost use Rattle.std.specs.List.{list_all};
 ghost use Rattle.std.specs.Char.{is_ascii_digit};
 ghost use Rattle.rgw_main.specs.Words.{begins_once, begins_with_dash, is_bucket, is_container_name, moment_of, once_of};
@@ -26,6 +26,48 @@ pub enum WordsFault {
     /// They are no words that this program takes.
     Refused,
     OutOfMemory,
+}
+
+/// Reads the words behind the program's name. The name of a container is 1 to 256 bytes without a
+/// byte 0 and does not begin with `-`; the moment is decimal digits, up to 253402300799999999.
+pub fn read_words(alloc: Global, words: &[String]) -> Result<Once, WordsFault>
+    ensures ok { IfOk result (λ once. once_of (map string_bytes words.now) ≡ Some once) }
+    ensures refused { IsErrOf result WordsFault.Refused ↔ (once_of (map string_bytes words.now) ≡ None) }
+    ensures out_of_memory { IsErrOf result WordsFault.OutOfMemory → IsSome (once_of (map string_bytes words.now)) }
+{
+    let Some((bucket, now)) = borrowed(words) else {
+        return Err(WordsFault::Refused);
+    };
+    match Text::from_str(alloc, bucket) {
+        Ok(bucket) => Ok(Once { bucket, now }),
+        Err(_) => Err(WordsFault::OutOfMemory),
+    }
+}
+
+/// What the words ask, the container's name still borrowed from them.
+fn borrowed(words: &[String]) -> Option<(&str, Option<u64>)>
+    ensures { MatchOption result (once_of (map string_bytes words.now) ≡ None)
+        (λ asked. once_of (map string_bytes words.now) ≡ Some (record { bucket = asked.0.now; now = asked.1 })) }
+{
+    match words {
+        [command, option, bucket] => {
+            if !begins_once(command.as_str(), option.as_str()) || !is_bucket(bucket.as_str()) {
+                return None;
+            }
+            Some((bucket.as_str(), None))
+        }
+        [command, option, bucket, now, moment] => {
+            if !begins_once(command.as_str(), option.as_str())
+                || !is_bucket(bucket.as_str())
+                || now.as_str() != "--now"
+            {
+                return None;
+            }
+            let moment = moment_of(moment.as_str())?;
+            Some((bucket.as_str(), Some(moment)))
+        }
+        _ => None,
+    }
 }
 
 fn begins_once(command: &str, option: &str) -> bool
@@ -74,31 +116,5 @@ fn moment_of(word: &str) -> Option<u64>
         Some(moment)
     } else {
         None
-    }
-}
-
-/// What the words ask, the container's name still borrowed from them.
-fn borrowed(words: &[String]) -> Option<(&str, Option<u64>)>
-    ensures { MatchOption result (once_of (map string_bytes words.now) ≡ None)
-        (λ asked. once_of (map string_bytes words.now) ≡ Some (record { bucket = asked.0.now; now = asked.1 })) }
-{
-    match words {
-        [command, option, bucket] => {
-            if !begins_once(command.as_str(), option.as_str()) || !is_bucket(bucket.as_str()) {
-                return None;
-            }
-            Some((bucket.as_str(), None))
-        }
-        [command, option, bucket, now, moment] => {
-            if !begins_once(command.as_str(), option.as_str())
-                || !is_bucket(bucket.as_str())
-                || now.as_str() != "--now"
-            {
-                return None;
-            }
-            let moment = moment_of(moment.as_str())?;
-            Some((bucket.as_str(), Some(moment)))
-        }
-        _ => None,
     }
 }
