@@ -45,9 +45,13 @@ pub fn run<S: Source, K: Sink, C: Clock>(
     // The clock is not asked where the words say the moment.
     ensures unasked { IfSome (once_of (map string_bytes words.now)) (λ once.
         IsSome once.now → clock.new ≡ clock.old) }
+    ensures plan { C.plan clock.new ≡ C.plan clock.old }
 
+    // What failed is counted, and no count falls.
     ensures read_fault { result.number ≡ 2 → Rose (S.faults input.old) (S.faults input.new) }
     ensures write_fault { result.number ≡ 3 → Rose (K.faults output.old) (K.faults output.new) }
+    ensures input_faults { S.faults input.old ≤ S.faults input.new }
+    ensures output_faults { K.faults output.old ≤ K.faults output.new }
 {
     match read_words(alloc, words) {
         Ok(once) => serve_once(alloc, once, input, output, clock),
@@ -73,8 +77,11 @@ fn serve_once<S: Source, K: Sink, C: Clock>(
     ensures not_refused { result.number ≢ 1 }
     ensures no_other { result.number ≤ 5 }
     ensures unasked { IsSome once.now → clock.new ≡ clock.old }
+    ensures plan { C.plan clock.new ≡ C.plan clock.old }
     ensures read_fault { result.number ≡ 2 → Rose (S.faults input.old) (S.faults input.new) }
     ensures write_fault { result.number ≡ 3 → Rose (K.faults output.old) (K.faults output.new) }
+    ensures input_faults { S.faults input.old ≤ S.faults input.new }
+    ensures output_faults { K.faults output.old ≤ K.faults output.new }
 {
     let Once { bucket, now } = once;
     match now {
@@ -102,6 +109,8 @@ fn serve_by_clock<S: Source, K: Sink, C: Clock>(
     ensures plan { C.plan clock.new ≡ C.plan clock.old }
     ensures read_fault { result.number ≡ 2 → Rose (S.faults input.old) (S.faults input.new) }
     ensures write_fault { result.number ≡ 3 → Rose (K.faults output.old) (K.faults output.new) }
+    ensures input_faults { S.faults input.old ≤ S.faults input.new }
+    ensures output_faults { K.faults output.old ≤ K.faults output.new }
 {
     let Ok(mut store) = PlainStore::new(alloc, bucket) else {
         return Status { number: 4 };
@@ -130,6 +139,8 @@ fn serve_at<S: Source, K: Sink>(
     ensures no_other { result.number ≤ 5 }
     ensures read_fault { result.number ≡ 2 → Rose (S.faults input.old) (S.faults input.new) }
     ensures write_fault { result.number ≡ 3 → Rose (K.faults output.old) (K.faults output.new) }
+    ensures input_faults { S.faults input.old ≤ S.faults input.new }
+    ensures output_faults { K.faults output.old ≤ K.faults output.new }
 {
     let mut clock = StepClock::new(moment, 0);
     serve_by_clock(alloc, bucket, input, output, &mut clock)
