@@ -76,7 +76,7 @@ serves_by_status bucket store after old new (Err fault) status is by h end =
 
 end_is_no_fault : (served : Served) → 2 ≤ end_status served.end → end_status served.end ≤ 4 → ⊥
 end_is_no_fault served low high = elim served.end as (λ end. 2 ≤ end_status end → end_status end ≤ 4 → ⊥) [
-    Conn.Clean ↦ λ l h. omega arith
+  | Conn.Clean ↦ λ l h. omega arith
   | Conn.Closed ↦ λ l h. omega arith
   | Conn.Cut ↦ λ l h. omega arith
   | Conn.Refused ↦ λ l h. omega arith

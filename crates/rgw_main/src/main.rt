@@ -13,6 +13,8 @@ use std::process::ExitCode;
 use std::rt::{Clock, Env};
 use std::{env, io};
 
+#[cfg(test)]
+mod tests;
 
 /// The words behind the program's name.
 fn arguments<R: Env + AllocGlobal>(rt: &R) -> io::Result<Vec<String>> {
