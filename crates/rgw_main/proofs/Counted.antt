@@ -1,5 +1,5 @@
 -- Words that are too few or too many.
-use Rattle.std.proofs.Common.{◌≡◌, ◌≢◌, ℕ, List, [], ◌∷◌, length, map, None, refl, String, Global, string_bytes}
+use Rattle.std.proofs.Common.{◌≡◌, ◌≢◌, List, [], ◌∷◌, length, map, None, refl, String, Global, string_bytes}
 use Rattle.rgw_main.specs.Words.{once_of}
 
 -- neither three nor five

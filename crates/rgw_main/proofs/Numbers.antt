@@ -1,11 +1,10 @@
 -- A number that was not read.
-use Rattle.std.proofs.Common.{◌≡◌, ℕ, ◌<◌, ◌≤◌, ◌^◌, Bool, true, false, List, length, None, Result, Err, refl, arith, rules, tests}
+use Rattle.std.proofs.Common.{◌≡◌, ℕ, true, List, None, Err, arith, rules}
 use Rattle.std.specs.List.{list_all}
 use Rattle.std.specs.Char.{is_ascii_digit}
 use Rattle.std.specs.Str.Parse.{digits_value, ParsesUnsigned}
 use Rattle.std.proofs.lemmas.Str.Parse.{IsNumeralModel, numerals_by_value, parse_digits}
 use Rattle.std.proofs.lemmas.Grind.{common_steps}
-use Rattle.rgw_model.specs.Stamps.{latest_moment}
 use Rattle.rgw_main.specs.Words.{moment_of}
 
 digits : IsNumeralModel (λ ds. list_all is_ascii_digit ds ≡ true) (digits_value 10)

@@ -1,6 +1,6 @@
-//! The gateway as a program: `rgw once --bucket NAME` and `rgw once --bucket NAME --now N` serve one
-//! connection to a new container of that name, from standard input to standard output. With `--now`
-//! each request has that moment, in microseconds since 1970.
+//! The gateway as a program. `rgw once --bucket NAME` serves one connection to a new container of
+//! that name, from standard input to standard output; with `--now N` behind it each request has that
+//! moment, in microseconds since 1970, and no clock is asked.
 #![tactic(auto)]
 
 mod run;

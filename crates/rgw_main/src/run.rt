@@ -31,11 +31,12 @@ pub fn run<S: Source, K: Sink, C: Clock>(
     ensures untouched { result.number ≡ 1
         → (input.new ≡ input.old) × (output.new ≡ output.old) × (clock.new ≡ clock.old) }
 
-    // Statuses 0 and 5 are for a connection that was served to its end, 2 to 4 for one that was left.
+    // With 0 and 5 the connection was served to its end, and with 2 to 4 it was left before.
     ensures served { (result.number ≡ 0) ⊎ (result.number ≡ 5)
         → IsSomeAnd (once_of (map string_bytes words.now)) (λ once. ServesOnce once
         (record { left = S.left input.old; taken = K.taken output.old; told = C.told clock.old })
-        (record { left = S.left input.new; taken = K.taken output.new; told = C.told clock.new }) result.number) }
+        (record { left = S.left input.new; taken = K.taken output.new; told = C.told clock.new })
+        result.number) }
     ensures stopped { (2 ≤ result.number) × (result.number ≤ 4)
         → IsSomeAnd (once_of (map string_bytes words.now)) (λ once. StopsOnce once
         (record { left = S.left input.old; taken = K.taken output.old; told = C.told clock.old })
@@ -70,7 +71,8 @@ fn serve_once<S: Source, K: Sink, C: Clock>(
 ) -> Status
     ensures served { (result.number ≡ 0) ⊎ (result.number ≡ 5) → ServesOnce once
         (record { left = S.left input.old; taken = K.taken output.old; told = C.told clock.old })
-        (record { left = S.left input.new; taken = K.taken output.new; told = C.told clock.new }) result.number }
+        (record { left = S.left input.new; taken = K.taken output.new; told = C.told clock.new })
+        result.number }
     ensures stopped { (2 ≤ result.number) × (result.number ≤ 4) → StopsOnce once
         (record { left = S.left input.old; taken = K.taken output.old; told = C.told clock.old })
         (record { left = S.left input.new; taken = K.taken output.new; told = C.told clock.new }) }
@@ -98,10 +100,13 @@ fn serve_by_clock<S: Source, K: Sink, C: Clock>(
     output: &mut K,
     clock: &mut C,
 ) -> Status
-    ensures served { (result.number ≡ 0) ⊎ (result.number ≡ 5) → ServesOnce (record { bucket = bucket; now = None })
+    ensures served { (result.number ≡ 0) ⊎ (result.number ≡ 5)
+        → ServesOnce (record { bucket = bucket; now = None })
         (record { left = S.left input.old; taken = K.taken output.old; told = C.told clock.old })
-        (record { left = S.left input.new; taken = K.taken output.new; told = C.told clock.new }) result.number }
-    ensures stopped { (2 ≤ result.number) × (result.number ≤ 4) → StopsOnce (record { bucket = bucket; now = None })
+        (record { left = S.left input.new; taken = K.taken output.new; told = C.told clock.new })
+        result.number }
+    ensures stopped { (2 ≤ result.number) × (result.number ≤ 4)
+        → StopsOnce (record { bucket = bucket; now = None })
         (record { left = S.left input.old; taken = K.taken output.old; told = C.told clock.old })
         (record { left = S.left input.new; taken = K.taken output.new; told = C.told clock.new }) }
     ensures not_refused { result.number ≢ 1 }
@@ -130,7 +135,8 @@ fn serve_at<S: Source, K: Sink>(
     ensures served { (result.number ≡ 0) ⊎ (result.number ≡ 5)
         → (told : Option (List ℕ)) → ServesOnce (record { bucket = bucket; now = Some moment })
         (record { left = S.left input.old; taken = K.taken output.old; told = told })
-        (record { left = S.left input.new; taken = K.taken output.new; told = told }) result.number }
+        (record { left = S.left input.new; taken = K.taken output.new; told = told })
+        result.number }
     ensures stopped { (2 ≤ result.number) × (result.number ≤ 4)
         → (told : Option (List ℕ)) → StopsOnce (record { bucket = bucket; now = Some moment })
         (record { left = S.left input.old; taken = K.taken output.old; told = told })

@@ -7,6 +7,9 @@ ghost use Rattle.rgw_main.specs.Words.{begins_once, begins_with_dash, is_bucket,
 use rgw_model::Text;
 use std::alloc::Global;
 
+/// The longest name of a container, in bytes.
+const MAX_NAME: usize = 256;
+
 /// The latest moment that `--now` may say, the last microsecond of the year 9999.
 const LATEST_MOMENT: u64 = 253_402_300_799_999_999;
 
@@ -32,10 +35,12 @@ pub enum WordsFault {
 /// byte 0 and does not begin with `-`; the moment is decimal digits, up to 253402300799999999.
 pub fn read_words(alloc: Global, words: &[String]) -> Result<Once, WordsFault>
     ensures ok { IfOk result (λ once. once_of (map string_bytes words.now) ≡ Some once) }
-    ensures refused { IsErrOf result WordsFault.Refused ↔ (once_of (map string_bytes words.now) ≡ None) }
-    ensures out_of_memory { IsErrOf result WordsFault.OutOfMemory → IsSome (once_of (map string_bytes words.now)) }
+    ensures refused { IsErrOf result WordsFault.Refused
+        ↔ (once_of (map string_bytes words.now) ≡ None) }
+    ensures out_of_memory { IsErrOf result WordsFault.OutOfMemory
+        → IsSome (once_of (map string_bytes words.now)) }
 {
-    let Some((bucket, now)) = borrowed(words) else {
+    let Some((bucket, now)) = once_parts(words) else {
         return Err(WordsFault::Refused);
     };
     match Text::from_str(alloc, bucket) {
@@ -44,10 +49,11 @@ pub fn read_words(alloc: Global, words: &[String]) -> Result<Once, WordsFault>
     }
 }
 
-/// What the words ask, the container's name still borrowed from them.
-fn borrowed(words: &[String]) -> Option<(&str, Option<u64>)>
-    ensures { MatchOption result (once_of (map string_bytes words.now) ≡ None)
-        (λ asked. once_of (map string_bytes words.now) ≡ Some (record { bucket = asked.0.now; now = asked.1 })) }
+/// The container's name and the moment that the words ask for.
+fn once_parts(words: &[String]) -> Option<(&str, Option<u64>)>
+    ensures { MatchOption result (once_of (map string_bytes words.now) ≡ None) (λ parts.
+        once_of (map string_bytes words.now)
+        ≡ Some (record { bucket = parts.0.now; now = parts.1 })) }
 {
     match words {
         [command, option, bucket] => {
@@ -85,7 +91,7 @@ fn begins_with_dash(word: &str) -> bool
 fn is_container_name(name: &[u8]) -> bool
     ensures { result ≡ is_container_name name.now }
 {
-    !name.is_empty() && name.len() <= 256 && !name.contains(&0)
+    !name.is_empty() && name.len() <= MAX_NAME && !name.contains(&0)
 }
 
 /// Whether the word can be the value of `--bucket`.
