@@ -1,0 +1,168 @@
+// A run of the program, over any input, output and clock.
+ghost use Rattle.std.specs.Prelude.{◌≡◌, ◌≢◌, ◌⊎◌, ◌↔◌, ◌≤◌, ℕ, List, Option, IfSome, IsSome, IsSomeAnd, Some, None, map, string_bytes};
+ghost use Rattle.gw_io.specs.Outside.{Rose};
+ghost use Rattle.rgw_main.specs.Words.{once_of};
+ghost use Rattle.rgw_main.specs.Runs.{ServesOnce, StopsOnce, outcome_status};
+
+use crate::words::{Once, WordsFault, read_words};
+use gateway::{ConnEnd, PlainStore, ServeFault, Served, serve_connection};
+use gw_io::{Clock, Sink, Source, StepClock};
+use rgw_model::{Status, Text};
+use std::alloc::Global;
+
+/// Does what the words ask, from the input to the output, and answers the status of the program:
+///
+/// | Status | Comes where |
+/// |---|---|
+/// | 0 | the requests of the input ended with it, or with one that closes the connection |
+/// | 1 | the words are refused |
+/// | 2, 3 | the input, the output failed |
+/// | 4 | memory was wanting |
+/// | 5 | the requests end inside of one, with a refusal, or with a form that is not taken yet |
+pub fn run<S: Source, K: Sink, C: Clock>(
+    alloc: Global,
+    words: &[String],
+    input: &mut S,
+    output: &mut K,
+    clock: &mut C,
+) -> Status
+    // Where the words are refused, nothing else happens.
+    ensures refused { (result.number ≡ 1) ↔ (once_of (map string_bytes words.now) ≡ None) }
+    ensures untouched { result.number ≡ 1
+        → (input.new ≡ input.old) × (output.new ≡ output.old) × (clock.new ≡ clock.old) }
+
+    // With 0 and 5 the connection was served to its end, and with 2 to 4 it was left before.
+    ensures served { (result.number ≡ 0) ⊎ (result.number ≡ 5)
+        → IsSomeAnd (once_of (map string_bytes words.now)) (λ once. ServesOnce once
+        (record { left = S.left input.old; taken = K.taken output.old; told = C.told clock.old })
+        (record { left = S.left input.new; taken = K.taken output.new; told = C.told clock.new })
+        result.number) }
+    ensures stopped { (2 ≤ result.number) × (result.number ≤ 4)
+        → IsSomeAnd (once_of (map string_bytes words.now)) (λ once. StopsOnce once
+        (record { left = S.left input.old; taken = K.taken output.old; told = C.told clock.old })
+        (record { left = S.left input.new; taken = K.taken output.new; told = C.told clock.new })) }
+    ensures no_other { result.number ≤ 5 }
+
+    // The clock is not asked where the words say the moment.
+    ensures unasked { IfSome (once_of (map string_bytes words.now)) (λ once.
+        IsSome once.now → clock.new ≡ clock.old) }
+    ensures plan { C.plan clock.new ≡ C.plan clock.old }
+
+    // What failed is counted, and no count falls.
+    ensures read_fault { result.number ≡ 2 → Rose (S.faults input.old) (S.faults input.new) }
+    ensures write_fault { result.number ≡ 3 → Rose (K.faults output.old) (K.faults output.new) }
+    ensures input_faults { S.faults input.old ≤ S.faults input.new }
+    ensures output_faults { K.faults output.old ≤ K.faults output.new }
+{
+    match read_words(alloc, words) {
+        Ok(once) => serve_once(alloc, once, input, output, clock),
+        Err(WordsFault::Refused) => Status { number: 1 },
+        Err(WordsFault::OutOfMemory) => Status { number: 4 },
+    }
+}
+
+/// Serves the one connection.
+fn serve_once<S: Source, K: Sink, C: Clock>(
+    alloc: Global,
+    once: Once,
+    input: &mut S,
+    output: &mut K,
+    clock: &mut C,
+) -> Status
+    ensures served { (result.number ≡ 0) ⊎ (result.number ≡ 5) → ServesOnce once
+        (record { left = S.left input.old; taken = K.taken output.old; told = C.told clock.old })
+        (record { left = S.left input.new; taken = K.taken output.new; told = C.told clock.new })
+        result.number }
+    ensures stopped { (2 ≤ result.number) × (result.number ≤ 4) → StopsOnce once
+        (record { left = S.left input.old; taken = K.taken output.old; told = C.told clock.old })
+        (record { left = S.left input.new; taken = K.taken output.new; told = C.told clock.new }) }
+    ensures not_refused { result.number ≢ 1 }
+    ensures no_other { result.number ≤ 5 }
+    ensures unasked { IsSome once.now → clock.new ≡ clock.old }
+    ensures plan { C.plan clock.new ≡ C.plan clock.old }
+    ensures read_fault { result.number ≡ 2 → Rose (S.faults input.old) (S.faults input.new) }
+    ensures write_fault { result.number ≡ 3 → Rose (K.faults output.old) (K.faults output.new) }
+    ensures input_faults { S.faults input.old ≤ S.faults input.new }
+    ensures output_faults { K.faults output.old ≤ K.faults output.new }
+{
+    let Once { bucket, now } = once;
+    match now {
+        None => serve_by_clock(alloc, bucket, input, output, clock),
+        Some(moment) => serve_at(alloc, bucket, moment, input, output),
+    }
+}
+
+/// Serves the connection, each request at the moment that the clock tells.
+fn serve_by_clock<S: Source, K: Sink, C: Clock>(
+    alloc: Global,
+    bucket: Text,
+    input: &mut S,
+    output: &mut K,
+    clock: &mut C,
+) -> Status
+    ensures served { (result.number ≡ 0) ⊎ (result.number ≡ 5)
+        → ServesOnce (record { bucket = bucket; now = None })
+        (record { left = S.left input.old; taken = K.taken output.old; told = C.told clock.old })
+        (record { left = S.left input.new; taken = K.taken output.new; told = C.told clock.new })
+        result.number }
+    ensures stopped { (2 ≤ result.number) × (result.number ≤ 4)
+        → StopsOnce (record { bucket = bucket; now = None })
+        (record { left = S.left input.old; taken = K.taken output.old; told = C.told clock.old })
+        (record { left = S.left input.new; taken = K.taken output.new; told = C.told clock.new }) }
+    ensures not_refused { result.number ≢ 1 }
+    ensures no_other { result.number ≤ 5 }
+    ensures plan { C.plan clock.new ≡ C.plan clock.old }
+    ensures read_fault { result.number ≡ 2 → Rose (S.faults input.old) (S.faults input.new) }
+    ensures write_fault { result.number ≡ 3 → Rose (K.faults output.old) (K.faults output.new) }
+    ensures input_faults { S.faults input.old ≤ S.faults input.new }
+    ensures output_faults { K.faults output.old ≤ K.faults output.new }
+{
+    let Ok(mut store) = PlainStore::new(alloc, bucket) else {
+        return Status { number: 4 };
+    };
+    let outcome = serve_connection(alloc, &mut store, input, output, clock);
+    status_of(outcome)
+}
+
+/// Serves the connection, each request at this moment.
+fn serve_at<S: Source, K: Sink>(
+    alloc: Global,
+    bucket: Text,
+    moment: u64,
+    input: &mut S,
+    output: &mut K,
+) -> Status
+    ensures served { (result.number ≡ 0) ⊎ (result.number ≡ 5)
+        → (told : Option (List ℕ)) → ServesOnce (record { bucket = bucket; now = Some moment })
+        (record { left = S.left input.old; taken = K.taken output.old; told = told })
+        (record { left = S.left input.new; taken = K.taken output.new; told = told })
+        result.number }
+    ensures stopped { (2 ≤ result.number) × (result.number ≤ 4)
+        → (told : Option (List ℕ)) → StopsOnce (record { bucket = bucket; now = Some moment })
+        (record { left = S.left input.old; taken = K.taken output.old; told = told })
+        (record { left = S.left input.new; taken = K.taken output.new; told = told }) }
+    ensures not_refused { result.number ≢ 1 }
+    ensures no_other { result.number ≤ 5 }
+    ensures read_fault { result.number ≡ 2 → Rose (S.faults input.old) (S.faults input.new) }
+    ensures write_fault { result.number ≡ 3 → Rose (K.faults output.old) (K.faults output.new) }
+    ensures input_faults { S.faults input.old ≤ S.faults input.new }
+    ensures output_faults { K.faults output.old ≤ K.faults output.new }
+{
+    let mut clock = StepClock::new(moment, 0);
+    serve_by_clock(alloc, bucket, input, output, &mut clock)
+}
+
+fn status_of(outcome: Result<Served, ServeFault>) -> Status
+    ensures { result.number ≡ outcome_status outcome }
+{
+    let number = match outcome {
+        Ok(served) => match served.end {
+            ConnEnd::Clean | ConnEnd::Closed => 0,
+            ConnEnd::Cut | ConnEnd::Refused => 5,
+        },
+        Err(ServeFault::ReadFault) => 2,
+        Err(ServeFault::WriteFault) => 3,
+        Err(ServeFault::OutOfMemory) => 4,
+    };
+    Status { number }
+}
