@@ -1,15 +1,11 @@
 -- A body, piece by piece.
-use Rattle.std.proofs.Common.{◌≡◌, ℕ, zero, suc, ◌+◌, ◌<◌, ◌≤◌, Bool, true, false, List, [], ◌++◌, length, take, Option, None, refl, sym, ap, ◌∙◌, subst, append_assoc, length-append, arith}
+use Rattle.std.proofs.Common.{◌≡◌, ℕ, ◌+◌, ◌<◌, ◌≤◌, Bool, true, false, List, [], ◌++◌, length, take, Option, None, refl, sym, ap, ◌∙◌, subst, append_assoc, length-append, arith}
 use Rattle.std.specs.Prelude.{if◌then◌else◌}
 use Rattle.std.proofs.lemmas.List.{length-take-le, append-nil}
 use Rattle.std.proofs.KnownBytes.{Consumes-trans}
 use Rattle.std.specs.Io.KnownBytes.{Consumes, IsAtEnd}
 use Rattle.http_intake.specs.Intake.{IntakeState, GivesBytes}
 use Rattle.gateway.specs.Incoming.{HasGiven, ReadsSome}
-
-zero_unless : (d : ℕ) → (0 < d → ⊥) → d ≡ 0
-zero_unless zero f = refl
-zero_unless (suc d) f = absurd (f (omega arith))
 
 module _ (start now next : IntakeState) (a b c : Option (List ℕ)) (given out : List ℕ) (n : ℕ) where
   pub give_more : HasGiven start now a b given → GivesBytes b c now next out n → HasGiven start next a c (given ++ take n out)
@@ -25,7 +21,7 @@ module _ (start now next : IntakeState) (a b c : Option (List ℕ)) (given out :
   }
 
   pub none_left : 0 < length out → GivesBytes b c now next out n → n ≡ 0 → next.body_left ≡ 0
-  none_left room y zero_is = let done = zero_unless now.body_left (λ d. omega (arith, y.some d room, zero_is)) in omega (arith, done, y.due)
+  none_left room y zero_is = omega (arith, y.none zero_is, room, y.due)
 
   pub some_left : 0 < length out → GivesBytes b c now next out n → 0 < n → next.body_left < now.body_left
   some_left room y more = omega (arith, y.due)

@@ -70,7 +70,7 @@ fn kind_of(alloc: Global, head: &Head) -> Result<Option<Text>, AllocError>
     ensures { IfOk result (λ kind. kind ≡ kind_of head.now) }
 {
     match head.fields.value_of(b"content-type") {
-        Some(value) if !value.is_empty() => Ok(Some(Text::from_ascii(alloc, value)?)),
+        Some(value) if !value.is_empty() => Ok(Some(Text::from_utf8(alloc, value)?)),
         _ => Ok(None),
     }
 }
@@ -93,7 +93,7 @@ pub(crate) fn judge(alloc: Global, container: &Text, head: &Head) -> Result<Aske
     if of != container.as_bytes() {
         return Ok(Asked::Refused(Refusal::NoContainer));
     }
-    let name = Text::from_ascii(alloc, name)?;
+    let name = Text::from_utf8(alloc, name)?;
     if head.is_put() {
         let kind = kind_of(alloc, head)?;
         let body = Bytes::new(alloc);

@@ -45,13 +45,6 @@ fn parse_whole(text: &[u8], spans: &mut [HeaderSpan]) -> Option<RequestSpans>
     }
 }
 
-fn text_of(alloc: Global, bytes: &[u8]) -> Result<Text, AllocError>
-    requires { IsUtf8 bytes.now }
-    ensures { IfOk result (λ text. text ≡ bytes.now) }
-{
-    Text::from_str(alloc, str::from_utf8(bytes).unwrap())
-}
-
 /// The fields that the spans cover.
 fn copy_fields(alloc: Global, text: &[u8], spans: &[HeaderSpan]) -> Result<Fields, AllocError>
     requires within { All (IsHeaderWithin (length text.now)) spans.now }
@@ -61,7 +54,7 @@ fn copy_fields(alloc: Global, text: &[u8], spans: &[HeaderSpan]) -> Result<Field
     let mut fields = Fields::new(alloc);
     for span in spans {
         fields.push(Field {
-            name: text_of(alloc, span.name.of(text))?,
+            name: Text::from_utf8(alloc, span.name.of(text))?,
             value: Bytes::from_slice(alloc, span.value.of(text))?,
         })?;
     }
@@ -84,7 +77,7 @@ pub fn read_head(alloc: Global, text: &[u8]) -> Result<Head, HeadFault>
         return Err(HeadFault::BadFraming);
     };
     Ok(Head {
-        method: text_of(alloc, found.method.of(text))?,
+        method: Text::from_utf8(alloc, found.method.of(text))?,
         target: Bytes::from_slice(alloc, found.path.of(text))?,
         minor: found.version,
         fields,

@@ -1,4 +1,4 @@
-ghost use Rattle.std.specs.Str.{IsAscii};
+ghost use Rattle.std.specs.Str.{IsUtf8};
 ghost use Rattle.std.specs.Prelude.{◌≡◌, ◌==◌, ◌++◌, ◌↔◌, [], length, IfOk, OnOk, OnErr, IsTrue, string_bytes};
 
 use std::alloc::{AllocError, Global};
@@ -39,15 +39,12 @@ impl Text {
         })
     }
 
-    /// A copy of ASCII bytes as text.
-    pub fn from_ascii(alloc: Global, bytes: &[u8]) -> Result<Self, AllocError>
-        requires { IsAscii bytes.now }
+    /// A copy of these bytes, which are UTF-8.
+    pub fn from_utf8(alloc: Global, bytes: &[u8]) -> Result<Self, AllocError>
+        requires { IsUtf8 bytes.now }
         ensures { IfOk result (λ copy. copy ≡ bytes.now) }
     {
-        match str::from_utf8(bytes) {
-            Ok(text) => Text::from_str(alloc, text),
-            Err(_) => unreachable!(),
-        }
+        Text::from_str(alloc, str::from_utf8(bytes).unwrap())
     }
 
     /// The text of a string. Takes no memory.

@@ -1,6 +1,7 @@
+use Rattle.std.proofs.lemmas.Str.{IsUtf8-from_ascii}
 use Rattle.std.proofs.Common.{sym}
 use Rattle.gateway.proofs.Ascii.{ascii_kind, last_kind}
 use Rattle.gateway.proofs.asked.kind_of.Goals as goal
 
-pub from_ascii-requires : goal.from_ascii-requires
-from_ascii-requires c = ascii_kind c.in-Some.value.now (last_kind _ c.in-Some.value.now c.requires (sym c.in-Some.ensures))
+pub from_utf8-requires : goal.from_utf8-requires
+from_utf8-requires c = IsUtf8-from_ascii c.in-Some.value.now (ascii_kind c.in-Some.value.now (last_kind _ c.in-Some.value.now c.requires (sym c.in-Some.ensures)))
