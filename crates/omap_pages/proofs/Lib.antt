@@ -1,4 +1,5 @@
 pub mod CellLemmas
+pub mod FilterLemmas
 pub mod PageLemmas
 pub mod PlaceLemmas
 pub mod RangeLemmas

@@ -12,7 +12,7 @@ use Rattle.omap_pages.specs.Contents.{Contents}
 use Rattle.omap_pages.specs.Places.{IsPartedAt}
 use Rattle.omap_pages.specs.Rows.{IsInOrder, key_cmp, rows_after}
 use Rattle.omap_pages.proofs.CellLemmas.{where_seen, order_seen, sorted_where}
-use Rattle.omap_pages.proofs.PlaceLemmas.{filter_from}
+use Rattle.omap_pages.proofs.FilterLemmas.{filter_from}
 
 module _ {K X : Type 0} (R : K → K → Ordering) where
   below_all-take : (x : K) (n : ℕ) (es : List (K × X)) → below_all R x es ≡ true → below_all R x (take n es) ≡ true

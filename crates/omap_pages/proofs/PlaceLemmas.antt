@@ -1,11 +1,12 @@
 -- What the place of a key says of a list of entries, and of an edit there. R is the order of the keys.
-use Rattle.std.proofs.Common.{◌≡◌, ℕ, zero, suc, ◌+◌, ◌<◌, ◌≤◌, Bool, true, false, not, List, [], ◌∷◌, length, drop, set, get_or, Some, None, is_some, refl, sym, ap, subst, ◌∙◌, arith, inl, inr}
-use Rattle.std.specs.List.{filter, insert, remove, remove_range}
+use Rattle.std.proofs.Common.{◌≡◌, ℕ, zero, suc, ◌<◌, ◌≤◌, true, not, List, [], ◌∷◌, length, set, get_or, Some, None, is_some, refl, sym, ap, subst, ◌∙◌, arith, inl, inr}
+use Rattle.std.specs.List.{insert, remove}
 use Rattle.std.specs.Ordering.{is_lt, is_eq, eq_by_cmp}
 use Rattle.std.specs.declared.cmp.Ordering.{Ordering}
 use Rattle.std.specs.declared.cmp.Ordering.TheVariants.{Less, Equal, Greater}
 use Rattle.std.specs.FinMap.Entries.{find, put, where_key, below_all, is_sorted}
 use Rattle.std.proofs.lemmas.Bool.{and_parts, cases_lt}
+use Rattle.omap_pages.proofs.FilterLemmas.{filter_from, filter_outside}
 use Rattle.omap_pages.specs.Places.{IsAt, IsGapFor}
 use Rattle.omap_pages.specs.Rows.{key_cmp}
 
@@ -55,29 +56,6 @@ module _ {K X : Type 0} (R : K → K → Ordering) where
   put_at [] k v i lt before here d = absurd (omega arith)
   put_at (e ∷ es) k v zero lt before here d = rw (here e) refl
   put_at (e ∷ es) k v (suc i) lt before here d = rw (before zero e (omega arith)) (ap (λ z. e ∷ z) (put_at es k v i (omega arith) (λ j d' l. before (suc j) d' (omega arith)) here d))
-
-module _ {E : Type 0} (p : E → Bool) where
-  -- the first i fail, and the others pass
-  pub filter_from : (es : List E) (i : ℕ) → i ≤ length es → ((j : ℕ) (d : E) → j < i → p (get_or es j d) ≡ false) → ((j : ℕ) (d : E) → i ≤ j → j < length es → p (get_or es j d) ≡ true) → drop i es ≡ filter p es
-  filter_from [] zero le before after = refl
-  filter_from [] (suc i) le before after = refl
-  filter_from (e ∷ es) zero le before after = rw (after zero e (omega arith) (omega arith)) (ap (λ z. e ∷ z) (filter_from es zero (omega arith) (λ j d l. absurd (omega arith)) (λ j d l m. after (suc j) d (omega arith) (omega arith))))
-  filter_from (e ∷ es) (suc i) le before after = rw (before zero e (omega arith)) (filter_from es i (omega arith) (λ j d l. before (suc j) d (omega arith)) (λ j d l m. after (suc j) d (omega arith) (omega arith)))
-
-  -- those from place s to below e fail, and the others pass
-  pub filter_outside : (es : List E) (s e : ℕ) → s ≤ e → e ≤ length es → ((j : ℕ) (d : E) → j < s → p (get_or es j d) ≡ true) → ((j : ℕ) (d : E) → s ≤ j → j < e → p (get_or es j d) ≡ false) → ((j : ℕ) (d : E) → e ≤ j → j < length es → p (get_or es j d) ≡ true) → remove_range es s e ≡ filter p es
-  filter_outside es zero e le end before inside after = filter_from es e end (λ j d l. inside j d (omega arith) l) after
-  filter_outside es (suc s) zero le end before inside after = absurd (omega arith)
-  filter_outside [] (suc s) (suc e) le end before inside after = refl
-  filter_outside (x ∷ es) (suc s) (suc e) le end before inside after = rw (before zero x (omega arith)) (ap (λ z. x ∷ z) (filter_outside es s e (omega arith) (omega arith) (λ j d l. before (suc j) d (omega arith)) (λ j d l m. inside (suc j) d (omega arith) (omega arith)) (λ j d l m. after (suc j) d (omega arith) (omega arith))))
-
-  -- those from place s to below e pass, and the others fail
-  pub length-filter_inside : (es : List E) (s e : ℕ) → s ≤ e → e ≤ length es → ((j : ℕ) (d : E) → j < s → p (get_or es j d) ≡ false) → ((j : ℕ) (d : E) → s ≤ j → j < e → p (get_or es j d) ≡ true) → ((j : ℕ) (d : E) → e ≤ j → j < length es → p (get_or es j d) ≡ false) → length (filter p es) + s ≡ e
-  length-filter_inside [] s e le end before inside after = omega arith
-  length-filter_inside (x ∷ es) zero zero le end before inside after = rw (after zero x (omega arith) (omega arith)) (length-filter_inside es zero zero le (omega arith) (λ j d l. absurd (omega arith)) (λ j d l m. absurd (omega arith)) (λ j d l m. after (suc j) d (omega arith) (omega arith)))
-  length-filter_inside (x ∷ es) zero (suc e) le end before inside after = rw (inside zero x (omega arith) (omega arith)) (let rest = length-filter_inside es zero e (omega arith) (omega arith) (λ j d l. absurd (omega arith)) (λ j d l m. inside (suc j) d (omega arith) (omega arith)) (λ j d l m. after (suc j) d (omega arith) (omega arith)) in omega (arith, rest))
-  length-filter_inside (x ∷ es) (suc s) zero le end before inside after = absurd (omega arith)
-  length-filter_inside (x ∷ es) (suc s) (suc e) le end before inside after = rw (before zero x (omega arith)) (let rest = length-filter_inside es s e (omega arith) (omega arith) (λ j d l. before (suc j) d (omega arith)) (λ j d l m. inside (suc j) d (omega arith) (omega arith)) (λ j d l m. after (suc j) d (omega arith) (omega arith)) in omega (arith, rest))
 
 module _ {X : Type 0} (rows : List (List ℕ × X)) (key : List ℕ) (i : ℕ) where
   pub value_at_place : IsAt rows key i → (d : List ℕ × X) → find key_cmp key rows ≡ Some (get_or rows i d).1

@@ -8,7 +8,7 @@ use Rattle.std.specs.FinMap.Entries.{where_key}
 use Rattle.std.proofs.lemmas.Cmp.{nat_list_cmp_total}
 use Rattle.omap_pages.specs.Places.{IsPartedAt}
 use Rattle.omap_pages.specs.Rows.{key_cmp, is_within}
-use Rattle.omap_pages.proofs.PlaceLemmas.{filter_outside, length-filter_inside}
+use Rattle.omap_pages.proofs.FilterLemmas.{filter_outside, length-filter_inside}
 
 turned_test : (o : Ordering) → is_lt (ordering_reverse o) ≡ not (is_le o)
 turned_test Less = refl

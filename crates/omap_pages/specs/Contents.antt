@@ -1,7 +1,7 @@
 -- What an ordered map contains: its rows, the room of each, and how many spare rows it has ready.
-use Rattle.std.specs.Prelude.{◌≢◌, ℕ, ◌≤◌, List, unwrap_or}
+use Rattle.std.specs.Prelude.{◌≡◌, ◌≢◌, ℕ, ◌≤◌, false, List, unwrap_or}
 use Rattle.std.specs.FinMap.Entries.{find}
-use Rattle.omap_pages.specs.Rows.{Rows, key_cmp}
+use Rattle.omap_pages.specs.Rows.{Rows, key_cmp, is_within}
 
 pub record Contents : Type 0 where
   pub rows : Rows
@@ -20,3 +20,7 @@ KeepsRooms old new = (q : List ℕ) → room_at old.rooms q ≤ room_at new.room
 -- no room is lowered but the key's
 abbrev pub KeepsOtherRooms : Contents → Contents → List ℕ → Type 0
 KeepsOtherRooms old new key = (q : List ℕ) → q ≢ key → room_at old.rooms q ≤ room_at new.rooms q
+
+-- no room of a key outside the range is lowered
+abbrev pub KeepsRoomsOutside : Contents → Contents → List ℕ → List ℕ → Type 0
+KeepsRoomsOutside old new from to = (q : List ℕ) → is_within from to q ≡ false → room_at old.rooms q ≤ room_at new.rooms q

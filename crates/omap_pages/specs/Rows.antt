@@ -1,5 +1,5 @@
 -- A finite map from keys to values, both bytes, as the list of its rows in the order of their keys.
-use Rattle.std.specs.Prelude.{◌≡◌, ◌≢◌, ℕ, Bool, not, ◌&&◌, List, Option, IsTrue}
+use Rattle.std.specs.Prelude.{◌≡◌, ◌≢◌, ℕ, Bool, false, not, ◌&&◌, List, Option, None, IsTrue}
 use Rattle.std.specs.Ordering.{nat_cmp, is_lt, is_le, eq_by_cmp}
 use Rattle.std.specs.declared.cmp.Ordering.{Ordering}
 use Rattle.std.specs.Cmp.Lexicographic.{slice_cmp}
@@ -48,3 +48,11 @@ rows_outside rows from to = where_key key_cmp (λ k. not (is_within from to k)) 
 -- each other key has what it had
 abbrev pub KeepsOthers : Rows → Rows → List ℕ → Type 0
 KeepsOthers old new key = (q : List ℕ) → q ≢ key → value_at new q ≡ value_at old q
+
+-- no row has a key from `from` to below `to`
+abbrev pub HasNoneWithin : Rows → List ℕ → List ℕ → Type 0
+HasNoneWithin rows from to = (q : List ℕ) → IsTrue (is_within from to q) → value_at rows q ≡ None
+
+-- each key outside has what it had
+abbrev pub KeepsOutside : Rows → Rows → List ℕ → List ℕ → Type 0
+KeepsOutside old new from to = (q : List ℕ) → is_within from to q ≡ false → value_at new q ≡ value_at old q

@@ -7,12 +7,12 @@ mod lookup;
 mod omap;
 mod page;
 mod row;
-mod spare_row;
+mod spares;
 
 pub use error::OutOfMemory;
 pub use omap::Omap;
 pub use page::{ByteRows, Page};
-pub use spare_row::{SPARE_KEY_LEN, SPARE_VALUE_LEN};
+pub use spares::{SPARE_KEY_LEN, SPARE_VALUE_LEN};
 
 #[cfg(test)]
 mod tests;

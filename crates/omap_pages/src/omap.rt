@@ -2,27 +2,32 @@ ghost use Rattle.std.specs.Prelude.{◌≡◌, ◌≢◌, ◌↔◌, ℕ, ◌+�
 ghost use Rattle.std.specs.Bool.{OnFalse};
 ghost use Rattle.std.specs.List.{splice};
 ghost use Rattle.std.specs.Option.{ForSome};
-ghost use Rattle.omap_pages.specs.Contents.{room_at, KeepsRooms, KeepsOtherRooms};
-ghost use Rattle.omap_pages.specs.Rows.{IsInOrder, value_at, with_row, without_row, rows_after, is_within, rows_within, rows_outside, KeepsOthers};
+ghost use Rattle.omap_pages.specs.Contents.{room_at, KeepsRooms, KeepsOtherRooms, KeepsRoomsOutside};
+ghost use Rattle.omap_pages.specs.Rows.{IsInOrder, value_at, with_row, without_row, rows_after, rows_within, rows_outside, KeepsOthers, HasNoneWithin, KeepsOutside};
 
 use crate::error::OutOfMemory;
 use crate::lookup::{gap_for, place_of, search, start_after, start_from};
 use crate::page::{ByteRows, Page};
 use crate::row::{Row, copies};
-use crate::spare_row::{SPARE_KEY_LEN, SPARE_VALUE_LEN, SpareRow};
+use crate::spares::{SPARE_KEY_LEN, SPARE_VALUE_LEN, Spares};
 use rgw_model::Bytes;
 use std::alloc::Global;
 use std::marker::Model;
 
-/// An ordered map from keys to values, both bytes; keys are compared byte by byte.
+/// An ordered map from keys to values, both bytes. Keys are compared byte by byte, and a key is
+/// below those that it begins.
 ///
-/// Beside its value each row has a room, at least its value's length, up to which [`Omap::splice`]
-/// changes the value with no memory taken. The map also has a number of spare rows, each of
-/// which [`Omap::put_spare`] makes a row of with no memory taken.
+/// Each row has a room, in bytes: up to that length [`Omap::splice`] changes its value with no
+/// memory taken. The room is at least the value's length, and only a [`Omap::put`] of its key may
+/// lower it. The map also has a number of spare rows, which [`Omap::reserve`] raises and
+/// [`Omap::put_spare`] uses up with no memory taken; no other call changes it.
+///
+/// Contracts see the rows in the order of their keys, the room at each key, and the number of
+/// spare rows.
 #[derive(Debug, Drop)]
 pub struct Omap {
     rows: Vec<Row>,
-    spares: Vec<SpareRow>,
+    spares: Spares,
 }
 
 impl Model for Omap {
@@ -34,9 +39,10 @@ impl Model for Omap {
 
     ghost Value = { Contents };
 
-    ghost view = { λ omap. contents_of omap.rows.items (vec_len omap.spares) };
+    ghost view = { λ omap. contents_of omap.rows.items omap.spares };
 
-    ghost invariant = { λ omap. IsTrue (is_sorted key_cmp omap.rows.items) × (vec_len omap.rows + vec_len omap.spares ≤ vec_capacity omap.rows) };
+    ghost invariant = { λ omap. IsTrue (is_sorted key_cmp omap.rows.items)
+        × (vec_len omap.rows + omap.spares ≤ vec_capacity omap.rows) };
 }
 
 impl Omap {
@@ -46,7 +52,7 @@ impl Omap {
     {
         Ok(Omap {
             rows: Vec::new(alloc),
-            spares: Vec::new(alloc),
+            spares: Spares::new(alloc),
         })
     }
 
@@ -71,6 +77,7 @@ impl Omap {
     }
 
     /// Puts the value at the key, in the place of the one that was there.
+    /// After an error nothing has changed.
     pub fn put(&mut self, key: Bytes, value: Bytes) -> Result<(), OutOfMemory>
         ensures rows { OnOk result (self.new.rows ≡ with_row self.old.rows key value) }
         ensures at_key { OnOk result (value_at self.new.rows key ≡ Some value) }
@@ -115,9 +122,9 @@ impl Omap {
     pub fn remove_range(&mut self, from: &[u8], to: &[u8]) -> u64
         ensures count { result ≡ length (rows_within self.old.rows from.now to.now) }
         ensures rows { self.new.rows ≡ rows_outside self.old.rows from.now to.now }
-        ensures within { (q : List ℕ) → IsTrue (is_within from.now to.now q) → value_at self.new.rows q ≡ None }
-        ensures outside { (q : List ℕ) → is_within from.now to.now q ≡ false → value_at self.new.rows q ≡ value_at self.old.rows q }
-        ensures rooms_outside { (q : List ℕ) → is_within from.now to.now q ≡ false → room_at self.old.rooms q ≤ room_at self.new.rooms q }
+        ensures within { HasNoneWithin self.new.rows from.now to.now }
+        ensures outside { KeepsOutside self.old.rows self.new.rows from.now to.now }
+        ensures rooms_outside { KeepsRoomsOutside self.old self.new from.now to.now }
         ensures spare { self.new.spare ≡ self.old.spare }
         ensures none { result ≡ 0 → self.new ≡ self.old }
     {
@@ -127,8 +134,8 @@ impl Omap {
         (end - start) as u64
     }
 
-    /// Makes the room of the row at the key at least this many bytes. After an error nothing has
-    /// changed.
+    /// Makes the room of the row at the key at least `room` bytes.
+    /// After an error nothing has changed.
     pub fn widen(&mut self, key: &[u8], room: u64) -> Result<(), OutOfMemory>
         requires { IsSome (value_at self.old.rows key.now) }
         ensures ok { OnOk result (room ≤ room_at self.new.rooms key.now) }
@@ -142,14 +149,20 @@ impl Omap {
         Ok(())
     }
 
-    /// Puts `bytes` in the place of `count` bytes of the value at the key, from byte `start` on,
-    /// within the row's room. Takes no memory.
+    /// Puts `bytes` in the place of the `count` bytes from `start` of the value at the key. The new
+    /// value fits the row's room. Takes no memory.
     pub fn splice(&mut self, key: &[u8], start: u64, count: u64, bytes: &[u8])
         requires there { IsSome (value_at self.old.rows key.now) }
-        requires range { ForSome (value_at self.old.rows key.now) (λ value. start + count ≤ length value) }
-        requires fits { ForSome (value_at self.old.rows key.now) (λ value. length value + length bytes.now ≤ room_at self.old.rooms key.now + count) }
-        ensures rows { ForSome (value_at self.old.rows key.now) (λ value. self.new.rows ≡ with_row self.old.rows key.now (splice value start (start + count) bytes.now)) }
-        ensures at_key { ForSome (value_at self.old.rows key.now) (λ value. value_at self.new.rows key.now ≡ Some (splice value start (start + count) bytes.now)) }
+        requires range { ForSome (value_at self.old.rows key.now) (λ value.
+            start + count ≤ length value) }
+        requires fits { ForSome (value_at self.old.rows key.now) (λ value.
+            length value + length bytes.now ≤ room_at self.old.rooms key.now + count) }
+        ensures rows { ForSome (value_at self.old.rows key.now) (λ value.
+            self.new.rows
+            ≡ with_row self.old.rows key.now (splice value start (start + count) bytes.now)) }
+        ensures at_key { ForSome (value_at self.old.rows key.now) (λ value.
+            value_at self.new.rows key.now
+            ≡ Some (splice value start (start + count) bytes.now)) }
         ensures others { KeepsOthers self.old.rows self.new.rows key.now }
         ensures rooms { KeepsRooms self.old self.new }
         ensures spare { self.new.spare ≡ self.old.spare }
@@ -158,7 +171,8 @@ impl Omap {
         self.rows[at].splice(start as usize, count as usize, bytes);
     }
 
-    /// Makes at least this many spare rows ready. After an error nothing has changed.
+    /// Makes the number of spare rows at least `rows`.
+    /// After an error nothing has changed.
     pub fn reserve(&mut self, rows: u64) -> Result<(), OutOfMemory>
         ensures ok { OnOk result (rows ≤ self.new.spare) }
         ensures kept { self.old.spare ≤ self.new.spare }
@@ -166,14 +180,14 @@ impl Omap {
         ensures rooms { KeepsRooms self.old self.new }
         ensures err { OnErr result (self.new ≡ self.old) }
     {
-        let missing = (rows as usize).saturating_sub(self.spares.len());
-        let mut added = SpareRow::several(*self.spares.allocator(), missing)?;
-        self.rows.reserve(self.spares.len() + missing)?;
-        self.spares.append(&mut added)?;
+        let count = self.spares.len().max(rows as usize);
+        self.rows.reserve(count)?;
+        self.spares.reserve(count)?;
         Ok(())
     }
 
-    /// Makes a row of a spare one. Takes no memory.
+    /// Makes a spare row the row of a key that is not there. The key has at most [`SPARE_KEY_LEN`]
+    /// bytes and the value at most [`SPARE_VALUE_LEN`]. Takes no memory.
     pub fn put_spare(&mut self, key: &[u8], value: &[u8])
         requires spare { 0 < self.old.spare }
         requires absent { value_at self.old.rows key.now ≡ None }
@@ -187,14 +201,17 @@ impl Omap {
         ensures spare { self.new.spare + 1 ≡ self.old.spare }
     {
         let at = gap_for(self.rows.as_slice(), key);
-        let row = self.spares.pop().unwrap().fill(key, value);
+        let row = self.spares.make_row(key, value);
         self.rows.insert(at, row).unwrap();
     }
 
-    /// The first rows whose keys are above `after`, at most `limit` of them, and whether none follows.
+    /// Copies of the first rows whose keys are above `after`, at most `limit` of them, and whether
+    /// no row follows these.
     pub fn page(&self, alloc: Global, after: &[u8], limit: u32) -> Result<Page, OutOfMemory>
-        ensures rows { IfOk result (λ page. page.rows ≡ take limit (rows_after self.now.rows after.now)) }
-        ensures end { IfOk result (λ page. IsTrue page.end ↔ (length (rows_after self.now.rows after.now) ≤ limit)) }
+        ensures rows { IfOk result (λ page.
+            page.rows ≡ take limit (rows_after self.now.rows after.now)) }
+        ensures end { IfOk result (λ page.
+            IsTrue page.end ↔ (length (rows_after self.now.rows after.now) ≤ limit)) }
         ensures in_order { IfOk result (λ page. IsInOrder page.rows) }
     {
         let start = start_after(self.rows.as_slice(), after);

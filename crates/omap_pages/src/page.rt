@@ -3,7 +3,7 @@ ghost use Rattle.std.specs.Prelude.{◌≡◌, ◌==◌, length};
 use rgw_model::Bytes;
 use std::marker::Model;
 
-/// Rows of keys and values, in the order in which they were given.
+/// Rows of keys and values, which contracts see as the list of these pairs.
 #[derive(Debug, Drop)]
 pub struct ByteRows {
     items: Vec<(Bytes, Bytes)>,
@@ -55,10 +55,9 @@ impl ByteRows {
     }
 }
 
-/// Rows that follow a key, and whether they are the last.
+/// Rows in the order of their keys, and whether no row follows them.
 #[derive(Debug, Drop)]
 pub struct Page {
     pub rows: ByteRows,
-    /// No row follows these.
     pub end: bool,
 }

@@ -19,7 +19,8 @@ impl Model for Row {
 
     ghost Value = { List ℕ × Cell };
 
-    ghost view = { λ row. (row.key.items, record { value = row.value.items; room = vec_capacity row.value }) };
+    ghost view = { λ row.
+        (row.key.items, record { value = row.value.items; room = vec_capacity row.value }) };
 }
 
 impl Row {
@@ -87,7 +88,8 @@ impl Row {
 // Writes over the bytes from `start` on.
 fn overwrite(value: &mut Vec<u8>, start: usize, bytes: &[u8])
     requires { start + length bytes.now ≤ vec_len value.old }
-    ensures items { value.new.items ≡ splice value.old.items start (start + length bytes.now) bytes.now }
+    ensures items { value.new.items
+        ≡ splice value.old.items start (start + length bytes.now) bytes.now }
     ensures capacity { vec_capacity value.new ≡ vec_capacity value.old }
 {
     value[start..start + bytes.len()].copy_from_slice(bytes);

@@ -37,8 +37,10 @@ fn remove_twice(omap: &mut Omap, key: &[u8], other: &[u8]) -> bool
 // A row grows within the room that was made for it.
 fn prepend(omap: &mut Omap, key: &[u8], bytes: &[u8]) -> Result<(), OutOfMemory>
     requires there { IsSome (value_at omap.old.rows key.now) }
-    requires short { ForSome (value_at omap.old.rows key.now) (λ v. length v + length bytes.now ≤ 64) }
-    ensures ok { OnOk result (ForSome (value_at omap.old.rows key.now) (λ v. value_at omap.new.rows key.now ≡ Some (splice v 0 0 bytes.now))) }
+    requires short { ForSome (value_at omap.old.rows key.now) (λ v.
+        length v + length bytes.now ≤ 64) }
+    ensures ok { OnOk result (ForSome (value_at omap.old.rows key.now) (λ v.
+        value_at omap.new.rows key.now ≡ Some (splice v 0 0 bytes.now))) }
     ensures err { OnErr result (omap.new ≡ omap.old) }
 {
     omap.widen(key, 64)?;

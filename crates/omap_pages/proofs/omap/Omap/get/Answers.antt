@@ -6,7 +6,7 @@ use Rattle.omap_pages.proofs.omap.Omap.get.Goals as goal
 pub returns-in-Ok : goal.returns-in-Ok
 returns-in-Ok c =
     let cells = c.self.inside.rows.items in
-    let spare = c.self.inside.spares.len in
+    let spare = c.self.inside.spares in
     let found = find_here cells c.as_slice.result.now c.args.key.now c.in-Ok.at c.as_slice.ensures.value c.index.result.now c.in-Ok.ensures.found c.index.ensures in
     let room = room_seen cells spare c.args.self.now c.self.view_is c.args.key.now _ found in
     record {
@@ -19,7 +19,7 @@ returns-in-Ok c =
 pub returns-in-Err : goal.returns-in-Err
 returns-in-Err c =
     let cells = c.self.inside.rows.items in
-    let spare = c.self.inside.spares.len in
+    let spare = c.self.inside.spares in
     let none = find_none cells c.as_slice.result.now c.args.key.now c.in-Err.field-0 c.as_slice.ensures.value c.in-Err.ensures.absent in
     record {
       value = sym (value_seen cells spare c.args.self.now c.self.view_is c.args.key.now _ none);

@@ -11,7 +11,7 @@ over : (c : goal.After-drop-key-inside) → set c.self.inside.rows.items c.in-Ok
 over c = set_at_place c.self.inside.rows.items c.as_slice.result.now c.as_slice-2.result.now c.args.key c.in-Ok.at c.index_mut.result.now c.set_value.new.self c.as_slice.ensures.value c.as_slice-2.ensures c.in-Ok.ensures.found c.index_mut.ensures.value c.set_value.ensures.key
 
 seen_over : (c : goal.After-drop-key-inside) → IsPut c.args.self.now (set c.self.inside.rows.items c.in-Ok.at c.set_value.new.self) c.args.key c.args.value c.set_value.new.self.1.room
-seen_over c = is_put c.self.inside.rows.items c.self.inside.spares.len c.args.self.now c.self.view_is _ c.args.key c.args.value c.set_value.new.self.1 (c.set_value.ensures.value ∙ c.into_vec.ensures) (over c)
+seen_over c = is_put c.self.inside.rows.items c.self.inside.spares c.args.self.now c.self.view_is _ c.args.key c.args.value c.set_value.new.self.1 (c.set_value.ensures.value ∙ c.into_vec.ensures) (over c)
 
 pub invariant_of-self : goal.invariant_of-self
 invariant_of-self c = (sorted_put c.self.inside.rows.items _ c.self.invariant.0 _ _ (over c), c.self.invariant.1)
@@ -35,7 +35,7 @@ into c =
     ∙ insert_in_gap c.self.inside.rows.items c.as_slice.result.now c.as_slice-2.result.now c.args.key c.in-Err.at c.new-row.result c.as_slice.ensures.value c.as_slice-2.ensures c.in-Err.ensures.absent (c.new-row.ensures.key ∙ c.into_vec-in-Err.ensures)
 
 seen_into : (c : goal.After-unwrap) → IsPut c.args.self.now c.insert.new.self.items c.args.key c.args.value c.new-row.result.1.room
-seen_into c = is_put c.self.inside.rows.items c.self.inside.spares.len c.args.self.now c.self.view_is _ c.args.key c.args.value c.new-row.result.1 (c.new-row.ensures.value ∙ c.into_vec-in-Err-2.ensures) (into c)
+seen_into c = is_put c.self.inside.rows.items c.self.inside.spares c.args.self.now c.self.view_is _ c.args.key c.args.value c.new-row.result.1 (c.new-row.ensures.value ∙ c.into_vec-in-Err-2.ensures) (into c)
 
 pub invariant_of-self-in-Err : goal.invariant_of-self-in-Err
 invariant_of-self-in-Err c =

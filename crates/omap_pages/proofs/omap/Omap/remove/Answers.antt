@@ -15,7 +15,7 @@ invariant_of-self c = (sorted_where c.self.inside.rows.items _ c.self.invariant.
 pub returns-in-Ok : goal.returns-in-Ok
 returns-in-Ok c =
     let cells = c.self.inside.rows.items in
-    let spare = c.self.inside.spares.len in
+    let spare = c.self.inside.spares in
     let key = c.args.key.now in
     let seen = is_kept cells spare c.args.self.now c.self.view_is c.remove.new.self.items _ (kept c) in
     record {
@@ -31,7 +31,7 @@ returns-in-Ok c =
 pub returns-in-Err : goal.returns-in-Err
 returns-in-Err c =
     let cells = c.self.inside.rows.items in
-    let spare = c.self.inside.spares.len in
+    let spare = c.self.inside.spares in
     let key = c.args.key.now in
     let none = value_seen cells spare c.args.self.now c.self.view_is key _ (find_none cells c.as_slice.result.now key c.in-Err.field-0 c.as_slice.ensures.value c.in-Err.ensures.absent) in
     let seen = is_kept cells spare c.args.self.now c.self.view_is cells _ (kept_none cells c.as_slice.result.now key c.in-Err.field-0 c.as_slice.ensures.value c.in-Err.ensures.absent) in

@@ -34,7 +34,7 @@ invariant_of-self c =
 pub returns : goal.returns
 returns c =
     let cells = c.self.inside.rows.items in
-    let spare = c.self.inside.spares.len in
+    let spare = c.self.inside.spares in
     let seen = is_kept cells spare c.args.self.now c.self.view_is c.drop.new.self.0.items _ (kept c) in
     let count = length-within_range cells c.args.from.now c.args.to.now _ _ _ (first c) (last c) c.max-end.ensures in
     record {

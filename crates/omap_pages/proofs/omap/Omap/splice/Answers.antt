@@ -9,7 +9,7 @@ use Rattle.omap_pages.proofs.omap.Omap.splice.Goals as goal
 pub place_of-at-requires : goal.place_of-at-requires
 place_of-at-requires c = record {
   in_order = ap (is_sorted key_cmp) c.as_slice.ensures.value ∙ c.self.invariant.0;
-  there = ap (λ rows. is_some (find key_cmp c.args.key.now rows)) c.as_slice.ensures.value ∙ sym (is_some_seen c.self.inside.rows.items c.self.inside.spares.len c.args.self.now c.self.view_is c.args.key.now) ∙ c.requires.there;
+  there = ap (λ rows. is_some (find key_cmp c.args.key.now rows)) c.as_slice.ensures.value ∙ sym (is_some_seen c.self.inside.rows.items c.self.inside.spares c.args.self.now c.self.view_is c.args.key.now) ∙ c.requires.there;
 }
 
 -- what stands at the key
@@ -19,7 +19,7 @@ found c = find_here c.self.inside.rows.items c.as_slice.result.now c.args.key.no
 pub splice-requires : goal.splice-requires
 splice-requires c =
     let cells = c.self.inside.rows.items in
-    let spare = c.self.inside.spares.len in
+    let spare = c.self.inside.spares in
     let cell = c.index_mut.result.now.1 in
     let value = value_seen cells spare c.args.self.now c.self.view_is c.args.key.now _ (found c) in
     let room = room_seen cells spare c.args.self.now c.self.view_is c.args.key.now _ (found c) in
@@ -38,7 +38,7 @@ invariant_of-self c = (sorted_put c.self.inside.rows.items _ c.self.invariant.0 
 pub returns : goal.returns
 returns c =
     let cells = c.self.inside.rows.items in
-    let spare = c.self.inside.spares.len in
+    let spare = c.self.inside.spares in
     let key = c.args.key.now in
     let old = c.index_mut.result.now.1.value in
     let found = find_here cells c.as_slice.result.now key c.place_of-at.result c.as_slice.ensures.value c.index_mut.result.now c.place_of-at.ensures c.index_mut.ensures.value in

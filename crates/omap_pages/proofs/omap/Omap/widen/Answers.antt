@@ -8,7 +8,7 @@ use Rattle.omap_pages.proofs.omap.Omap.widen.Goals as goal
 pub place_of-at-requires : goal.place_of-at-requires
 place_of-at-requires c = record {
   in_order = ap (is_sorted key_cmp) c.as_slice.ensures.value ∙ c.self.invariant.0;
-  there = ap (λ rows. is_some (find key_cmp c.args.key.now rows)) c.as_slice.ensures.value ∙ sym (is_some_seen c.self.inside.rows.items c.self.inside.spares.len c.args.self.now c.self.view_is c.args.key.now) ∙ c.requires;
+  there = ap (λ rows. is_some (find key_cmp c.args.key.now rows)) c.as_slice.ensures.value ∙ sym (is_some_seen c.self.inside.rows.items c.self.inside.spares c.args.self.now c.self.view_is c.args.key.now) ∙ c.requires;
 }
 
 -- the row at the key is written over by the wider one
@@ -21,7 +21,7 @@ invariant_of-self-2 c = (sorted_put c.self.inside.rows.items _ c.self.invariant.
 pub returns : goal.returns
 returns c =
     let cells = c.self.inside.rows.items in
-    let spare = c.self.inside.spares.len in
+    let spare = c.self.inside.spares in
     let key = c.args.key.now in
     let found = find_here cells c.as_slice.result.now key c.place_of-at.result c.as_slice.ensures.value c.index_mut.result.now c.place_of-at.ensures c.index_mut.ensures.value in
     let value = value_seen cells spare c.args.self.now c.self.view_is key _ found in

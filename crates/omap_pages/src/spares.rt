@@ -1,0 +1,104 @@
+ghost use Rattle.std.specs.Prelude.{◌≡◌, ◌+◌, ◌<◌, ◌≤◌, length, max, vec_len, vec_capacity, IfOk, OnOk, OnErr};
+ghost use Rattle.omap_pages.specs.declared.spares.TheConstants.{SPARE_KEY_LEN, SPARE_VALUE_LEN};
+
+use crate::row::Row;
+use std::alloc::{AllocError, Global};
+use std::marker::Model;
+
+/// The longest key that a spare row takes, in bytes.
+pub const SPARE_KEY_LEN: usize = 16;
+
+/// The longest value that a spare row takes, in bytes.
+pub const SPARE_VALUE_LEN: usize = 1040;
+
+// The buffers of a row that is not there yet.
+#[derive(Debug, Drop)]
+struct SpareRow {
+    key: Vec<u8>,
+    value: Vec<u8>,
+    ghost key_room: { SPARE_KEY_LEN ≤ vec_capacity key },
+    ghost value_room: { SPARE_VALUE_LEN ≤ vec_capacity value },
+}
+
+impl SpareRow {
+    fn new(alloc: Global) -> Result<Self, AllocError> {
+        Ok(SpareRow {
+            key: Vec::with_capacity(alloc, SPARE_KEY_LEN)?,
+            value: Vec::with_capacity(alloc, SPARE_VALUE_LEN)?,
+        })
+    }
+}
+
+// Rows that are not there yet, which contracts see as the number of them.
+#[derive(Debug, Drop)]
+pub(crate) struct Spares {
+    rows: Vec<SpareRow>,
+}
+
+impl Model for Spares {
+    ghost use Rattle.std.specs.Prelude.{ℕ, vec_len};
+
+    ghost Value = { ℕ };
+
+    ghost view = { λ spares. vec_len spares.rows };
+}
+
+impl Spares {
+    pub(crate) fn new(alloc: Global) -> Self
+        ensures { result ≡ 0 }
+    {
+        Spares {
+            rows: Vec::new(alloc),
+        }
+    }
+
+    pub(crate) fn len(&self) -> usize
+        ensures { result ≡ self.now }
+    {
+        self.rows.len()
+    }
+
+    // Makes this many ready, where there are fewer. After an error nothing has changed.
+    pub(crate) fn reserve(&mut self, count: usize) -> Result<(), AllocError>
+        ensures ok { OnOk result (self.new ≡ max self.old count) }
+        ensures err { OnErr result (self.new ≡ self.old) }
+    {
+        let missing = count.saturating_sub(self.rows.len());
+        let mut added = several(*self.rows.allocator(), missing)?;
+        self.rows.append(&mut added)
+    }
+
+    // One of them as a row with this key and value. Takes no memory.
+    pub(crate) fn make_row(&mut self, key: &[u8], value: &[u8]) -> Row
+        requires some { 0 < self.old }
+        requires key_fits { length key.now ≤ SPARE_KEY_LEN }
+        requires value_fits { length value.now ≤ SPARE_VALUE_LEN }
+        ensures fewer { self.new + 1 ≡ self.old }
+        ensures key { result.0 ≡ key.now }
+        ensures value { result.1.value ≡ value.now }
+        ensures fits { length value.now ≤ result.1.room }
+    {
+        let spare = self.rows.pop().unwrap();
+        Row::new(filled(spare.key, key), filled(spare.value, value))
+    }
+}
+
+fn several(alloc: Global, count: usize) -> Result<Vec<SpareRow>, AllocError>
+    ensures { IfOk result (λ spares. vec_len spares ≡ count) }
+{
+    let mut spares = Vec::with_capacity(alloc, count)?;
+    for _ in 0..count {
+        spares.push(SpareRow::new(alloc)?)?;
+    }
+    Ok(spares)
+}
+
+// The buffer with these bytes in place of its own.
+fn filled(mut buffer: Vec<u8>, bytes: &[u8]) -> Vec<u8>
+    requires { length bytes.now ≤ vec_capacity buffer }
+    ensures { result.items ≡ bytes.now }
+{
+    buffer.clear();
+    buffer.extend_from_slice(bytes).unwrap();
+    buffer
+}
