@@ -67,7 +67,7 @@ pub(crate) fn has_later_field(fields: &Fields) -> bool
 fn is_kind_byte(byte: u8) -> bool
     ensures { result ≡ is_kind_byte byte }
 {
-    32 <= byte && byte <= 126
+    matches!(byte, b' '..=b'~')
 }
 
 fn has_kind_bytes(value: &[u8]) -> bool
