@@ -50,9 +50,9 @@ fn next_request<S: Source>(
     requires between { IsBetween intake.old }
     ensures step { IfOk result (λ step. MatchResult step
         (λ request. (more : List ℕ) × Consumes (S.left source.old) (S.left source.new) more
-            × ((later : List ℕ) → TakesRequest ((intake.old.buffer ++ more) ++ later) request (intake.new.buffer ++ later)))
+        × ((later : List ℕ) → TakesRequest ((intake.old.buffer ++ more) ++ later) request (intake.new.buffer ++ later)))
         (λ end. (more : List ℕ) × Consumes (S.left source.old) (S.left source.new) more
-            × IsEnd (intake.old.buffer ++ more) end)) }
+        × IsEnd (intake.old.buffer ++ more) end)) }
     ensures goes { IfOk result (λ step. IfOk step (λ request.
         is_unread (plan_of request.head) ≡ false → (intake.new.failed ≡ None) × IsBetween intake.new)) }
 {
@@ -186,8 +186,14 @@ fn pieces_give_the_same_answers(rt: HostRuntime) -> Result<(), Fail> {
             "\r\n\nPUT /a HTTP/1.1\r\nContent-Length: 5\r\n\r\nhelloGET /b HTTP/1.0\n\n",
             "PUT Length(5) hello GET Empty  end",
         ),
-        ("PUT /a HTTP/1.1\nTransfer-Encoding: chunked\n\n", "PUT Chunked "),
-        ("GET /a HTTP/1.1\r\nHost: h\r\n\r", "Cut Some(Cut) Some(Cut)"),
+        (
+            "PUT /a HTTP/1.1\nTransfer-Encoding: chunked\n\n",
+            "PUT Chunked ",
+        ),
+        (
+            "GET /a HTTP/1.1\r\nHost: h\r\n\r",
+            "Cut Some(Cut) Some(Cut)",
+        ),
         (
             "PUT /a HTTP/1.1\r\nContent-Length: 5\r\n\r\nhell",
             "PUT Length(5) hell Cut Some(Cut) Some(Cut)",
@@ -213,7 +219,10 @@ fn a_failed_read_is_answered_again(rt: HostRuntime) -> Result<(), Fail> {
     let input = b"PUT /a HTTP/1.1\r\nContent-Length: 5\r\n\r\nhello";
     let rows = [
         (3, "ReadFault Some(ReadFault) Some(ReadFault)"),
-        (6, "PUT Length(5) hell ReadFault Some(ReadFault) Some(ReadFault)"),
+        (
+            6,
+            "PUT Length(5) hell ReadFault Some(ReadFault) Some(ReadFault)",
+        ),
         (9, "PUT Length(5) hello end"),
     ];
     for (call, wanted) in rows {
@@ -229,9 +238,17 @@ fn a_failed_read_is_answered_again(rt: HostRuntime) -> Result<(), Fail> {
 fn a_head_has_at_most_65536_bytes(rt: HostRuntime) -> Result<(), Fail> {
     let rows = [
         (65516, "\n\n", "GET Empty  end"),
-        (65517, "\n\n", "HeadTooLarge Some(HeadTooLarge) Some(HeadTooLarge)"),
+        (
+            65517,
+            "\n\n",
+            "HeadTooLarge Some(HeadTooLarge) Some(HeadTooLarge)",
+        ),
         (65517, "\n", "Cut Some(Cut) Some(Cut)"),
-        (65518, "\n", "HeadTooLarge Some(HeadTooLarge) Some(HeadTooLarge)"),
+        (
+            65518,
+            "\n",
+            "HeadTooLarge Some(HeadTooLarge) Some(HeadTooLarge)",
+        ),
     ];
     for (count, last, wanted) in rows {
         let mut input = Vec::from_slice(rt.alloc(), b"GET / HTTP/1.1\nX: ")?;
@@ -248,7 +265,8 @@ fn a_head_has_at_most_65536_bytes(rt: HostRuntime) -> Result<(), Fail> {
 
 #[test]
 fn a_connection_is_the_stream_of_its_bytes(rt: HostRuntime) -> Result<(), Fail> {
-    let input = b"PUT /swift/v1/AUTH_acme/box/a HTTP/1.1\r\nHost: h\r\nContent-Length: 5\r\n\r\nhello\
+    let input =
+        b"PUT /swift/v1/AUTH_acme/box/a HTTP/1.1\r\nHost: h\r\nContent-Length: 5\r\n\r\nhello\
         GET /swift/v1/AUTH_acme/box/a HTTP/1.1\nHost: h\nConnection: close\n\nmore";
     let wanted = read_stream(rt.alloc(), input)?;
     let mut source = SliceSource::new(input, 7, &[]);
