@@ -1,8 +1,7 @@
 -- A body that is read by its length.
-use Rattle.std.proofs.Common.{◌≡◌, ℕ, ◌<◌, leb, ◌==◌, Bool, true, false, cond, refl, sym, ap, ◌∙◌, ⊎_elim, inl, inr}
+use Rattle.std.proofs.Common.{◌≡◌, ℕ, ◌<◌, leb, ◌==◌, Bool, true, false, cond, refl, ⊎_elim, inl, inr}
 use Rattle.std.specs.Prelude.{◌&&◌, ◌⊎◌}
 use Rattle.std.proofs.lemmas.Bool.{and_parts, or_cases, or_parts, leb-false}
-use Rattle.rgw_model.specs.declared.head.BodyPlan.{BodyPlan}
 use Rattle.rgw_model.specs.declared.head.BodyPlan.TheVariants.{Content, Unread, NotBuilt}
 use Rattle.rgw_model.specs.declared.head.Framing.{Framing}
 use Rattle.rgw_model.specs.declared.head.Framing.TheVariants.{Empty, Length, Chunked}
