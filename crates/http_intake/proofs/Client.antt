@@ -1,6 +1,6 @@
 -- A client of an intake, which reads one request after another.
-use Rattle.std.proofs.Common.{◌≡◌, ℕ, suc, ◌+◌, ◌<◌, List, [], ◌∷◌, ◌++◌, length, take, true, false, Option, None, refl, sym, ap, ◌∙◌, subst, subst₂, append_assoc, add-one, arith}
-use Rattle.std.specs.Prelude.{MatchBool}
+use Rattle.std.proofs.Common.{◌≡◌, ℕ, suc, ◌+◌, ◌<◌, List, [], ◌∷◌, ◌++◌, length, take, true, false, Option, None, refl, inr, sym, ap, ◌∙◌, subst, subst₂, append_assoc, add-one, arith}
+use Rattle.std.specs.Prelude.{◌≢◌, MatchBool}
 use Rattle.std.proofs.lemmas.List.{append-nil, length-append, length-take-le}
 use Rattle.std.proofs.KnownBytes.{Consumes-nil, Consumes-trans}
 use Rattle.std.specs.Io.KnownBytes.{Consumes}
@@ -10,11 +10,12 @@ use Rattle.rgw_model.specs.declared.head.Request.{Request}
 use Rattle.rgw_model.specs.declared.reply.StreamEnd.{StreamEnd}
 use Rattle.rgw_model.specs.declared.reply.StreamEnd.TheVariants.{Closed, Cut}
 use Rattle.rgw_model.specs.Forms.{plan_of, closes}
-use Rattle.rgw_model.specs.Heads.{BeginsWith}
+use Rattle.rgw_model.specs.Heads.{EndsHead, BeginsWith}
 use Rattle.rgw_model.specs.Streams.{TakesRequest, IsEnd, IsStreamFrom, IsStream}
 use Rattle.http_intake.specs.Intake.{IntakeState, GivesHead, GivesBytes}
-use Rattle.rgw_model.proofs.PlainLemmas.{cut_body}
 use Rattle.http_intake.proofs.Planned.{content_is}
+use Rattle.http_intake.proofs.ScanSteps.{no_head}
+use Rattle.http_intake.proofs.Taking.{no_front}
 
 -- ---- a body
 
@@ -62,7 +63,7 @@ pub gave_all : (before mid now : Option (List ℕ)) (old intake new : IntakeStat
     → (length body ≡ old.body_left) × ((new.body_left ≡ 0) × (new.chunked ≡ false)) × (new.failed ≡ None) × ((more : List ℕ) × Consumes before now more × (old.buffer ++ more ≡ body ++ new.buffer))
 gave_all before mid now old intake new body out n gave gives none room =
     let all = gave_more before mid now old intake new body out n gave gives in
-    let due : new.body_left ≡ 0 = omega (arith, gives.due, none, gives.none none, room) in
+    let due : new.body_left ≡ 0 = omega (arith, gives.due, none, gives.zero none, room) in
     let bytes = all.bytes ∙ ap (λ m. (body ++ take m out) ++ new.buffer) none ∙ ap (λ l. l ++ new.buffer) (append-nil body) in
     (omega (arith, gave.due, gives.due, none, due), (due, all.unchunked), all.goes, (all.more, all.read, bytes))
 
@@ -72,6 +73,11 @@ pub begins_more : (all later : List ℕ) (head : Head) (rest : List ℕ) → Beg
 begins_more all later head rest begins =
     let text = begins.1 in
     (begins.0, record { is_text = text.is_text; fits = text.fits; whole = ap (λ l. l ++ later) text.whole ∙ append_assoc begins.0 rest later }, begins.2)
+
+has_bytes : (all : List ℕ) (head : Head) (rest : List ℕ) → BeginsWith all head rest → all ≢ []
+has_bytes all head rest begins none =
+    let text : begins.0 ≡ [] = no_front begins.0 rest (sym begins.1.whole ∙ none) in
+    no_head (subst EndsHead text begins.1.is_text.ends)
 
 -- a head, what was read behind it, and the body that this begins with
 pub takes_content : (before more next : List ℕ) (head : Head) (after body left : List ℕ) (n : ℕ) → BeginsWith (before ++ more) head after → plan_of head ≡ Content n
@@ -121,7 +127,7 @@ cut_content before mid now old intake head n more next read gives plan then shor
     let begins = subst (λ l. BeginsWith l head (intake.buffer ++ next)) joined (begins_more (old.buffer ++ more) next head intake.buffer gives.begins) in (
       more ++ next,
       Consumes-trans before mid now more next read then,
-      cut_body (old.buffer ++ (more ++ next)) head (intake.buffer ++ next) n plan (omega (arith, short, gives.body_left, (content_is head n plan).0)) begins,
+      (has_bytes _ head (intake.buffer ++ next) begins, inr (head, intake.buffer ++ next, n, begins, plan, omega (arith, short, gives.body_left, (content_is head n plan).0))),
     )
 
 -- ---- all of them
@@ -146,7 +152,7 @@ leads_more read more taken k rest left request leads takes later requests end fo
     let one : IsStreamFrom k (rest ++ (more ++ later)) (request ∷ requests) end =
     subst (λ l. IsStreamFrom k l (request ∷ requests) end) (append_assoc rest more later) (left ++ later, takes later, follows) in
     subst₂ (λ l rs. IsStream l rs end) (sym (append_assoc read more later)) (sym (append_assoc taken (request ∷ []) requests))
-        (leads (more ++ later) (request ∷ requests) end one)
+    (leads (more ++ later) (request ∷ requests) end one)
 
 pub went_more : (before mid now : Option (List ℕ)) (taken : List Request) (k : ℕ) (rest left : List ℕ) (request : Request) → Went before mid taken k rest
     → Takes mid now rest request left → closes k request.head ≡ false → Went before now (taken ++ request ∷ []) (k + 1) left

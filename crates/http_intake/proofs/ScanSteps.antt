@@ -1,5 +1,5 @@
 -- A scan for the end of a head, one byte on.
-use Rattle.std.proofs.Common.{◌≡◌, ◌≢◌, ℕ, suc, ◌+◌, ◌<◌, ◌≤◌, ◌⊎◌, Bool, true, false, cond, eqb, List, [], ◌∷◌, ◌++◌, length, get_or, take, slice_range, Option, Some, None, refl, sym, ap, ◌∙◌, subst, inl, inr, ⊎_elim, arith, append_assoc, length-append}
+use Rattle.std.proofs.Common.{◌≡◌, ◌≢◌, ℕ, ◌+◌, ◌<◌, ◌≤◌, ◌⊎◌, Bool, true, false, cond, List, [], ◌∷◌, ◌++◌, length, get_or, take, slice_range, Option, Some, None, refl, sym, ap, ◌∙◌, subst, inl, inr, ⊎_elim, arith, append_assoc, length-append}
 use Rattle.std.proofs.lemmas.List.{take-append-le, take_all, take_more, take_rest, get_or-drop, length-drop, same_from_push}
 use Rattle.std.proofs.lemmas.Bool.{cases_lt, eqb-true, eqb-false, or_parts}
 use Rattle.std.specs.Prelude.{◌||◌, ◌==◌}
@@ -65,7 +65,7 @@ skip_more (b ∷ bytes) c e = by_break_more (is_break b) b c bytes (skip_more by
 fronts : (seen : List ℕ) (b n : ℕ) → ((n ≤ length seen) × (take n (seen ++ b ∷ []) ≡ take n seen)) ⊎ (take n (seen ++ b ∷ []) ≡ seen ++ b ∷ [])
 fronts seen b n =
     ⊎_elim (λ above. inr (take_all n (seen ++ b ∷ []) (omega (arith, above, length-append seen (b ∷ []))))) (λ within. inl (within, take-append-le n seen (b ∷ []) within))
-        (cases_lt (length seen) n)
+    (cases_lt (length seen) n)
 
 pub open_more : (seen : List ℕ) (b : ℕ) → HasNoHeadText seen → ¬ (EndsHead (seen ++ b ∷ [])) → HasNoHeadText (seen ++ b ∷ [])
 open_more seen b open_so_far not_here n ends =
@@ -111,9 +111,10 @@ before_more b false is =
     let other : ((b == 13) ≡ false) × ((b == 10) ≡ false) = or_parts (b == 13) (b == 10) is in is_inside [] b (eqb-false b 10 other.1) (λ e. eqb-false b 13 other.0)
 
 inside_more : (text : List ℕ) (b : ℕ) (t : Bool) → (b == 10) ≡ t → IsBehind text Inside → Tells (text ++ b ∷ []) (cond t (Some Fresh) (Some Inside))
-inside_more text b true is inside =
-    ((text, ap (λ c. text ++ c ∷ []) (eqb-true b 10 is)),
-    λ ends. ⊎_elim (λ e. inside.1 (last_is text (10 ∷ []) b 10 e).0) (λ e. inside.2 (last_is text (10 ∷ 13 ∷ []) b 10 e).0) ends)
+inside_more text b true is inside = (
+  (text, ap (λ c. text ++ c ∷ []) (eqb-true b 10 is)),
+  λ ends. ⊎_elim (λ e. inside.1 (last_is text (10 ∷ []) b 10 e).0) (λ e. inside.2 (last_is text (10 ∷ 13 ∷ []) b 10 e).0) ends,
+)
 inside_more text b false is inside = is_inside text b (eqb-false b 10 is) (λ e. absurd (inside.1 e))
 
 fresh_more : (text : List ℕ) (b : ℕ) (t u : Bool) → (b == 10) ≡ t → (b == 13) ≡ u → IsBehind text Fresh
@@ -145,7 +146,8 @@ tells_more seen b Return at =
     subst (λ text. Tells text (after_byte Return b)) (sym (skip_more seen b (some_text (skip_breaks seen) (10 ∷ 13 ∷ []) (omega arith) at)))
     (return_more (skip_breaks seen) b (b == 10) refl at)
 
-no_head : ¬ (EndsHead [])
+-- no head is empty
+pub no_head : ¬ (EndsHead [])
 no_head ends = ⊎_elim (too_short [] (10 ∷ 10 ∷ []) (omega arith)) (too_short [] (10 ∷ 13 ∷ 10 ∷ []) (omega arith)) ends
 
 -- before the first byte

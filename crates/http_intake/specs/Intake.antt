@@ -60,14 +60,15 @@ GivesNext before after old new result =
 
 -- ---- the next bytes of a body
 
--- bytes were read, and with those that waited they are the n bytes of the body in out, and what the intake keeps
+-- Bytes were read, and with those that waited they are the first n bytes of out and what the intake keeps. None comes only
+-- where the body was given whole or out is empty.
 pub record GivesBytes (before after : Option (List ℕ)) (old new : IntakeState) (out : List ℕ) (n : ℕ) : Type 0 where
   pub more : List ℕ
   pub read : Consumes before after more
   pub bytes : old.buffer ++ more ≡ take n out ++ new.buffer
   pub fits : n ≤ length out
   pub due : n + new.body_left ≡ old.body_left
-  pub none : n ≡ 0 → min old.body_left (length out) ≡ 0
+  pub zero : n ≡ 0 → min old.body_left (length out) ≡ 0
   pub chunked : new.chunked ≡ old.chunked
   pub failed : new.failed ≡ None
   pub largest : new.largest ≡ old.largest

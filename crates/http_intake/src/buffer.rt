@@ -128,10 +128,12 @@ impl Buffer {
         ensures err { OnErr result ((self.new ≡ self.old) × Keeps (S.left source.old) (S.left source.new)) }
         ensures cause { HasCause (S.faults source.old) (S.faults source.new) result }
     {
-        let (start, end) = make_room(&mut self.bytes, self.start, self.end);
+        let bytes = self.bytes.as_mut_slice();
+        let (start, end) = make_room(bytes, self.start, self.end);
+        let read = read_behind(source, bytes, end);
         self.start = start;
         self.end = end;
-        let count = read_behind(source, &mut self.bytes, end)?;
+        let count = read?;
         self.end += count;
         Ok(count)
     }

@@ -12,10 +12,7 @@ use std::alloc::Global;
 
 /// Reads on until the text of a head is there, and answers its length; none where the input ends
 /// before its first byte.
-fn find_text<S: Source>(
-    buffer: &mut Buffer,
-    source: &mut S,
-) -> Result<Option<usize>, IntakeFault>
+fn find_text<S: Source>(buffer: &mut Buffer, source: &mut S) -> Result<Option<usize>, IntakeFault>
     ensures read { Reads (S.left source.old) (S.left source.new) buffer.old buffer.new }
     ensures found { FindsText buffer.new (IsAtEnd (S.left source.new)) result }
     ensures cause { CountsFaults (S.faults source.old) (S.faults source.new) result }

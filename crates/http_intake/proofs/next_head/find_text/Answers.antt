@@ -1,4 +1,4 @@
-use Rattle.std.proofs.Common.{◌≡◌, ◌≢◌, List, ℕ, [], length, take, sym, ap, ◌∙◌, subst, Ok, arith, length-take}
+use Rattle.std.proofs.Common.{◌≢◌, [], length, sym, ap, ◌∙◌, subst, Ok, arith, length-take}
 use Rattle.rgw_model.specs.Streams.{IsCutHead, IsOversized}
 use Rattle.http_intake.proofs.Searching.{searches_start, reads_on, nothing_more, too_many, all_scanned}
 use Rattle.http_intake.proofs.next_head.find_text.Goals as goal
@@ -19,6 +19,8 @@ returns-else-seen-eq0-clause-found g c =
     let bytes = c.as_slice-bytes in
     let same = nothing_more _ _ _ _ c.in_ok-fill.ensures.read (omega (arith, c.in_ok-fill.ensures.count)) in
     let is = bytes.ensures ∙ sym same in
-    let some : c.fill.new.self ≢ [] = λ none. c.if-seen-eq0.false (omega (arith, ap length (is ∙ none), length-take c.min.result bytes.result.now)) in
-    (some, subst IsCutHead is (all_scanned bytes.result.now c.min.result c.in-Later.next c.min.ensures c.if-seen-bytes.false c.in-Later.ensures),
-    c.in_ok-fill.ensures.end (ap Ok c.if-branch-eq0.true))
+    let some : c.fill.new.self ≢ [] = λ none. c.if-seen-eq0.false (omega (arith, ap length (is ∙ none), length-take c.min.result bytes.result.now)) in (
+      some,
+      subst IsCutHead is (all_scanned bytes.result.now c.min.result c.in-Later.next c.min.ensures c.if-seen-bytes.false c.in-Later.ensures),
+      c.in_ok-fill.ensures.end (ap Ok c.if-branch-eq0.true),
+    )

@@ -1,4 +1,4 @@
-use Rattle.std.proofs.Common.{◌+◌, take, length, sym, ap, ◌∙◌, subst, arith}
+use Rattle.std.proofs.Common.{take, sym, ap, ◌∙◌, subst, arith}
 use Rattle.http_intake.specs.Scan.{after_byte, Scanned}
 use Rattle.http_intake.proofs.ScanSteps.{byte_at, scanned_next, scanned_last}
 use Rattle.http_intake.proofs.scan.scan.Goals as goal

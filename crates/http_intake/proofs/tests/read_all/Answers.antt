@@ -1,7 +1,6 @@
 use Rattle.std.proofs.Common.{sym, ◌∙◌, arith}
-use Rattle.rgw_model.proofs.PlainLemmas.{goes_below_limit}
 use Rattle.http_intake.proofs.Client.{went_more, went_closed, went_end}
-use Rattle.http_intake.proofs.Planned.{reads_body}
+use Rattle.http_intake.proofs.Planned.{reads_body, goes_below}
 use Rattle.http_intake.proofs.tests.read_all.Goals as goal
 
 pub returns-in-Err : goal.returns-in-Err
@@ -21,7 +20,7 @@ requests-preserved g c =
     let more = sym c.closes-closes.ensures ∙ c.if-closes.false in
     let head = c.in-Ok-2.request.head in
     let goes = (rw c.in-Ok-2.is at c.in_ok-request.ensures.goes) (reads_body c.requests.k head more) in
-    let below = goes_below_limit c.requests.k head more in
+    let below = goes_below c.requests.k head more in
     record {
       went = rw c.in-Ok-push.ensures.items (went_more _ _ _ _ _ _ _ _ c.requests.invariant.went took more);
       goes = goes.0;

@@ -1,4 +1,4 @@
-use Rattle.std.proofs.Common.{◌≡◌, ◌+◌, ◌-◌, ◌≤◌, None}
+use Rattle.std.proofs.Common.{◌≡◌, ◌-◌, ◌≤◌, None}
 use Rattle.http_intake.specs.Intake.{IsBetween}
 use Rattle.http_intake.proofs.Client.{Went}
 use Rattle.http_intake.proofs.tests.read_all.Given as goal

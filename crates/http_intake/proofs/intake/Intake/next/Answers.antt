@@ -1,4 +1,4 @@
-use Rattle.std.proofs.Common.{◌++◌, Some, sym, ap, ◌∙◌}
+use Rattle.std.proofs.Common.{Some, sym, ap, ◌∙◌}
 use Rattle.http_intake.specs.contracts.intake.Intake.{the_view}
 use Rattle.http_intake.proofs.Taking.{no_front}
 use Rattle.http_intake.proofs.intake.Intake.next.Goals as goal
