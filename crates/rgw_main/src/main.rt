@@ -3,6 +3,9 @@
 //! moment, in microseconds since 1970, and no clock is asked.
 #![tactic(auto)]
 
+ghost use Rattle.std.specs.Prelude.{◌≡◌, ◌≢◌};
+ghost use Rattle.std.specs.IoError.{error_kind};
+
 mod run;
 mod words;
 
@@ -22,13 +25,14 @@ fn arguments<R: Env + AllocGlobal>(rt: &R) -> io::Result<Vec<String>> {
 }
 
 /// The status where the words could not be had: those that are no text are refused.
-fn status_without_words(error: &io::Error) -> Status {
-    let number = if error.kind() == ErrorKind::OutOfMemory {
-        4
-    } else {
-        1
-    };
-    Status { number }
+fn status_without_words(error: &io::Error) -> Status
+    ensures memory { error_kind error.now ≡ ErrorKind.OutOfMemory → result.number ≡ 4 }
+    ensures refused { error_kind error.now ≢ ErrorKind.OutOfMemory → result.number ≡ 1 }
+{
+    match error.kind() {
+        ErrorKind::OutOfMemory => Status { number: 4 },
+        _ => Status { number: 1 },
+    }
 }
 
 /// A run over the standard streams and the system's clock. Neither stream is buffered here, so
