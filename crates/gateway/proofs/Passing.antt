@@ -21,7 +21,7 @@ module _ (start now next : IntakeState) (a b c : Option (List ℕ)) (given out :
   }
 
   pub none_left : 0 < length out → GivesBytes b c now next out n → n ≡ 0 → next.body_left ≡ 0
-  none_left room y zero_is = omega (arith, y.none zero_is, room, y.due)
+  none_left room y zero_is = omega (arith, y.due, zero_is, y.zero zero_is, room)
 
   pub some_left : 0 < length out → GivesBytes b c now next out n → 0 < n → next.body_left < now.body_left
   some_left room y more = omega (arith, y.due)

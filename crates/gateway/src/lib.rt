@@ -13,3 +13,6 @@ mod turn;
 pub use fault::ServeFault;
 pub use serve::{ConnEnd, Served, serve_connection};
 pub use store::PlainStore;
+
+#[cfg(test)]
+mod tests;

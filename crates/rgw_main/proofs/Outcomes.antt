@@ -7,8 +7,8 @@ use Rattle.rgw_model.specs.declared.reply.StreamEnd.TheVariants.{Clean, Closed, 
 use Rattle.rgw_model.specs.Buckets.{empty_bucket}
 use Rattle.gateway.specs.declared.serve.Served.{Served}
 use Rattle.gateway.specs.declared.serve.ConnEnd.TheVariants as Conn
-use Rattle.gateway.specs.declared.serve.ServeFault.{ServeFault}
-use Rattle.gateway.specs.declared.serve.ServeFault.TheVariants as Fault
+use Rattle.gateway.specs.declared.fault.ServeFault.{ServeFault}
+use Rattle.gateway.specs.declared.fault.ServeFault.TheVariants as Fault
 use Rattle.gateway.specs.Store.{StoreState}
 use Rattle.gateway.specs.Serving.{Outside, Serves, Stops, connection_end}
 use Rattle.gw_io.specs.Memory.{StepState, StandsStill, moments_of, plan_of}

@@ -11,8 +11,8 @@ use Rattle.rgw_model.specs.Connections.{connection_text, moments_told}
 use Rattle.gateway.specs.declared.serve.ConnEnd.{ConnEnd}
 use Rattle.gateway.specs.declared.serve.ConnEnd.TheVariants as Conn
 use Rattle.gateway.specs.declared.serve.Served.{Served}
-use Rattle.gateway.specs.declared.serve.ServeFault.{ServeFault}
-use Rattle.gateway.specs.declared.serve.ServeFault.TheVariants as Fault
+use Rattle.gateway.specs.declared.fault.ServeFault.{ServeFault}
+use Rattle.gateway.specs.declared.fault.ServeFault.TheVariants as Fault
 use Rattle.gateway.specs.Serving.{Outside, ReadsOut}
 use Rattle.rgw_main.specs.declared.words.Once.{Once}
 
