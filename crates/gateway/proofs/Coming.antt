@@ -155,7 +155,7 @@ joined k container more old mid new a b c head (Came.Request asked close) read x
   Consumes-trans a b c more later read read',
   record { head = head; body = body },
   subst (λ l. TakesRequest l (record { head = head; body = body }) new.buffer) (append_assoc old.buffer more later)
-  (joined_request container (old.buffer ++ more) later body new.buffer old new mid head x is_body),
+      (joined_request container (old.buffer ++ more) later body new.buffer old new mid head x is_body),
   closing,
   is_asked,
   ready,
@@ -164,14 +164,14 @@ joined k container more old mid new a b c head (Came.End e) read x (later, read'
   more ++ later,
   Consumes-trans a b c more later read read',
   subst (IsEnd (old.buffer ++ (more ++ later))) (sym is)
-  (subst (λ l. IsEnd l Stream.Cut) (append_assoc old.buffer more later) (joined_cut (old.buffer ++ more) later old mid head n x plan short)),
+      (subst (λ l. IsEnd l Stream.Cut) (append_assoc old.buffer more later) (joined_cut (old.buffer ++ more) later old mid head n x plan short)),
   subst (λ f. ReadsOut f c) (sym is) end,
 )
 joined k container more old mid new a b c head (Came.End e) read x (later, read', inr (is, plan)) = (
   more ++ later,
   Consumes-trans a b c more later read read',
   subst (IsEnd (old.buffer ++ (more ++ later))) (sym is)
-  (subst (λ l. IsEnd l Stream.NotBuilt) (append_assoc old.buffer more later) (joined_later (old.buffer ++ more) later old mid head x plan)),
+      (subst (λ l. IsEnd l Stream.NotBuilt) (append_assoc old.buffer more later) (joined_later (old.buffer ++ more) later old mid head x plan)),
   subst (λ f. ReadsOut f c) (sym is) tt,
 )
 

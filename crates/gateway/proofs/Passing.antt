@@ -36,7 +36,7 @@ module _ (start now next : IntakeState) (a b c : Option (List ℕ)) (given out :
     x.more ++ [],
     Consumes-trans a b c x.more [] x.read read,
     subst (λ l. length (start.buffer ++ l) < start.body_left) (sym (append-nil x.more))
-    (omega (arith, ap length x.bytes, length-append given now.buffer, ap length none, x.due, due)),
+        (omega (arith, ap length x.bytes, length-append given now.buffer, ap length none, x.due, due)),
     end,
   )
 

@@ -134,8 +134,7 @@ module _ (k : ℕ) (store mid after : StoreState) (buffer left : List ℕ) (old 
   goes_back g more later requests e x =
       let bytes : (buffer ++ (g.read ++ more)) ++ later ≡ ((buffer ++ g.read) ++ more) ++ later = ap (λ l. l ++ later) (sym (append_assoc buffer g.read more)) in
       let takes = more_request ((buffer ++ g.read) ++ more) g.request (left ++ more) later (more_request (buffer ++ g.read) g.request left more g.takes) in
-      let back = stream_after k (((buffer ++ g.read) ++ more) ++ later) g.request ((left ++ more) ++ later) requests e takes (subst (λ l. IsStreamFrom k l requests e) bytes x) in
-      (
+      let back = stream_after k (((buffer ++ g.read) ++ more) ++ later) g.request ((left ++ more) ++ later) requests e takes (subst (λ l. IsStreamFrom k l requests e) bytes x) in (
         back.0,
         back.1,
         subst (λ b. MatchBool b ((back.0 ≡ []) × (e ≡ Stream.Closed)) (IsStreamFrom (suc k) ((left ++ more) ++ later) back.0 e)) g.stays_open back.2,
@@ -153,23 +152,23 @@ module _ (k : ℕ) (store mid after : StoreState) (buffer left : List ℕ) (old 
         let back = goes_back g s.read later requests e x in
         let further = s.front later more back.0 e back.2 in
         let n = served store.container store.bucket g.request (next_moment g.moments) in
-        let first = reply_text n.reply n.shown false in
-        (
+        let first = reply_text n.reply n.shown false in (
           further.0,
           ap (λ rs. replies_from k store.container store.bucket ((g.moments ++ s.moments) ++ more) rs ++ end_text e) back.1
-          ∙ ap (λ ms. replies_from k store.container store.bucket ms (g.request ∷ back.0) ++ end_text e) (append_assoc g.moments s.moments more)
-          ∙ sym (goes_text g (s.moments ++ more) back.0 (end_text e))
-          ∙ ap (λ l. first ++ l) further.1
-          ∙ sym (append_assoc first s.text further.0),
+              ∙ ap (λ ms. replies_from k store.container store.bucket ms (g.request ∷ back.0) ++ end_text e) (append_assoc g.moments s.moments more)
+              ∙ sym (goes_text g (s.moments ++ more) back.0 (end_text e))
+              ∙ ap (λ l. first ++ l) further.1
+              ∙ sym (append_assoc first s.text further.0),
         );
     stored = λ later more requests e x.
         let back = goes_back g s.read later requests e x in
-        let further = s.stored later more back.0 e back.2 in
-        (
+        let further = s.stored later more back.0 e back.2 in (
           suc further.0,
           goes_store g (s.moments ++ more) (take further.0 back.0) further.1
-          ∙ (λ i. record { container = store.container;
-            bucket = bucket_from store.container store.bucket (sym (append_assoc g.moments s.moments more) i) (take (suc further.0) (sym back.1 i)) }),
+              ∙ (λ i. record {
+                container = store.container;
+                bucket = bucket_from store.container store.bucket (sym (append_assoc g.moments s.moments more) i) (take (suc further.0) (sym back.1 i));
+              }),
         );
   }
 
@@ -280,9 +279,11 @@ module _ (k : ℕ) (store after : StoreState) (buffer read left : List ℕ) (old
       → (n : ℕ) × (after ≡ record { container = store.container; bucket = bucket_from store.container store.bucket (moments ++ more) (take n requests) })
   unfolding bucket_from
   kept_or_stored moments each (inl kept) more requests others e = (0, kept)
-  kept_or_stored moments each (inr stored) more requests others e =
-      (1, answer_store moments more each stored
-      ∙ ap (λ (rs : List Request). let t : StoreState = record { container = store.container; bucket = bucket_from store.container store.bucket (moments ++ more) (take 1 rs) } in t) (sym e))
+  kept_or_stored moments each (inr stored) more requests others e = (
+    1,
+    answer_store moments more each stored
+        ∙ ap (λ (rs : List Request). let t : StoreState = record { container = store.container; bucket = bucket_from store.container store.bucket (moments ++ more) (take 1 rs) } in t) (sym e),
+  )
 
   pub stops_answering : AnswersInPart asked (closes k request.head) store after old.taken new.taken old.told new.told → StopsFrom k store after buffer old new
   stops_answering a = record {
@@ -294,12 +295,11 @@ module _ (k : ℕ) (store after : StoreState) (buffer read left : List ℕ) (old
     written = a.written.grown;
     front = λ later more requests e x.
         let back = stream_after k ((buffer ++ read) ++ later) request (left ++ later) requests e (more_request (buffer ++ read) request left later takes) x in
-        let others = replies_from (suc k) store.container ((served store.container store.bucket request (next_moment a.moments)).bucket) more back.0 in
-        (
+        let others = replies_from (suc k) store.container ((served store.container store.bucket request (next_moment a.moments)).bucket) more back.0 in (
           (a.written.rest ++ others) ++ end_text e,
           ap (λ rs. replies_from k store.container store.bucket (a.moments ++ more) rs ++ end_text e) back.1
-          ∙ ap (λ l. l ++ end_text e) (answer_text a.moments more back.0 a.each ∙ ap (λ l. l ++ others) a.written.whole)
-          ∙ simp append_assoc,
+              ∙ ap (λ l. l ++ end_text e) (answer_text a.moments more back.0 a.each ∙ ap (λ l. l ++ others) a.written.whole)
+              ∙ simp append_assoc,
         );
     stored = λ later more requests e x.
         let back = stream_after k ((buffer ++ read) ++ later) request (left ++ later) requests e (more_request (buffer ++ read) request left later takes) x in

@@ -38,8 +38,10 @@ pub record StopsFrom (k : ℕ) (store after : StoreState) (buffer : List ℕ) (o
   pub front : (later more : List ℕ) (requests : List Request) (stream_end : StreamEnd) → IsStreamFrom k ((buffer ++ read) ++ later) requests stream_end
       → (rest : List ℕ) × (replies_from k store.container store.bucket (moments ++ more) requests ++ end_text stream_end ≡ text ++ rest)
   pub stored : (later more : List ℕ) (requests : List Request) (stream_end : StreamEnd) → IsStreamFrom k ((buffer ++ read) ++ later) requests stream_end
-      → (n : ℕ) × (after ≡ record { container = store.container;
-        bucket = bucket_from store.container store.bucket (moments ++ more) (take n requests) })
+      → (n : ℕ) × (after ≡ record {
+        container = store.container;
+        bucket = bucket_from store.container store.bucket (moments ++ more) (take n requests);
+      })
 
 -- one request was served, and the connection goes on with these bytes
 pub record GoesOn (k : ℕ) (store after : StoreState) (buffer left : List ℕ) (old new : Outside) : Type 0 where
@@ -52,6 +54,8 @@ pub record GoesOn (k : ℕ) (store after : StoreState) (buffer left : List ℕ) 
   pub asked : Appends old.told new.told moments
   pub each : length moments ≡ (if is_reaching (judged store.container request.head) then 1 else 0)
   pub written : Appends old.taken new.taken (let now = served store.container store.bucket request (next_moment moments) in
-    reply_text now.reply now.shown false)
-  pub stored : after ≡ record { container = store.container;
-    bucket = (served store.container store.bucket request (next_moment moments)).bucket }
+      reply_text now.reply now.shown false)
+  pub stored : after ≡ record {
+    container = store.container;
+    bucket = (served store.container store.bucket request (next_moment moments)).bucket;
+  }

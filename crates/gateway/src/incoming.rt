@@ -22,12 +22,7 @@ pub(crate) enum Incoming {
 }
 
 /// Adds the first bytes of a piece where they are kept.
-fn add_front_if(
-    keep: bool,
-    body: &mut Bytes,
-    piece: &[u8],
-    count: usize,
-) -> Result<(), AllocError>
+fn add_front_if(keep: bool, body: &mut Bytes, piece: &[u8], count: usize) -> Result<(), AllocError>
     requires { count ≤ length piece.now }
     ensures { OnOk result (body.new ≡ (if keep then body.old ++ take count piece.now else body.old)) }
 {

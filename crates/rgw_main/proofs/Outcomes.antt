@@ -11,7 +11,6 @@ use Rattle.gateway.specs.declared.fault.ServeFault.{ServeFault}
 use Rattle.gateway.specs.declared.fault.ServeFault.TheVariants as Fault
 use Rattle.gateway.specs.Store.{StoreState}
 use Rattle.gateway.specs.Serving.{Outside, Serves, Stops, connection_end}
-use Rattle.gw_io.specs.Memory.{StepState, StandsStill, moments_of, plan_of}
 use Rattle.rgw_main.specs.declared.words.Once.{Once}
 use Rattle.rgw_main.specs.Runs.{AreMoments, ServesOnce, StopsOnce, status_of, end_status, fault_status, outcome_status}
 
@@ -97,13 +96,6 @@ stops_by_status bucket store after old new (Err e) status is by h fault =
 -- beside any clock
 abbrev beside : Outside → Option (List ℕ) → Outside
 beside outside told = record { left = outside.left; taken = outside.taken; told = told }
-
--- a clock that stands still told one moment
-pub still_moments : (moment : ℕ) (old new : StepState) → old ≡ record { first = moment; step = 0; calls = 0 } → plan_of new ≡ plan_of old → StandsStill moment
-    → (moments : List ℕ) → Appends (Some (moments_of old)) (Some (moments_of new)) moments → All (λ m. m ≡ moment) moments
-still_moments moment old new is plan still moments told =
-    let fresh : moments_of old ≡ [] = ap moments_of is in
-    still new moments (plan ∙ ap plan_of is) (told ∙ ap (λ l. l ++ moments) fresh)
 
 pub serves_at_moment : (bucket : List ℕ) (moment : ℕ) (old new : Outside) (status : ℕ)
     → ((moments : List ℕ) → Appends old.told new.told moments → All (λ m. m ≡ moment) moments)

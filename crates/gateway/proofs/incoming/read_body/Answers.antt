@@ -7,8 +7,7 @@ pub returns-in-Whole-clause-passed : goal.returns-in-Whole-clause-passed
 returns-in-Whole-clause-passed g c =
     let so_far = c.pieces.invariant.so_far in
     let gives = c.in-Whole.ensures.passed in
-    let room : 0 < length c.pass_piece.new.piece = omega (arith, c.pieces.invariant.room, c.pass_piece.auto.piece) in
-    (
+    let room : 0 < length c.pass_piece.new.piece = omega (arith, c.pieces.invariant.room, c.pass_piece.auto.piece) in (
       so_far.0 ++ take 0 c.pass_piece.new.piece,
       (
         give_more c.args.intake.now c.pieces.intake c.pass_piece.new.intake (g.S.Source.left c.args.source.now) (g.S.Source.left c.pieces.source) (g.S.Source.left c.pass_piece.new.source) so_far.0 c.pass_piece.new.piece 0 so_far.1 gives,
@@ -35,6 +34,6 @@ pieces-preserved g c =
         so_far.0 ++ take c.in-Bytes.count c.pass_piece.new.piece,
         give_more c.args.intake.now c.pieces.intake c.pass_piece.new.intake (g.S.Source.left c.args.source.now) (g.S.Source.left c.pieces.source) (g.S.Source.left c.pass_piece.new.source) so_far.0 c.pass_piece.new.piece c.in-Bytes.count so_far.1 gives,
         keep_more c.args.keep c.args.body.now so_far.0 (take c.in-Bytes.count c.pass_piece.new.piece) c.add_front_if.new.body
-        (c.in-Ok.ensures ∙ ap (λ (b : List ℕ). if c.args.keep then b ++ take c.in-Bytes.count c.pass_piece.new.piece else b) so_far.2),
+            (c.in-Ok.ensures ∙ ap (λ (b : List ℕ). if c.args.keep then b ++ take c.in-Bytes.count c.pass_piece.new.piece else b) so_far.2),
       );
     }

@@ -16,16 +16,15 @@ returns-clause-taken g c =
     let given = passed.0 in
     let body = subst (λ (b : Bool). PassesBody c.args.intake.now c.read_body.new.intake (g.S.Source.left c.args.source.now) (g.S.Source.left c.read_body.new.source) given b) whole passed.1 in
     let kept : c.read_body.new.body ≡ (if is_put_in c.in-Ok.asked then given else []) =
-        passed.2 ∙ ap (λ (b : List ℕ). if c.is_put.result then b ++ given else b) c.new-body.ensures
-        ∙ ap (λ (p : Bool). if p then given else []) c.is_put.ensures in
-    let asked = c.with_body.ensures ∙ same_body c.in-Ok.asked c.read_body.new.body given kept in
-    (
+    passed.2 ∙ ap (λ (b : List ℕ). if c.is_put.result then b ++ given else b) c.new-body.ensures
+    ∙ ap (λ (p : Bool). if p then given else []) c.is_put.ensures in
+    let asked = c.with_body.ensures ∙ same_body c.in-Ok.asked c.read_body.new.body given kept in (
       body.0.more,
       body.0.read,
       given,
       body.0.bytes,
       omega (arith, body.0.due, body.1, c.requires.behind.body_left),
       subst (λ (a : Asked). IsAsked c.args.container.now (record { head = c.args.head.now; body = given }) a) (sym asked)
-      (asked_with_body c.args.container.now c.args.head.now c.in-Ok.asked given c.in-Ok.ensures),
+          (asked_with_body c.args.container.now c.args.head.now c.in-Ok.asked given c.in-Ok.ensures),
       (body.0.failed, (body.1, body.0.chunked)),
     )

@@ -45,8 +45,7 @@ returns-then-close-clause-turn g c =
 pub returns-else-close-clause-turn : goal.returns-else-close-clause-turn
 returns-else-close-clause-turn g c =
     let found = rw c.in-Ok-Request.field-0-is at c.in-Ok-Request.ensures.found in
-    let asked = subst (λ (l : List ℕ). IsAsked l found.2 c.in-Ok-Request.asked) c.container.ensures found.5 in
-    (
+    let asked = subst (λ (l : List ℕ). IsAsked l found.2 c.in-Ok-Request.asked) c.container.ensures found.5 in (
       answered_open c.args.k c.args.store.now c.answer.new.store c.args.intake.now.buffer found.0 c.take_request.new.intake.buffer _ _ found.1 found.2 c.in-Ok-Request.asked asked found.3
           (subst (λ (b : Bool). Answers c.in-Ok-Request.asked b c.args.store.now c.answer.new.store (g.K.Sink.taken c.args.sink.now) (g.K.Sink.taken c.answer.new.sink) (g.C.Clock.told c.args.clock.now) (g.C.Clock.told c.answer.new.clock))
           c.if-close.false c.in-Ok-answer.ensures.ok) (found.4 ∙ c.if-close.false),

@@ -1,5 +1,5 @@
 use Rattle.std.proofs.Common.{refl}
-use Rattle.rgw_main.proofs.Outcomes.{still_moments, serves_at_moment, stops_at_moment}
+use Rattle.rgw_main.proofs.Outcomes.{serves_at_moment, stops_at_moment}
 use Rattle.rgw_main.proofs.run.serve_at.Goals as goal
 
 pub returns-clause-served : goal.returns-clause-served
@@ -8,7 +8,7 @@ returns-clause-served g c =
     let ensures = c.serve_by_clock.ensures in
     λ end.
     serves_at_moment c.args.bucket c.args.moment _ _ _
-    (still_moments c.args.moment c.new-clock.result c.serve_by_clock.new.clock made.fresh ensures.plan (made.still refl))
+    (λ moments told. made.still refl c.serve_by_clock.new.clock moments ensures.plan told)
     (ensures.served end)
 
 pub returns-clause-stopped : goal.returns-clause-stopped
@@ -17,5 +17,5 @@ returns-clause-stopped g c =
     let ensures = c.serve_by_clock.ensures in
     λ fault.
     stops_at_moment c.args.bucket c.args.moment _ _
-    (still_moments c.args.moment c.new-clock.result c.serve_by_clock.new.clock made.fresh ensures.plan (made.still refl))
+    (λ moments told. made.still refl c.serve_by_clock.new.clock moments ensures.plan told)
     (ensures.stopped fault)
