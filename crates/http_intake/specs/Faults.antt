@@ -1,5 +1,5 @@
 -- Why reading stops.
-use Rattle.std.specs.Prelude.{◌≡◌, ◌⊎◌, ℕ, ◌≤◌, Option, Some, Err}
+use Rattle.std.specs.Prelude.{◌≡◌, ◌⊎◌, ℕ, ◌≤◌, List, Option, Some, Err, codes}
 use Rattle.std.specs.declared.result.Result.{Result}
 use Rattle.gw_io.specs.Outside.{Rose}
 use Rattle.rgw_model.specs.declared.reading.HeadFault.{HeadFault}
@@ -11,6 +11,17 @@ abbrev pub fault_of_head : HeadFault → IntakeFault
 fault_of_head Head.OutOfMemory = Fault.OutOfMemory
 fault_of_head Head.BadHead = Fault.BadHead
 fault_of_head Head.BadFraming = Fault.BadFraming
+
+-- how a fault is printed
+abbrev pub fault_text : IntakeFault → List ℕ
+fault_text Fault.OutOfMemory = codes "out of memory"
+fault_text Fault.ReadFault = codes "reading failed"
+fault_text Fault.Cut = codes "the input ended inside a request"
+fault_text Fault.BadHead = codes "no head of a request"
+fault_text Fault.HeadTooLarge = codes "the head is too large"
+fault_text Fault.BadFraming = codes "the body is not framed"
+fault_text Fault.BadChunk = codes "no chunk of a body"
+fault_text Fault.BodyTooLarge = codes "the body is too large"
 
 -- A source's count of faults does not fall, and reading fails only where it rose.
 pub record CountsFaults {T : Type 0} (before now : ℕ) (result : Result T IntakeFault) : Type 0 where

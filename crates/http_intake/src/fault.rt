@@ -26,6 +26,11 @@ pub enum IntakeFault {
 }
 
 impl fmt::Display for IntakeFault {
+    ghost use Rattle.std.specs.Prelude.{Some};
+    ghost use Rattle.http_intake.specs.Faults.{fault_text};
+
+    ghost output = { λ fault. Some (fault_text fault) };
+
     fn fmt<W: fmt::Write>(&self, f: &mut fmt::Formatter<W>) -> fmt::Result {
         f.write_str(match self {
             IntakeFault::OutOfMemory => "out of memory",

@@ -96,10 +96,7 @@ impl Intake {
                 self.chunked = head.framing == Framing::Chunked;
                 Ok(Some(head))
             }
-            Err(fault) => {
-                self.failed = Some(fault);
-                Err(fault)
-            }
+            Err(fault) => Err(self.fail(fault)),
         }
     }
 
@@ -131,10 +128,16 @@ impl Intake {
                 self.body_left -= count as u64;
                 Ok(count)
             }
-            Err(fault) => {
-                self.failed = Some(fault);
-                Err(fault)
-            }
+            Err(fault) => Err(self.fail(fault)),
         }
+    }
+
+    /// Keeps the fault for the calls that follow.
+    fn fail(&mut self, fault: IntakeFault) -> IntakeFault
+        ensures kept { self.new ≡ record self.old { failed = Some fault } }
+        ensures same { result ≡ fault }
+    {
+        self.failed = Some(fault);
+        fault
     }
 }

@@ -14,4 +14,5 @@ pub returns-in-Err-clause-found : goal.returns-in-Err-clause-found
 returns-in-Err-clause-found g c = λ none.
     let found = c.in-Err.ensures.head in
     let old = c.self.inside in
-    rw (← c.self.view_is) (found.0, found.1, (found.2.1, ap (λ bytes. record (the_view old) { buffer = bytes; failed = Some c.in-Err.fault }) found.2.0))
+    let failed = c.fail.ensures.kept ∙ ap (λ bytes. record (the_view old) { buffer = bytes; failed = Some c.in-Err.fault }) found.2.0 in
+    rw (c.fail.ensures.same, ← c.self.view_is) (found.0, found.1, (found.2.1, failed))
