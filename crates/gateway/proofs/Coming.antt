@@ -1,21 +1,18 @@
 -- A request from its head and its body.
-use Rattle.std.proofs.Common.{◌≡◌, ◌≢◌, ◌⊎◌, inl, inr, ℕ, ◌+◌, ◌<◌, Bool, true, false, cond, ◌&&◌, ◌||◌, Result, Ok, Err, List, [], ◌++◌, length, Option, None, refl, sym, ap, ◌∙◌, subst, append_assoc, arith}
+use Rattle.std.proofs.Common.{◌≡◌, ◌⊎◌, inl, inr, ℕ, ◌<◌, Bool, true, false, cond, ◌&&◌, ◌||◌, Result, Ok, Err, List, [], ◌++◌, length, Option, refl, sym, ap, ◌∙◌, subst, append_assoc}
 use Rattle.std.specs.Prelude.{if◌then◌else◌, IfOk, OnErr}
-use Rattle.std.proofs.KnownBytes.{Consumes-trans, Consumes-nil}
+use Rattle.std.proofs.KnownBytes.{Consumes-trans}
 use Rattle.std.specs.Io.KnownBytes.{Consumes, IsAtEnd}
-use Rattle.http_intake.specs.Intake.{IntakeState, IsBetween, is_in_chunks, GivesHead}
+use Rattle.http_intake.specs.Intake.{IntakeState, is_in_chunks, GivesHead}
 use Rattle.rgw_model.specs.declared.head.Framing.{Framing}
 use Rattle.rgw_model.specs.declared.head.Framing.TheVariants as Frame
 use Rattle.rgw_model.specs.declared.head.Head.{Head}
-use Rattle.rgw_model.specs.declared.head.BodyPlan.{BodyPlan}
 use Rattle.rgw_model.specs.declared.head.BodyPlan.TheVariants as Plan
-use Rattle.rgw_model.specs.declared.head.Request.{Request}
 use Rattle.rgw_model.specs.declared.reply.StreamEnd.TheVariants as Stream
-use Rattle.rgw_model.specs.Heads.{BeginsWith}
-use Rattle.rgw_model.specs.Forms.{is_put, is_get, is_framed, is_sized, object_limit, drop_limit, content_length, has_host, is_built, has_method_form, can_drop, plan_of, is_unread, closes}
+use Rattle.rgw_model.specs.Forms.{is_put, is_get, is_framed, is_sized, object_limit, drop_limit, content_length, has_host, is_built, has_method_form, can_drop, plan_of, closes}
 use Rattle.rgw_model.specs.Streams.{IsBody, TakesRequest, IsEnd}
 use Rattle.rgw_model.specs.Answers.{put, get}
-use Rattle.rgw_model.specs.Connections.{judged, kind_of, command_of, is_reaching}
+use Rattle.rgw_model.specs.Connections.{judged, kind_of, command_of}
 use Rattle.rgw_model.proofs.StreamLaws.{more_head, some_bytes}
 use Rattle.http_intake.specs.Reading.{HasNoNext}
 use Rattle.http_intake.specs.declared.fault.IntakeFault.{IntakeFault}

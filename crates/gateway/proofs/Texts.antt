@@ -1,5 +1,5 @@
 -- Pieces that were added one after another, as the text of a reply.
-use Rattle.std.proofs.Common.{◌≡◌, ℕ, List, [], ◌++◌, refl, sym, ap, ◌∙◌, append_assoc, append-nil}
+use Rattle.std.proofs.Common.{◌≡◌, ℕ, List, [], ◌++◌, ap, ◌∙◌, append_assoc, append-nil}
 
 -- a piece more
 more : (a b o t p : List ℕ) → b ≡ a ++ p → a ≡ o ++ t → b ≡ o ++ (t ++ p)

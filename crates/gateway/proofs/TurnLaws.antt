@@ -1,7 +1,7 @@
 -- Turns of a connection, joined.
-use Rattle.std.proofs.Common.{◌≡◌, ◌≢◌, ◌⊎◌, inl, inr, ℕ, zero, suc, ◌+◌, ◌<◌, Bool, true, false, cond, List, [], ◌∷◌, ◌++◌, length, take, drop, filter, Option, refl, sym, ap, ◌∙◌, subst, subst₂, append_assoc, append-nil, length-append, arith}
+use Rattle.std.proofs.Common.{◌≡◌, ◌⊎◌, inl, inr, ℕ, suc, ◌+◌, Bool, true, false, cond, List, [], ◌∷◌, ◌++◌, length, take, filter, refl, sym, ap, ◌∙◌, subst, append_assoc, append-nil, length-append, arith}
 use Rattle.std.specs.Prelude.{MatchBool, if◌then◌else◌}
-use Rattle.std.proofs.KnownBytes.{Consumes-trans, Appends-nil, Appends-trans}
+use Rattle.std.proofs.KnownBytes.{Consumes-trans, Appends-trans}
 use Rattle.std.specs.Io.KnownBytes.{Consumes, Appends}
 use Rattle.rgw_model.specs.declared.head.Request.{Request}
 use Rattle.rgw_model.specs.declared.reply.StreamEnd.{StreamEnd}
@@ -11,7 +11,7 @@ use Rattle.rgw_model.specs.Streams.{TakesRequest, IsEnd, IsStreamFrom}
 use Rattle.rgw_model.specs.Replies.{reply_text, end_text}
 use Rattle.rgw_model.specs.Answers.{Command}
 use Rattle.rgw_model.specs.Buckets.{BucketMap}
-use Rattle.rgw_model.specs.Connections.{Verdict, refused, reaches, judged, is_reaching, Served, served, served_verdict, command_of, next_moment, moments_after, replies_from, bucket_from, moments_told, reply_count, end_replies}
+use Rattle.rgw_model.specs.Connections.{Verdict, refused, reaches, judged, is_reaching, Served, served, served_verdict, command_of, next_moment, moments_after, replies_from, bucket_from, moments_told, end_replies}
 use Rattle.rgw_model.proofs.StreamLaws.{more_request, stream_after, stream_of_end, more_broken, IsFinal}
 use Rattle.gateway.specs.declared.serve.ConnEnd.{ConnEnd}
 use Rattle.gateway.specs.declared.asked.Asked.{Asked}

@@ -10,7 +10,7 @@ use Rattle.rgw_model.specs.declared.reply.HttpReply.TheVariants.{Answered}
 use Rattle.rgw_model.specs.Stamps.{counted_moment, next_stamp}
 use Rattle.rgw_model.specs.Answers.{content_of, shown_answer}
 use Rattle.rgw_model.specs.Buckets.{slot_at, with_slot}
-use Rattle.rgw_model.specs.Connections.{Served, next_moment, first_zone}
+use Rattle.rgw_model.specs.Connections.{next_moment, first_zone}
 use Rattle.rgw_model.specs.Replies.{reply_text}
 use Rattle.gateway.specs.declared.asked.Asked.{Asked}
 use Rattle.gateway.specs.declared.fault.ServeFault.{ServeFault}

@@ -1,5 +1,5 @@
 -- What serving from the kth request of a connection on comes to, and what one turn does.
-use Rattle.std.specs.Prelude.{◌≡◌, ℕ, suc, ◌+◌, false, List, [], ◌++◌, length, take, Option, if◌then◌else◌}
+use Rattle.std.specs.Prelude.{◌≡◌, ℕ, false, List, ◌++◌, length, take, if◌then◌else◌}
 use Rattle.std.specs.Io.KnownBytes.{Consumes, Appends}
 use Rattle.rgw_model.specs.declared.head.Request.{Request}
 use Rattle.rgw_model.specs.declared.reply.StreamEnd.{StreamEnd}

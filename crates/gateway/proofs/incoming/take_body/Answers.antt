@@ -1,7 +1,7 @@
-use Rattle.std.proofs.Common.{◌≡◌, ℕ, ◌+◌, List, [], ◌++◌, length, Bool, true, if◌then◌else◌, rules, refl, sym, ap, ◌∙◌, subst, arith}
+use Rattle.std.proofs.Common.{◌≡◌, ℕ, List, [], ◌++◌, Bool, true, if◌then◌else◌, rules, sym, ap, ◌∙◌, subst, arith}
 use Rattle.rgw_model.specs.Forms.{content_length}
 use Rattle.gateway.specs.declared.asked.Asked.{Asked}
-use Rattle.gateway.specs.Asking.{IsAsked, with_body_in, is_put_in}
+use Rattle.gateway.specs.Asking.{IsAsked, is_put_in}
 use Rattle.gateway.specs.Incoming.{PassesBody}
 use Rattle.gateway.proofs.Coming.{built_by_plan, asked_with_body, same_body}
 use Rattle.gateway.proofs.incoming.take_body.Goals as goal

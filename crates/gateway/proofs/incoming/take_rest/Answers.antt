@@ -1,4 +1,4 @@
-use Rattle.std.proofs.Common.{◌≡◌, ◌⊎◌, inl, inr, ℕ, true, false, List, [], ◌++◌, refl, sym, ap, ◌∙◌, subst, append-nil}
+use Rattle.std.proofs.Common.{◌≡◌, inl, true, false, [], ◌++◌, refl, sym, ap, ◌∙◌, subst, append-nil}
 use Rattle.std.proofs.KnownBytes.{Consumes-nil}
 use Rattle.rgw_model.specs.declared.head.BodyPlan.{BodyPlan}
 use Rattle.rgw_model.specs.declared.head.BodyPlan.TheVariants as Plan

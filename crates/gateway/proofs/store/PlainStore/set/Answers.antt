@@ -1,4 +1,4 @@
-use Rattle.std.proofs.Common.{◌≡◌, ◌∙◌, ap}
+use Rattle.std.proofs.Common.{◌∙◌, ap}
 use Rattle.rgw_model.specs.Buckets.{with_slot}
 use Rattle.gateway.specs.Store.{StoreState}
 use Rattle.gateway.proofs.Buckets.{one_set}
