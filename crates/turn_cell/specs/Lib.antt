@@ -5,3 +5,4 @@ pub mod Rule
 pub mod Plays
 pub mod Deposits
 pub mod Faults
+pub use Rattle.atomic_table.specs.Seated
