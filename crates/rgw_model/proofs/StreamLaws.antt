@@ -1,11 +1,10 @@
 -- A stream of requests has one reading, and a later byte changes no request.
-use Rattle.std.proofs.Common.{◌≡◌, ◌≢◌, ◌⊎◌, inl, inr, ℕ, suc, ◌+◌, ◌<◌, ◌≤◌, Bool, true, false, List, [], ◌∷◌, ◌++◌, length, take, drop, Option, Some, None, refl, sym, ap, ◌∙◌, subst, append_assoc, arith}
+use Rattle.std.proofs.Common.{◌≡◌, ◌≢◌, ◌⊎◌, inl, inr, ℕ, suc, ◌<◌, ◌≤◌, Bool, true, false, List, [], ◌∷◌, ◌++◌, length, take, drop, Some, None, refl, sym, ap, ◌∙◌, subst, append_assoc, arith}
 use Rattle.std.proofs.Math.Seq.{take-append_seam}
 use Rattle.std.proofs.lemmas.List.{length-append, length-take, take-append-drop, append_cancel_left, append-nil, take_all, take-append-le}
 use Rattle.std.specs.Prelude.{MatchBool}
 use Rattle.httparse.specs.Grammar.{RequestHead}
 use Rattle.httparse.proofs.GrammarLemmas.{request_unique}
-use Rattle.rgw_model.specs.declared.head.Framing.{Framing}
 use Rattle.rgw_model.specs.declared.head.Head.{Head}
 use Rattle.rgw_model.specs.declared.head.BodyPlan.{BodyPlan}
 use Rattle.rgw_model.specs.declared.head.BodyPlan.TheVariants as Plan
@@ -13,7 +12,7 @@ use Rattle.rgw_model.specs.declared.head.Request.{Request}
 use Rattle.rgw_model.specs.declared.reply.BadRequest.TheVariants as Word
 use Rattle.rgw_model.specs.declared.reply.StreamEnd.{StreamEnd}
 use Rattle.rgw_model.specs.declared.reply.StreamEnd.TheVariants as End
-use Rattle.rgw_model.specs.Heads.{skip_breaks, EndsHead, IsHeadText, HasNoHeadText, head_limit, IsTree, framing_in, head_of, SaysHead, BeginsWithText, BeginsWith}
+use Rattle.rgw_model.specs.Heads.{skip_breaks, EndsHead, HasNoHeadText, head_limit, IsTree, framing_in, head_of, SaysHead, BeginsWithText, BeginsWith}
 use Rattle.rgw_model.specs.Forms.{plan_of, closes}
 use Rattle.rgw_model.specs.Streams.{IsBody, TakesRequest, IsCutHead, IsCutBody, IsNoHead, IsUnframed, IsOversized, IsEnd, IsStreamFrom}
 
@@ -346,8 +345,7 @@ pub stream_after : (k : ℕ) (bytes : List ℕ) (m : Request) (rest : List ℕ) 
     → (others : List Request) × (ms ≡ m ∷ others) × MatchBool (closes k m.head) ((others ≡ []) × (e ≡ End.Closed)) (IsStreamFrom (suc k) rest others e)
 stream_after k bytes m rest [] e takes x = absurd (no_request_at_end bytes e m rest x takes)
 stream_after k bytes m rest (n ∷ ns) e takes (rest', takes', after) =
-    let first = one_request bytes m n rest rest' takes takes' in
-    (
+    let first = one_request bytes m n rest rest' takes takes' in (
       ns,
       λ i. sym first.0 i ∷ ns,
       subst (λ r. Follows k (closes k r.head) rest ns e) (sym first.0) (subst (λ l. Follows k (closes k n.head) l ns e) (sym first.1) after),

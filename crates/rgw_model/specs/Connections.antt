@@ -1,11 +1,10 @@
 -- What a connection to one container is replied: the object answers and the refusals to its requests, folded over the
 -- bucket map (OpenStack Object Storage API v1).
-use Rattle.std.specs.Prelude.{ℕ, ◌+◌, suc, Bool, true, false, not, ◌&&◌, List, [], ◌∷◌, ◌++◌, length, drop, filter, Option, Some, None, unwrap_or, if◌then◌else◌, bytes_eq, codes}
+use Rattle.std.specs.Prelude.{ℕ, ◌+◌, suc, Bool, true, false, not, List, [], ◌∷◌, ◌++◌, length, drop, filter, Option, Some, None, if◌then◌else◌, bytes_eq, codes}
 use Rattle.rgw_model.specs.declared.slot.Slot.{Slot}
 use Rattle.rgw_model.specs.declared.head.Head.{Head}
 use Rattle.rgw_model.specs.declared.head.Request.{Request}
 use Rattle.rgw_model.specs.declared.reply.BadRequest.TheVariants.{Host}
-use Rattle.rgw_model.specs.declared.reply.Refusal.{Refusal}
 use Rattle.rgw_model.specs.declared.reply.Refusal.TheVariants.{NotBuilt, Unauthorized, NoContainer}
 use Rattle.rgw_model.specs.declared.reply.MapReply.TheVariants.{Refused}
 use Rattle.rgw_model.specs.declared.reply.HttpReply.{HttpReply}

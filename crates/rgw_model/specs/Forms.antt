@@ -1,6 +1,6 @@
 -- The forms of requests that are taken (OpenStack Object Storage API v1), and what becomes of the bytes behind a head
 -- (RFC 9112, sections 6.3 and 9.3).
-use Rattle.std.specs.Prelude.{ℕ, ◌^◌, Bool, true, false, not, ◌&&◌, ◌||◌, List, [], ◌∷◌, length, map, drop, Option, Some, None, is_some, if◌then◌else◌, ◌==◌, nat_eq, nat_le, nat_lt, bytes_eq, codes}
+use Rattle.std.specs.Prelude.{ℕ, Bool, true, false, not, ◌&&◌, ◌||◌, List, [], ◌∷◌, length, map, drop, Option, Some, None, is_some, if◌then◌else◌, ◌==◌, nat_eq, nat_le, nat_lt, bytes_eq, codes}
 use Rattle.std.specs.List.{list_all, list_any, starts_with, before_first, after_first}
 use Rattle.std.specs.Char.{is_ascii_alphanumeric, to_ascii_lowercase}
 use Rattle.http1.specs.Text.{eq_ignore_case}

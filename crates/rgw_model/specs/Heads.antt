@@ -1,5 +1,5 @@
 -- The head of a request (RFC 9112, sections 2.2, 3 and 5): where its text ends, and what it says.
-use Rattle.std.specs.Prelude.{◌≡◌, ◌⊎◌, ℕ, ◌<◌, ◌≤◌, ◌||◌, ◌==◌, List, [], ◌∷◌, ◌++◌, length, map, take, Option, Some, None, if◌then◌else◌}
+use Rattle.std.specs.Prelude.{◌≡◌, ◌⊎◌, ℕ, ◌<◌, ◌≤◌, ◌||◌, ◌==◌, List, [], ◌∷◌, ◌++◌, length, map, take, Option, Some, if◌then◌else◌}
 use Rattle.httparse.specs.Grammar.{RequestHead, Field as FieldLine, field_value, ReadsRequest}
 use Rattle.rgw_model.specs.declared.field.Field.{Field}
 use Rattle.rgw_model.specs.declared.head.Framing.{Framing}

@@ -1,5 +1,5 @@
 -- The requests that the bytes of a connection are, and how they end (RFC 9112, sections 2 and 6).
-use Rattle.std.specs.Prelude.{◌≡◌, ◌≢◌, ◌⊎◌, ℕ, suc, ◌<◌, ◌≤◌, List, [], ◌∷◌, ◌++◌, length, take, Option, Some, None, MatchBool}
+use Rattle.std.specs.Prelude.{◌≡◌, ◌≢◌, ◌⊎◌, ℕ, suc, ◌<◌, ◌≤◌, List, [], ◌∷◌, ◌++◌, length, take, None, MatchBool}
 use Rattle.httparse.specs.Grammar.{RequestHead}
 use Rattle.rgw_model.specs.declared.head.Head.{Head}
 use Rattle.rgw_model.specs.declared.head.BodyPlan.{BodyPlan}
