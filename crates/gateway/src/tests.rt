@@ -1,7 +1,36 @@
+// Whole connections, in pieces.
+ghost use Rattle.std.specs.Prelude.{◌≤◌};
+
+mod connections;
+mod limits;
+
 use super::*;
 use gw_io::{SliceSource, StepClock, VecSink};
 use rgw_model::Text;
+use std::alloc::{AllocError, Global};
 use std::test::Fail;
+
+/// These pieces, one behind the other.
+fn joined(alloc: Global, pieces: &[&[u8]]) -> Result<Vec<u8>, AllocError> {
+    let mut bytes = Vec::new(alloc);
+    for piece in pieces {
+        bytes.extend_from_slice(piece)?;
+    }
+    Ok(bytes)
+}
+
+/// What a new container `box` replies to these bytes, in pieces of at most so many, on the 6th of
+/// November 1994.
+fn replies(alloc: Global, bytes: &[u8], piece: usize) -> Result<Vec<u8>, ServeFault>
+    requires { 1 ≤ piece }
+{
+    let mut store = PlainStore::new(alloc, Text::from_str(alloc, "box")?)?;
+    let mut source = SliceSource::new(bytes, piece, &[]);
+    let mut sink = VecSink::new(alloc, piece, &[]);
+    let mut clock = StepClock::new(784_111_777_000_000, 0);
+    serve_connection(alloc, &mut store, &mut source, &mut sink, &mut clock)?;
+    Ok(sink.into_bytes())
+}
 
 /// Five requests, of which the last one is cut: a PUT without the token, a PUT, a GET of another
 /// container, a GET, and a PUT of which two bytes are missing.

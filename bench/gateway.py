@@ -1,0 +1,89 @@
+#!/usr/bin/env python3
+"""Measures the program over one connection: requests and bytes per second, and its greatest memory.
+
+Small requests: N requests, a PUT of 5 bytes and a GET by turns, over 1000 names.
+Large bodies: 100 PUTs of 1 MiB over 10 names, and then 100 GETs of them.
+MD5 alone is measured beside, by the digest of this Python, over as many bytes as the PUTs have.
+Usage: bench/gateway.py [ROUNDS]     from any folder; of ROUNDS runs of each kind (5) the fastest counts
+"""
+import hashlib
+import os
+import subprocess
+import sys
+import tempfile
+import time
+from pathlib import Path
+
+ROOT = Path(__file__).resolve().parent.parent
+WORDS = ["once", "--bucket", "box", "--now", "1700000000000000"]
+MIB = 1 << 20
+
+
+def request(method, name, body):
+    head = f"{method} /swift/v1/AUTH_acme/box/{name} HTTP/1.1\r\nHost: h\r\nX-Auth-Token: AUTH_tk1\r\n"
+    if body is not None:
+        head += f"Content-Length: {len(body)}\r\n"
+    return head.encode() + b"\r\n" + (body or b"")
+
+
+def small(count):
+    for k in range(count):
+        name = f"k{k // 2 % 1000}"
+        yield request("PUT", name, b"hello") if k % 2 == 0 else request("GET", name, None)
+
+
+def large_puts(count):
+    body = bytes(range(256)) * (MIB // 256)
+    for k in range(count):
+        yield request("PUT", f"k{k % 10}", body)
+
+
+def large_both(count):
+    yield from large_puts(count)
+    for k in range(count):
+        yield request("GET", f"k{k % 10}", None)
+
+
+def run_once(program, path):
+    """The seconds and the greatest resident KiB of one run, which must end with status 0."""
+    with open(path, "rb") as source, open(os.devnull, "wb") as sink:
+        begun = time.perf_counter()
+        child = subprocess.Popen([program, *WORDS], stdin=source, stdout=sink)
+        _, status, usage = os.wait4(child.pid, 0)
+        spent = time.perf_counter() - begun
+    if status != 0:
+        sys.exit(f"the program ended with {os.waitstatus_to_exitcode(status)}")
+    return spent, usage.ru_maxrss
+
+
+def measure(program, rounds, label, requests, count, body_bytes):
+    with tempfile.NamedTemporaryFile() as file:
+        for piece in requests:
+            file.write(piece)
+        file.flush()
+        runs = [run_once(program, file.name) for _ in range(rounds)]
+    spent = min(seconds for seconds, _ in runs)
+    memory = max(kib for _, kib in runs) / 1024
+    print(
+        f"{label:24}{count / spent:12,.0f} requests/s{spent / count * 1e6:10.2f} us each"
+        f"{body_bytes / MIB / spent:10.1f} MiB/s{memory:10.1f} MiB resident"
+    )
+
+
+def main():
+    rounds = int(sys.argv[1]) if len(sys.argv) > 1 else 5
+    # an empty input builds the program where that is wanted, and ends at once
+    subprocess.run([ROOT / "rgw", *WORDS], stdin=subprocess.DEVNULL, check=True)
+    program = ROOT / "crates/rgw_main/out/rgw_main"
+    for count in (1000, 10000, 90000):
+        measure(program, rounds, f"small {count}", small(count), count, 5 * count)
+    measure(program, rounds, "PUT of 1 MiB", large_puts(100), 100, 100 * MIB)
+    measure(program, rounds, "PUT and GET of 1 MiB", large_both(100), 200, 200 * MIB)
+    body = bytes(range(256)) * (MIB // 256)
+    begun = time.perf_counter()
+    for _ in range(100):
+        hashlib.md5(body).digest()
+    print(f"{'MD5 alone':24}{100 / (time.perf_counter() - begun):10.1f} MiB/s")
+
+
+main()
