@@ -15,6 +15,7 @@ mod reply;
 mod slot;
 mod stamp;
 mod status;
+mod stripes;
 mod target;
 mod text;
 
@@ -33,4 +34,5 @@ pub use reply::{BadRequest, HttpReply, MapReply, Refusal, ReplyHead, StreamEnd};
 pub use slot::{Content, Slot};
 pub use stamp::{Stamp, counted_moment, stamps_are_in_one_order};
 pub use status::Status;
+pub use stripes::{Manifest, tails_are_counted_so};
 pub use text::Text;
