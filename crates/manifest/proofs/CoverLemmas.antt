@@ -1,0 +1,132 @@
+-- The bytes of the parts of a range are the range's bytes.
+use Rattle.std.proofs.Common.{◌≡◌, ℕ, zero, suc, ◌+◌, ◌-◌, ◌*◌, ◌<◌, ◌≤◌, ◌==◌, min, not, Bool, true, false, cond, List, [], ◌∷◌, ◌++◌, length, map, filter, flat_map, get_or, take, drop, refl, sym, ap, ◌∙◌, inl, inr, arith}
+use Rattle.std.specs.List.{concat, range_with_len}
+use Rattle.std.proofs.Math.Nat.{mul-le-mul_left}
+use Rattle.std.proofs.Math.Seq.{drop-cons}
+use Rattle.std.proofs.lemmas.Bool.{cases_lt}
+use Rattle.std.proofs.lemmas.Bool.Decides.{nat_tests}
+use Rattle.std.proofs.lemmas.Grind.{common_steps, div_ceil_times}
+use Rattle.std.proofs.lemmas.List.{append-nil, take_all, drop_all, length-drop, length-map, get_or-map}
+use Rattle.std.proofs.lemmas.List.Folds.{flat_map-map}
+use Rattle.std.proofs.lemmas.List.FromFn.{get_or-map-range_with_len, length-map-range_with_len}
+use Rattle.rgw_model.specs.Stripes.{ManifestView, IsManifest, tails_of}
+use Rattle.manifest.specs.declared.parts.Part.{Part}
+use Rattle.manifest.specs.Ranges.{part_size, part_numbers, piece_at, has_bytes, parts_of, piece_bytes, bytes_along, AreContents}
+
+-- ---- a slice of two lists in a row
+
+take-append : (n : ℕ) (xs ys : List ℕ) → take n (xs ++ ys) ≡ take n xs ++ take (n - length xs) ys
+take-append n [] ys = grind (arith, common_steps)
+take-append zero (x ∷ xs) ys = grind (arith, common_steps)
+take-append (suc n) (x ∷ xs) ys =
+    let e : n - length xs ≡ suc n - suc (length xs) = omega arith in
+    ap (λ l. x ∷ l) (take-append n xs ys) ∙ ap (λ k. x ∷ (take n xs ++ take k ys)) e
+
+drop-append : (n : ℕ) (xs ys : List ℕ) → drop n (xs ++ ys) ≡ drop n xs ++ drop (n - length xs) ys
+drop-append n [] ys = grind (arith, common_steps)
+drop-append zero (x ∷ xs) ys = grind (arith, common_steps)
+drop-append (suc n) (x ∷ xs) ys =
+    let e : n - length xs ≡ suc n - suc (length xs) = omega arith in
+    drop-append n xs ys ∙ ap (λ k. drop n xs ++ drop k ys) e
+
+-- what a slice takes of a list ends where the list does
+take-clipped : (a b : ℕ) (xs : List ℕ) → take (b - a) (drop a xs) ≡ take (min b (length xs) - a) (drop a xs)
+take-clipped a b xs = elim (cases_lt b (length xs)) [
+  | inl lt ↦ (let e : b - a ≡ min b (length xs) - a = omega arith in ap (λ n. take n (drop a xs)) e)
+  | inr le ↦ take_all (b - a) (drop a xs) (omega (arith, length-drop a xs)) ∙ sym (take_all (min b (length xs) - a) (drop a xs) (omega (arith, length-drop a xs)))
+]
+
+slice-append : (a b : ℕ) (xs ys : List ℕ) → take (b - a) (drop a (xs ++ ys)) ≡ take (min b (length xs) - a) (drop a xs) ++ take ((b - length xs) - (a - length xs)) (drop (a - length xs) ys)
+slice-append a b xs ys =
+    let rest : b - a - length (drop a xs) ≡ (b - length xs) - (a - length xs) = omega (arith, length-drop a xs) in
+    ap (take (b - a)) (drop-append a xs ys)
+    ∙ take-append (b - a) (drop a xs) (drop (a - length xs) ys)
+    ∙ (λ i. take-clipped a b xs i ++ take (rest i) (drop (a - length xs) ys))
+
+-- ---- pieces without bytes add nothing
+
+no_bytes : (n : ℕ) → not (n == 0) ≡ false → n ≡ 0
+no_bytes n e = grind (arith, nat_tests)
+
+kept : (contents : List (List ℕ)) (p : Part) (ps : List Part) (b : Bool) → has_bytes p ≡ b
+    → bytes_along contents (cond b (p ∷ ps) ps) ≡ piece_bytes contents p ++ bytes_along contents ps
+kept contents p ps true is = refl
+kept contents p ps false is =
+    ap (λ n. take n (drop p.start (get_or contents p.part [])) ++ bytes_along contents ps) (sym (no_bytes p.count is))
+
+without_empty : (contents : List (List ℕ)) (ps : List Part) → bytes_along contents (filter has_bytes ps) ≡ bytes_along contents ps
+without_empty contents [] = refl
+without_empty contents (p ∷ ps) =
+    kept contents p (filter has_bytes ps) (has_bytes p) refl ∙ ap (λ l. piece_bytes contents p ++ l) (without_empty contents ps)
+
+-- ---- the parts from one on
+
+-- the contents of n parts, from part k to the last one: each has its size, and all but the last a whole stripe
+record AreLast (m : ManifestView) (contents : List (List ℕ)) (k n : ℕ) : Type 0 where
+  counted : k + n ≡ length contents
+  sized : (i : ℕ) → i < length contents → length (get_or contents i []) ≡ part_size m i
+  full : (i : ℕ) → i + 1 < length contents → part_size m i ≡ m.stripe
+
+nothing_left : (contents : List (List ℕ)) (k a n : ℕ) → length contents ≤ k → take n (drop a (concat (drop k contents))) ≡ []
+nothing_left contents k a n le =
+    ap (λ l. take n (drop a (concat l))) (drop_all k contents le) ∙ (grind (arith, common_steps))
+
+one_part : (m : ManifestView) (start count : ℕ) (contents : List (List ℕ)) (k : ℕ) → k < length contents → length (get_or contents k []) ≡ part_size m k
+    → take (start + count - k * m.stripe - (start - k * m.stripe)) (drop (start - k * m.stripe) (concat (drop k contents)))
+      ≡ piece_bytes contents (piece_at m start count k)
+        ++ take (start + count - k * m.stripe - part_size m k - (start - k * m.stripe - part_size m k)) (drop (start - k * m.stripe - part_size m k) (concat (drop (suc k) contents)))
+one_part m start count contents k lt size =
+    let here = get_or contents k [] in
+    let a = start - k * m.stripe in
+    let b = start + count - k * m.stripe in
+    let rest = concat (drop (suc k) contents) in
+    ap (λ l. take (b - a) (drop a (concat l))) (drop-cons contents k [] lt)
+    ∙ slice-append a b here rest
+    ∙ ap (λ n. take (min b n - a) (drop a here) ++ take (b - n - (a - n)) (drop (a - n) rest)) size
+
+from_part : (m : ManifestView) (start count : ℕ) (contents : List (List ℕ)) (n k : ℕ) → AreLast m contents k n
+    → flat_map (λ i. piece_bytes contents (piece_at m start count i)) (range_with_len k n)
+      ≡ take (start + count - k * m.stripe - (start - k * m.stripe)) (drop (start - k * m.stripe) (concat (drop k contents)))
+from_part m start count contents zero k is = sym (nothing_left contents k _ _ (omega (arith, is.counted)))
+from_part m start count contents (suc zero) k is =
+    let piece = piece_bytes contents (piece_at m start count k) in
+    let e = one_part m start count contents k (omega (arith, is.counted)) (is.sized k (omega (arith, is.counted))) in
+    sym (e ∙ ap (λ l. piece ++ l) (nothing_left contents (suc k) _ _ (omega (arith, is.counted))))
+from_part m start count contents (suc (suc n)) k is =
+    let piece = piece_bytes contents (piece_at m start count k) in
+    let rest = concat (drop (suc k) contents) in
+    let full = is.full k (omega (arith, is.counted)) in
+    let e = one_part m start count contents k (omega (arith, is.counted)) (is.sized k (omega (arith, is.counted))) in
+    let next = from_part m start count contents (suc n) (k + 1) (record { counted = omega (arith, is.counted); sized = is.sized; full = is.full }) in
+    let a : start - (k + 1) * m.stripe ≡ start - k * m.stripe - part_size m k = omega (arith, full) in
+    let b : start + count - (k + 1) * m.stripe ≡ start + count - k * m.stripe - part_size m k = omega (arith, full) in
+    let c : k + 1 ≡ suc k = omega arith in
+    ap (λ l. piece ++ l) (next ∙ (λ i. take (b i - a i) (drop (a i) (concat (drop (c i) contents))))) ∙ sym e
+
+-- ---- the whole
+
+least_tails : (m : ManifestView) (i : ℕ) → 0 < m.stripe → i + 1 < tails_of m + 1 → part_size m i ≡ m.stripe
+least_tails m i some lt =
+    let step : m.stripe * (i + 1) ≤ m.stripe * tails_of m = mul-le-mul_left m.stripe (let h : i + 1 ≤ tails_of m = omega arith in h) in
+    omega (arith, (div_ceil_times (m.size - m.stripe) m.stripe some).1)
+
+are_last : (m : ManifestView) (contents : List (List ℕ)) → 0 < m.stripe → AreContents m contents → AreLast m contents 0 (tails_of m + 1)
+are_last m contents some cut =
+    let n = tails_of m + 1 in
+    let long : length contents ≡ n = sym (length-map contents length) ∙ ap length cut ∙ length-map-range_with_len (part_size m) 0 n in
+    record {
+      counted = omega (arith, long);
+      sized = λ i lt. sym (get_or-map length contents i [] 0 lt) ∙ ap (λ l. get_or l i 0) cut ∙ get_or-map-range_with_len (part_size m) 0 n i i 0 (omega (arith, long)) (omega arith);
+      full = λ i lt. least_tails m i some (omega (arith, long));
+    }
+
+-- the pieces of a range, read one after another, are its bytes
+pub covered : (m : ManifestView) (start count : ℕ) → 0 < m.stripe → (contents : List (List ℕ)) → AreContents m contents
+    → bytes_along contents (parts_of m start count) ≡ take count (drop start (concat contents))
+covered m start count some contents cut =
+    let a : start - 0 * m.stripe ≡ start = omega arith in
+    let b : start + count - 0 * m.stripe - (start - 0 * m.stripe) ≡ count = omega arith in
+    without_empty contents (map (piece_at m start count) (part_numbers m))
+    ∙ flat_map-map (piece_bytes contents) (piece_at m start count) (part_numbers m)
+    ∙ from_part m start count contents (tails_of m + 1) 0 (are_last m contents some cut)
+    ∙ (λ i. take (b i) (drop (a i) (concat contents)))

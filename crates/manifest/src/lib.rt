@@ -1,0 +1,13 @@
+//! The bytes of a manifest, and a range of an object's bytes as pieces of its head and its tails.
+#![tactic(auto)]
+
+mod codec;
+mod known;
+mod parts;
+mod ranges;
+
+pub use codec::ManifestBytes;
+pub use known::{manifests_are_written_so, ranges_are_cut_so};
+pub use parts::{Part, Parts};
+pub use rgw_model::Manifest;
+pub use std::alloc::AllocError as OutOfMemory;
