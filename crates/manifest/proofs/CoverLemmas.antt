@@ -1,16 +1,16 @@
 -- The bytes of the parts of a range are the range's bytes.
-use Rattle.std.proofs.Common.{◌≡◌, ℕ, zero, suc, ◌+◌, ◌-◌, ◌*◌, ◌<◌, ◌≤◌, ◌==◌, min, not, Bool, true, false, cond, List, [], ◌∷◌, ◌++◌, length, map, filter, flat_map, get_or, take, drop, refl, sym, ap, ◌∙◌, inl, inr, arith}
+use Rattle.std.proofs.Common.{◌≡◌, ℕ, zero, suc, ◌+◌, ◌-◌, ◌*◌, ◌<◌, ◌≤◌, ◌==◌, min, not, Bool, true, false, cond, List, [], ◌∷◌, ◌++◌, length, map, filter, flat_map, get_or, take, drop, refl, sym, ap, subst, ◌∙◌, inl, inr, arith}
 use Rattle.std.specs.List.{concat, range_with_len}
-use Rattle.std.proofs.Math.Nat.{mul-le-mul_left}
 use Rattle.std.proofs.Math.Seq.{drop-cons}
 use Rattle.std.proofs.lemmas.Bool.{cases_lt}
 use Rattle.std.proofs.lemmas.Bool.Decides.{nat_tests}
-use Rattle.std.proofs.lemmas.Grind.{common_steps, div_ceil_times}
-use Rattle.std.proofs.lemmas.List.{append-nil, take_all, drop_all, length-drop, length-map, get_or-map}
+use Rattle.std.proofs.lemmas.Grind.{common_steps}
+use Rattle.std.proofs.lemmas.List.{nil_from_length, take_all, drop_all, length-append, length-drop, length-map, get_or-map}
 use Rattle.std.proofs.lemmas.List.Folds.{flat_map-map}
 use Rattle.std.proofs.lemmas.List.FromFn.{get_or-map-range_with_len, length-map-range_with_len}
-use Rattle.rgw_model.specs.Stripes.{ManifestView, IsManifest, tails_of}
+use Rattle.rgw_model.specs.Stripes.{ManifestView, tails_of}
 use Rattle.manifest.specs.declared.parts.Part.{Part}
+use Rattle.manifest.proofs.RangeLemmas.{full_part, tails_enough}
 use Rattle.manifest.specs.Ranges.{part_size, part_numbers, piece_at, has_bytes, parts_of, piece_bytes, bytes_along, AreContents}
 
 -- ---- a slice of two lists in a row
@@ -73,8 +73,8 @@ nothing_left contents k a n le =
 
 one_part : (m : ManifestView) (start count : ℕ) (contents : List (List ℕ)) (k : ℕ) → k < length contents → length (get_or contents k []) ≡ part_size m k
     → take (start + count - k * m.stripe - (start - k * m.stripe)) (drop (start - k * m.stripe) (concat (drop k contents)))
-      ≡ piece_bytes contents (piece_at m start count k)
-        ++ take (start + count - k * m.stripe - part_size m k - (start - k * m.stripe - part_size m k)) (drop (start - k * m.stripe - part_size m k) (concat (drop (suc k) contents)))
+    ≡ piece_bytes contents (piece_at m start count k)
+    ++ take (start + count - k * m.stripe - part_size m k - (start - k * m.stripe - part_size m k)) (drop (start - k * m.stripe - part_size m k) (concat (drop (suc k) contents)))
 one_part m start count contents k lt size =
     let here = get_or contents k [] in
     let a = start - k * m.stripe in
@@ -86,7 +86,7 @@ one_part m start count contents k lt size =
 
 from_part : (m : ManifestView) (start count : ℕ) (contents : List (List ℕ)) (n k : ℕ) → AreLast m contents k n
     → flat_map (λ i. piece_bytes contents (piece_at m start count i)) (range_with_len k n)
-      ≡ take (start + count - k * m.stripe - (start - k * m.stripe)) (drop (start - k * m.stripe) (concat (drop k contents)))
+    ≡ take (start + count - k * m.stripe - (start - k * m.stripe)) (drop (start - k * m.stripe) (concat (drop k contents)))
 from_part m start count contents zero k is = sym (nothing_left contents k _ _ (omega (arith, is.counted)))
 from_part m start count contents (suc zero) k is =
     let piece = piece_bytes contents (piece_at m start count k) in
@@ -103,12 +103,27 @@ from_part m start count contents (suc (suc n)) k is =
     let c : k + 1 ≡ suc k = omega arith in
     ap (λ l. piece ++ l) (next ∙ (λ i. take (b i - a i) (drop (a i) (concat (drop (c i) contents))))) ∙ sym e
 
--- ---- the whole
+-- how many bytes the parts from one on have
+length_from : (m : ManifestView) (contents : List (List ℕ)) (n k : ℕ) → AreLast m contents k n → 0 < m.stripe → m.size ≤ (k + n) * m.stripe
+    → length (concat (drop k contents)) ≡ m.size - k * m.stripe
+length_from m contents zero k is some enough =
+    let none : drop k contents ≡ [] = drop_all k contents (omega (arith, is.counted)) in
+    omega (arith, ap (λ l. length (concat l)) none)
+length_from m contents (suc n) k is some enough =
+    let lt : k < length contents = omega (arith, is.counted) in
+    let c : k + 1 ≡ suc k = omega arith in
+    let more : k + 1 + n ≡ k + suc n = omega arith in
+    let rest = length_from m contents n (k + 1) (record { counted = omega (arith, is.counted); sized = is.sized; full = is.full }) some (subst (λ x. m.size ≤ x * m.stripe) (sym more) enough) in
+    omega (
+      arith,
+      ap (λ l. length (concat l)) (drop-cons contents k [] lt),
+      length-append (get_or contents k []) (concat (drop (suc k) contents)),
+      is.sized k lt,
+      rest,
+      ap (λ x. length (concat (drop x contents))) c,
+    )
 
-least_tails : (m : ManifestView) (i : ℕ) → 0 < m.stripe → i + 1 < tails_of m + 1 → part_size m i ≡ m.stripe
-least_tails m i some lt =
-    let step : m.stripe * (i + 1) ≤ m.stripe * tails_of m = mul-le-mul_left m.stripe (let h : i + 1 ≤ tails_of m = omega arith in h) in
-    omega (arith, (div_ceil_times (m.size - m.stripe) m.stripe some).1)
+-- ---- the whole
 
 are_last : (m : ManifestView) (contents : List (List ℕ)) → 0 < m.stripe → AreContents m contents → AreLast m contents 0 (tails_of m + 1)
 are_last m contents some cut =
@@ -117,7 +132,7 @@ are_last m contents some cut =
     record {
       counted = omega (arith, long);
       sized = λ i lt. sym (get_or-map length contents i [] 0 lt) ∙ ap (λ l. get_or l i 0) cut ∙ get_or-map-range_with_len (part_size m) 0 n i i 0 (omega (arith, long)) (omega arith);
-      full = λ i lt. least_tails m i some (omega (arith, long));
+      full = λ i lt. full_part m i some (omega (arith, long));
     }
 
 -- the pieces of a range, read one after another, are its bytes
@@ -130,3 +145,28 @@ covered m start count some contents cut =
     ∙ flat_map-map (piece_bytes contents) (piece_at m start count) (part_numbers m)
     ∙ from_part m start count contents (tails_of m + 1) 0 (are_last m contents some cut)
     ∙ (λ i. take (b i) (drop (a i) (concat contents)))
+
+pub whole_length : (m : ManifestView) → 0 < m.stripe → (contents : List (List ℕ)) → AreContents m contents → length (concat contents) ≡ m.size
+whole_length m some contents cut =
+    let enough : m.size ≤ (0 + (tails_of m + 1)) * m.stripe = omega (arith, tails_enough m some) in
+    let none : m.size - 0 * m.stripe ≡ m.size = omega arith in
+    length_from m contents (tails_of m + 1) 0 (are_last m contents some cut) some enough ∙ none
+
+pub whole_covered : (m : ManifestView) (start count : ℕ) → 0 < m.stripe → start ≡ 0 → count ≡ m.size → (contents : List (List ℕ)) → AreContents m contents
+    → bytes_along contents (parts_of m start count) ≡ concat contents
+whole_covered m start count some front all contents cut =
+    covered m start count some contents cut
+    ∙ (λ i. take (all i) (drop (front i) (concat contents)))
+    ∙ take_all m.size (concat contents) (omega (arith, whole_length m some contents cut))
+
+-- ---- an object without bytes
+
+without_bytes : (f : ℕ → ℕ) → ((k : ℕ) → f k ≡ 0) → (contents : List (List ℕ)) (ns : List ℕ) → map length contents ≡ map f ns → concat contents ≡ []
+without_bytes f none [] ns cut = refl
+without_bytes f none (c ∷ cs) [] cut = absurd (omega (arith, ap length cut))
+without_bytes f none (c ∷ cs) (n ∷ ns) cut =
+    let empty : c ≡ [] = nil_from_length c (ap (λ l. get_or l 0 0) cut ∙ none n) in
+    (λ i. empty i ++ concat cs) ∙ without_bytes f none cs ns (ap (drop 1) cut)
+
+pub nothing_covered : (m : ManifestView) → m.size ≡ 0 → (contents : List (List ℕ)) → AreContents m contents → concat contents ≡ []
+nothing_covered m none contents cut = without_bytes (part_size m) (λ k. omega (arith, none)) contents (part_numbers m) cut

@@ -1,5 +1,5 @@
 -- The pieces of a range in the parts from that of its first byte to that of its last.
-use Rattle.std.proofs.Common.{◌≡◌, ℕ, zero, suc, ◌+◌, ◌-◌, ◌*◌, ◌/◌, ◌<◌, ◌≤◌, ◌==◌, not, Bool, true, false, cond, List, [], ◌∷◌, ◌++◌, All, length, map, filter, get_or, refl, sym, ap, ◌∙◌, subst, arith}
+use Rattle.std.proofs.Common.{◌≡◌, ℕ, zero, suc, ◌+◌, ◌-◌, ◌*◌, ◌/◌, ◌<◌, ◌≤◌, ◌==◌, min, not, Bool, true, false, cond, List, [], ◌∷◌, ◌++◌, All, length, map, filter, refl, sym, ap, ◌∙◌, subst, arith}
 use Rattle.std.specs.List.{range_with_len}
 use Rattle.std.proofs.Math.Nat.{mul-le-mul_left, div-mul-le_self, lt-div-mul-add, le-div_iff_mul-le}
 use Rattle.std.proofs.lemmas.Bool.Decides.{nat_tests}
@@ -10,7 +10,7 @@ use Rattle.std.proofs.lemmas.List.FromFn.{map-range_with_len_more, get_or-map-ra
 use Rattle.std.proofs.lemmas.Nat.{div_below}
 use Rattle.rgw_model.specs.Stripes.{ManifestView, IsManifest, tails_of}
 use Rattle.manifest.specs.declared.parts.Part.{Part}
-use Rattle.manifest.specs.Ranges.{part_size, part_numbers, piece_at, has_bytes, parts_of, IsWithin}
+use Rattle.manifest.specs.Ranges.{part_size, part_numbers, piece_at, whole_part, has_bytes, parts_of, IsWithin}
 
 -- ---- lists made from a function of the number
 
@@ -45,7 +45,7 @@ module _ {X : Type 0} (p : X → Bool) (f : ℕ → X) where
       → ((k : ℕ) → first + n ≤ k → p (f k) ≡ false) → filter p (map f (range_with_len 0 all)) ≡ map f (range_with_len first n)
   kept_between first n all fits below inside above =
       let parted : range_with_len 0 all ≡ range_with_len 0 first ++ (range_with_len (0 + first) n ++ range_with_len (0 + first + n) (all - first - n)) =
-            range_joined 0 first (all - first) all (omega arith) ∙ ap (λ l. range_with_len 0 first ++ l) (range_joined (0 + first) n (all - first - n) (all - first) (omega arith)) in
+      range_joined 0 first (all - first) all (omega arith) ∙ ap (λ l. range_with_len 0 first ++ l) (range_joined (0 + first) n (all - first - n) (all - first) (omega arith)) in
       let start : 0 + first ≡ first = omega arith in
       ap (λ l. filter p (map f l)) parted
       ∙ ap (filter p) (map-append f (range_with_len 0 first) (range_with_len (0 + first) n ++ range_with_len (0 + first + n) (all - first - n)))
@@ -93,7 +93,7 @@ empty_test n none = ap (λ x. not (x == 0)) none
 pub filled_piece : (m : ManifestView) (start count k : ℕ) → 0 < m.stripe → start + count ≤ m.size → 0 < count → Meets m start count k → 0 < (piece_at m start count k).count
 filled_piece m start count k some inside filled meets = omega (arith, meets.begins, meets.ends)
 
-tails_enough : (m : ManifestView) → 0 < m.stripe → m.size ≤ (tails_of m + 1) * m.stripe
+pub tails_enough : (m : ManifestView) → 0 < m.stripe → m.size ≤ (tails_of m + 1) * m.stripe
 tails_enough m some = omega (arith, (div_ceil_times (m.size - m.stripe) m.stripe some).0)
 
 pub last_is_part : (m : ManifestView) (start count : ℕ) → 0 < m.stripe → 0 < count → start + count ≤ m.size → (start + count - 1) / m.stripe < tails_of m + 1
@@ -109,9 +109,9 @@ parts_between m start count some filled inside =
     let f = piece_at m start count in
     let ordered : first ≤ (start + count - 1) / m.stripe = (le-div_iff_mul-le {x = first} {y = start + count - 1} some).1 (omega (arith, div-mul-le_self start m.stripe)) in
     kept_between has_bytes f first n (tails_of m + 1) (omega (arith, last_is_part m start count some filled inside))
-      (λ k below. empty_test _ (omega (arith, before_first m.stripe start k below)))
-      (λ k low high. filled_test _ (filled_piece m start count k some inside filled (between m start count k some filled low (omega arith))))
-      (λ k above. empty_test _ (omega (arith, behind_last m.stripe (start + count) k some (omega arith))))
+    (λ k below. empty_test _ (omega (arith, before_first m.stripe start k below)))
+    (λ k low high. filled_test _ (filled_piece m start count k some inside filled (between m start count k some filled low (omega arith))))
+    (λ k above. empty_test _ (omega (arith, behind_last m.stripe (start + count) k some (omega arith))))
 
 -- an empty range has no parts
 pub parts_of_nothing : (m : ManifestView) (start : ℕ) → parts_of m start 0 ≡ []
@@ -132,15 +132,15 @@ made_within m start count parts is =
     let n = (start + count - 1) / m.stripe + 1 - first in
     let some : 0 < m.stripe = omega (arith, is.bounds.stripe_low) in
     subst (All (IsWithin m)) (sym is.made) (λ k d l.
-      let lt : k < n = omega (arith, length-map-range_with_len (piece_at m start count) first n) in
-      subst (IsWithin m) (sym (get_or-map-range_with_len (piece_at m start count) first n k (first + k) d lt refl))
-        (let meets = between m start count (first + k) some is.filled (omega arith) (omega arith) in
-         let some_bytes = filled_piece m start count (first + k) some is.inside is.filled meets in
-         record {
-           is_part = omega (arith, last_is_part m start count some is.filled is.inside);
-           is_filled = some_bytes;
-           is_inside = omega arith;
-         }))
+    let lt : k < n = omega (arith, length-map-range_with_len (piece_at m start count) first n) in
+    subst (IsWithin m) (sym (get_or-map-range_with_len (piece_at m start count) first n k (first + k) d lt refl))
+    (let meets = between m start count (first + k) some is.filled (omega arith) (omega arith) in
+    let some_bytes = filled_piece m start count (first + k) some is.inside is.filled meets in
+    record {
+      is_part = omega (arith, last_is_part m start count some is.filled is.inside);
+      is_filled = some_bytes;
+      is_inside = omega arith;
+    }))
 
 numbers : (f : ℕ → Part) → ((k : ℕ) → (f k).part ≡ k) → (a n : ℕ) → map (λ p. p.part) (map f (range_with_len a n)) ≡ range_with_len a n
 numbers f is a zero = refl
@@ -154,3 +154,34 @@ made_in_order m start count parts is =
     let n = (start + count - 1) / m.stripe + 1 - first in
     let long : n ≡ length parts = sym (ap length is.made ∙ length-map-range_with_len f first n) in
     ap (map (λ p. p.part)) is.made ∙ numbers f (λ k. refl) first n ∙ ap (range_with_len first) long
+
+-- ---- the sizes of parts
+
+pub full_part : (m : ManifestView) (k : ℕ) → 0 < m.stripe → k < tails_of m → part_size m k ≡ m.stripe
+full_part m k some lt =
+    let step : m.stripe * (k + 1) ≤ m.stripe * tails_of m = mul-le-mul_left m.stripe (let h : k + 1 ≤ tails_of m = omega arith in h) in
+    omega (arith, (div_ceil_times (m.size - m.stripe) m.stripe some).1)
+
+pub filled_tail : (m : ManifestView) (k : ℕ) → 0 < m.stripe → 0 < k → k ≤ tails_of m → 0 < part_size m k
+filled_tail m k some tail le =
+    let step : m.stripe * k ≤ m.stripe * tails_of m = mul-le-mul_left m.stripe le in
+    let one : m.stripe * 1 ≤ m.stripe * k = mul-le-mul_left m.stripe (let h : 1 ≤ k = omega arith in h) in
+    omega (arith, (div_ceil_times (m.size - m.stripe) m.stripe some).1)
+
+pub no_part : (m : ManifestView) (k : ℕ) → 0 < m.stripe → tails_of m < k → part_size m k ≡ 0
+no_part m k some lt =
+    let step : m.stripe * (tails_of m + 1) ≤ m.stripe * k = mul-le-mul_left m.stripe (let h : tails_of m + 1 ≤ k = omega arith in h) in
+    omega (arith, tails_enough m some)
+
+whole_piece : (m : ManifestView) (k : ℕ) → piece_at m 0 m.size k ≡ whole_part m k
+whole_piece m k =
+    let s : 0 - k * m.stripe ≡ 0 = omega arith in
+    let c : min (0 + m.size - k * m.stripe) (part_size m k) - (0 - k * m.stripe) ≡ part_size m k = omega arith in
+    λ i. record { part = k; start = s i; count = c i }
+
+whole_pieces : (m : ManifestView) (a n : ℕ) → map (piece_at m 0 m.size) (range_with_len a n) ≡ map (whole_part m) (range_with_len a n)
+whole_pieces m a zero = refl
+whole_pieces m a (suc n) = λ i. whole_piece m a i ∷ whole_pieces m (a + 1) n i
+
+pub whole_parts : (m : ManifestView) → parts_of m 0 m.size ≡ filter has_bytes (map (whole_part m) (part_numbers m))
+whole_parts m = ap (filter has_bytes) (whole_pieces m 0 (tails_of m + 1))

@@ -20,6 +20,10 @@ piece_at m start count k =
     let before = k * m.stripe in
     record { part = k; start = start - before; count = min (start + count - before) (part_size m k) - (start - before) }
 
+-- all the bytes of part k
+abbrev pub whole_part : ManifestView → ℕ → Part
+whole_part m k = record { part = k; start = 0; count = part_size m k }
+
 abbrev pub has_bytes : Part → Bool
 has_bytes p = not (p.count == 0)
 

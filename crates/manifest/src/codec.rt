@@ -1,7 +1,7 @@
-ghost use Rattle.std.specs.Prelude.{◌≡◌, ◌≢◌, ℕ, ◌+◌, ◌/◌, ◌≤◌, List, All, IfOk, IfSome, IfNone, Some, drop, length, map, take};
+ghost use Rattle.std.specs.Prelude.{◌≡◌, ◌≢◌, ℕ, ◌+◌, ◌/◌, ◌<◌, ◌≤◌, List, All, IsOk, IfOk, IfSome, IfNone, Some, drop, length, map, take};
 ghost use Rattle.std.specs.Int.{w32, w64, from_be_bytes};
 ghost use Rattle.std.specs.List.{concat, range_with_len};
-ghost use Rattle.rgw_model.specs.Stripes.{ManifestView, IsManifest};
+ghost use Rattle.rgw_model.specs.Stripes.{ManifestView, IsManifest, tails_of};
 ghost use Rattle.manifest.specs.Layouts.{encoding};
 ghost use Rattle.manifest.specs.Ranges.{part_size, parts_of, IsWithin, AreContents, bytes_along};
 
@@ -23,19 +23,26 @@ pub trait ManifestBytes {
 
     /// How many bytes a part has; a part that the object does not have has none.
     fn part_size(&self, part: u32) -> u64
-        ensures { result ≡ part_size (manifest self.now) part };
+        ensures value { result ≡ part_size (manifest self.now) part }
+        ensures full { part < tails_of (manifest self.now) → result ≡ (manifest self.now).stripe }
+        ensures filled { 0 < part → part ≤ tails_of (manifest self.now) → 0 < result }
+        ensures none { tails_of (manifest self.now) < part → result ≡ 0 };
 
     /// The pieces that the bytes `start` to `start + count` of the object have in its parts, in order and
     /// without empty ones. Memory is taken once, for the list.
     fn parts(&self, alloc: Global, start: u64, count: u64) -> Result<Parts, OutOfMemory>
         requires { start + count ≤ (manifest self.now).size }
+        ensures empty { count ≡ 0 → IsOk result }
         ensures pieces { IfOk result (λ parts. parts ≡ parts_of (manifest self.now) start count) }
         ensures within { IfOk result (λ parts. All (IsWithin (manifest self.now)) parts) }
         ensures in_order { IfOk result (λ parts.
             map (λ p. p.part) parts ≡ range_with_len (start / (manifest self.now).stripe) (length parts)) }
         ensures covers { IfOk result (λ parts.
             (contents : List (List ℕ)) → AreContents (manifest self.now) contents →
-            bytes_along contents parts ≡ take count (drop start (concat contents))) };
+            bytes_along contents parts ≡ take count (drop start (concat contents))) }
+        ensures whole { IfOk result (λ parts. start ≡ 0 → count ≡ (manifest self.now).size →
+            (contents : List (List ℕ)) → AreContents (manifest self.now) contents →
+            bytes_along contents parts ≡ concat contents) };
 
     /// The manifest in the first layout: `01`, then the write in 8 bytes, the stripe in 4 and the size in
     /// 8, each with its high byte first.
@@ -72,8 +79,8 @@ impl ManifestBytes for Manifest {
         let k = self.stripe.to_be_bytes();
         let s = self.size.to_be_bytes();
         [
-            LAYOUT, w[0], w[1], w[2], w[3], w[4], w[5], w[6], w[7], k[0], k[1], k[2], k[3], s[0], s[1],
-            s[2], s[3], s[4], s[5], s[6], s[7],
+            LAYOUT, w[0], w[1], w[2], w[3], w[4], w[5], w[6], w[7], k[0], k[1], k[2], k[3], s[0],
+            s[1], s[2], s[3], s[4], s[5], s[6], s[7],
         ]
     }
 

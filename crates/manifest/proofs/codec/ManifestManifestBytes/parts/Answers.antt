@@ -1,6 +1,6 @@
-use Rattle.std.proofs.Common.{◌≡◌, ◌<◌, sym, ap, ◌∙◌, arith}
+use Rattle.std.proofs.Common.{sym, ap, ◌∙◌, arith}
 use Rattle.manifest.specs.Ranges.{parts_of, bytes_along}
-use Rattle.manifest.proofs.CoverLemmas.{covered}
+use Rattle.manifest.proofs.CoverLemmas.{covered, nothing_covered, whole_covered}
 use Rattle.manifest.proofs.RangeLemmas.{AreMade, parts_between, parts_of_nothing, made_within, made_in_order}
 use Rattle.manifest.proofs.codec.ManifestManifestBytes.parts.Goals as goal
 
@@ -8,6 +8,11 @@ pub returns-then-count-eq0-clause-pieces : goal.returns-then-count-eq0-clause-pi
 returns-then-count-eq0-clause-pieces c =
     c.from_vec.ensures ∙ c.new.ensures.items ∙ sym (parts_of_nothing c.args.self.now c.args.start)
     ∙ ap (parts_of c.args.self.now c.args.start) (sym c.if-count-eq0.true)
+
+pub returns-then-count-eq0-clause-whole : goal.returns-then-count-eq0-clause-whole
+returns-then-count-eq0-clause-whole c front all contents cut =
+    ap (bytes_along contents) (c.from_vec.ensures ∙ c.new.ensures.items)
+    ∙ sym (nothing_covered c.args.self.now (sym all ∙ c.if-count-eq0.true) contents cut)
 
 made : (c : goal.After-from_vec-2) → AreMade c.args.self.now c.args.start c.args.count c.from_vec-2.result
 made c = record {
@@ -31,3 +36,8 @@ pub returns-clause-covers : goal.returns-clause-covers
 returns-clause-covers c contents cut =
     ap (bytes_along contents) (returns-clause-pieces c)
     ∙ covered c.args.self.now c.args.start c.args.count (omega (arith, c.in_ok-pieces.ensures.bounds.stripe_low)) contents cut
+
+pub returns-clause-whole : goal.returns-clause-whole
+returns-clause-whole c front all contents cut =
+    ap (bytes_along contents) (returns-clause-pieces c)
+    ∙ whole_covered c.args.self.now c.args.start c.args.count (omega (arith, c.in_ok-pieces.ensures.bounds.stripe_low)) front all contents cut

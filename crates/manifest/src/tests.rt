@@ -1,0 +1,168 @@
+mod callers;
+
+use super::{Manifest, ManifestBytes, OutOfMemory, Parts};
+use std::alloc::Global;
+use std::test::Fail;
+
+/// Manifests and their bytes, by another program.
+const ENCODINGS: [(u64, u32, u64, [u8; 21]); 4] = [
+    (
+        5,
+        16,
+        17,
+        [
+            1, 0, 0, 0, 0, 0, 0, 0, 5, 0, 0, 0, 16, 0, 0, 0, 0, 0, 0, 0, 17,
+        ],
+    ),
+    (
+        0,
+        16,
+        0,
+        [
+            1, 0, 0, 0, 0, 0, 0, 0, 0, 0, 0, 0, 16, 0, 0, 0, 0, 0, 0, 0, 0,
+        ],
+    ),
+    (
+        18_446_744_073_709_551_615,
+        4_194_304,
+        5_368_709_120,
+        [
+            1, 255, 255, 255, 255, 255, 255, 255, 255, 0, 64, 0, 0, 0, 0, 0, 1, 64, 0, 0, 0,
+        ],
+    ),
+    (
+        72_623_859_790_382_856,
+        66_051,
+        286_397_204,
+        [
+            1, 1, 2, 3, 4, 5, 6, 7, 8, 0, 1, 2, 3, 0, 0, 0, 0, 17, 18, 19, 20,
+        ],
+    ),
+];
+
+#[test]
+fn manifests_are_written_and_read(rt: HostRuntime) -> Result<(), Fail> {
+    for (write, stripe, size, bytes) in ENCODINGS {
+        let manifest = Manifest::new(write, stripe, size);
+        assert_eq!(rt; manifest.map(|m| m.encode()), Some(bytes));
+        assert_eq!(rt; Manifest::decode(&bytes), manifest);
+    }
+    Ok(())
+}
+
+/// Bytes that are no manifest.
+const OTHERS: [&[u8]; 9] = [
+    // none at all
+    &[],
+    // 20 bytes, and 22
+    &[1, 0, 0, 0, 0, 0, 0, 0, 5, 0, 0, 0, 16, 0, 0, 0, 0, 0, 0, 0],
+    &[
+        1, 0, 0, 0, 0, 0, 0, 0, 5, 0, 0, 0, 16, 0, 0, 0, 0, 0, 0, 0, 17, 0,
+    ],
+    // other layouts
+    &[
+        0, 0, 0, 0, 0, 0, 0, 0, 5, 0, 0, 0, 16, 0, 0, 0, 0, 0, 0, 0, 17,
+    ],
+    &[
+        2, 0, 0, 0, 0, 0, 0, 0, 5, 0, 0, 0, 16, 0, 0, 0, 0, 0, 0, 0, 17,
+    ],
+    // stripes of 15, 0 and 4194305 bytes
+    &[
+        1, 0, 0, 0, 0, 0, 0, 0, 5, 0, 0, 0, 15, 0, 0, 0, 0, 0, 0, 0, 17,
+    ],
+    &[
+        1, 0, 0, 0, 0, 0, 0, 0, 5, 0, 0, 0, 0, 0, 0, 0, 0, 0, 0, 0, 17,
+    ],
+    &[
+        1, 0, 0, 0, 0, 0, 0, 0, 5, 0, 64, 0, 1, 0, 0, 0, 0, 0, 0, 0, 17,
+    ],
+    // 5368709121 bytes
+    &[
+        1, 0, 0, 0, 0, 0, 0, 0, 5, 0, 0, 0, 16, 0, 0, 0, 1, 64, 0, 0, 1,
+    ],
+];
+
+#[test]
+fn other_bytes_are_no_manifests(rt: HostRuntime) -> Result<(), Fail> {
+    for bytes in OTHERS {
+        assert_eq!(rt; Manifest::decode(bytes), None);
+    }
+    Ok(())
+}
+
+/// The letters a to z in stripes of 16 bytes.
+const CONTENTS: [&str; 2] = ["abcdefghijklmnop", "qrstuvwxyz"];
+
+/// Ranges of them by start and count, their parts as `part:start+count`, and their letters.
+const RANGES: [(u64, u64, &str, &str); 9] = [
+    (15, 2, "0:15+1 1:0+1 ", "pq"),
+    (25, 1, "1:9+1 ", "z"),
+    (0, 26, "0:0+16 1:0+10 ", "abcdefghijklmnopqrstuvwxyz"),
+    (0, 16, "0:0+16 ", "abcdefghijklmnop"),
+    (16, 10, "1:0+10 ", "qrstuvwxyz"),
+    (3, 4, "0:3+4 ", "defg"),
+    (15, 1, "0:15+1 ", "p"),
+    (16, 0, "", ""),
+    (26, 0, "", ""),
+];
+
+fn text_of(alloc: Global, parts: &Parts) -> Result<String, OutOfMemory> {
+    let mut text = String::new(alloc);
+    for part in parts.as_slice() {
+        let number = part.part;
+        let start = part.start;
+        let count = part.count;
+        let piece = format!(in alloc; "{number}:{start}+{count} ")?;
+        text.push_str(piece.as_str())?;
+    }
+    Ok(text)
+}
+
+fn letters_of(alloc: Global, parts: &Parts) -> Result<Option<String>, OutOfMemory> {
+    let mut letters = String::new(alloc);
+    for part in parts.as_slice() {
+        let start = part.start as usize;
+        let Some(content) = CONTENTS.get(part.part as usize) else {
+            return Ok(None);
+        };
+        let Some(end) = start.checked_add(part.count as usize) else {
+            return Ok(None);
+        };
+        let Some(piece) = content.get(start..end) else {
+            return Ok(None);
+        };
+        letters.push_str(piece)?;
+    }
+    Ok(Some(letters))
+}
+
+#[test]
+fn ranges_are_cut_at_the_ends_of_stripes(rt: HostRuntime) -> Result<(), Fail> {
+    let manifest = Manifest {
+        write: 5,
+        stripe: 16,
+        size: 26,
+    };
+    for (start, count, pieces, letters) in RANGES {
+        assert!(rt; start <= 26 && count <= 26 - start);
+        let parts = manifest.parts(rt.alloc(), start, count)?;
+        let text = text_of(rt.alloc(), &parts)?;
+        assert_eq!(rt; text.as_str(), pieces, "at {start}");
+        let found = letters_of(rt.alloc(), &parts)?;
+        assert_eq!(rt; found.as_deref(), Some(letters), "at {start}");
+    }
+    Ok(())
+}
+
+#[test]
+fn parts_have_their_sizes(rt: HostRuntime) -> Result<(), Fail> {
+    let manifest = Manifest {
+        write: 5,
+        stripe: 16,
+        size: 33,
+    };
+    for (part, size) in [(0, 16), (1, 16), (2, 1), (3, 0), (4_294_967_295, 0)] {
+        assert_eq!(rt; manifest.part_size(part), size, "at {part}");
+    }
+    Ok(())
+}
