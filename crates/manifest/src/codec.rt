@@ -75,12 +75,13 @@ impl ManifestBytes for Manifest {
     }
 
     fn encode(&self) -> [u8; 21] {
-        let w = self.write.to_be_bytes();
-        let k = self.stripe.to_be_bytes();
-        let s = self.size.to_be_bytes();
+        let write = self.write.to_be_bytes();
+        let stripe = self.stripe.to_be_bytes();
+        let size = self.size.to_be_bytes();
         [
-            LAYOUT, w[0], w[1], w[2], w[3], w[4], w[5], w[6], w[7], k[0], k[1], k[2], k[3], s[0],
-            s[1], s[2], s[3], s[4], s[5], s[6], s[7],
+            LAYOUT, write[0], write[1], write[2], write[3], write[4], write[5], write[6], write[7],
+            stripe[0], stripe[1], stripe[2], stripe[3], size[0], size[1], size[2], size[3],
+            size[4], size[5], size[6], size[7],
         ]
     }
 

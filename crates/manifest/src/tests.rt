@@ -150,6 +150,10 @@ fn ranges_are_cut_at_the_ends_of_stripes(rt: HostRuntime) -> Result<(), Fail> {
         assert_eq!(rt; text.as_str(), pieces, "at {start}");
         let found = letters_of(rt.alloc(), &parts)?;
         assert_eq!(rt; found.as_deref(), Some(letters), "at {start}");
+        assert_eq!(rt; parts.is_empty(), count == 0);
+        let number = parts.len();
+        let again = Parts::from_vec(parts.into_vec());
+        assert_eq!(rt; again.len(), number);
     }
     Ok(())
 }

@@ -19,3 +19,7 @@ pub record IsManifest (m : ManifestView) : Type 0 where
 -- how many tails there are: the stripes behind the first one, the last of which need not be full
 abbrev pub tails_of : ManifestView → ℕ
 tails_of m = div_ceil (m.size - m.stripe) m.stripe
+
+-- no object has more tails: the greatest one in the shortest stripes
+abbrev pub tail_limit : ℕ
+tail_limit = 335544319

@@ -1,5 +1,5 @@
 ghost use Rattle.std.specs.Prelude.{◌≡◌, ◌+◌, ◌*◌, ◌<◌, ◌≤◌, ◌↔◌, IsSome, IfSome};
-ghost use Rattle.rgw_model.specs.Stripes.{IsManifest, tails_of};
+ghost use Rattle.rgw_model.specs.Stripes.{IsManifest, tail_limit, tails_of};
 
 use std::marker::Model;
 
@@ -58,6 +58,7 @@ impl Manifest {
     pub fn tails(&self) -> u32
         ensures value { result ≡ tails_of self.now }
         ensures bounds { IsManifest self.now }
+        ensures most { result ≤ tail_limit }
         ensures enough { self.now.size ≤ (result + 1) * self.now.stripe }
         ensures least { 0 < result → result * self.now.stripe < self.now.size }
     {
