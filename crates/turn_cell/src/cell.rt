@@ -1,5 +1,5 @@
 //! The cell, and what threads do with it.
-ghost use Rattle.std.specs.Prelude.{◌≡◌, ◌+◌, ◌-◌, ◌<◌, ◌≤◌, ◌^◌, ◌↔◌, ◌++◌, [], ◌∷◌, length, Some, IfOk, OnOk, IfErr, OnErr};
+ghost use Rattle.std.specs.Prelude.{◌≡◌, ◌+◌, ◌-◌, ◌<◌, ◌≤◌, ◌^◌, ◌↔◌, ◌++◌, [], ◌∷◌, length, Some, IfOk, OnOk, IfErr, OnErr, IfSome, IfNone};
 ghost use Rattle.std.specs.Bool.{OnTrue, OnFalse};
 ghost use Rattle.turn_cell.specs.declared.machine.DoorFault.TheVariants.{Worn};
 ghost use Rattle.turn_cell.specs.Histories.{NoneBy, NoneFrom, numbers_of};
@@ -19,8 +19,15 @@ use std::marker::{Brand, Model};
 use std::snapshot::Snapshot;
 use std::sync::Wait;
 
-/// How often a thread looks before it sleeps.
+/// How often a thread tries to take the value before it sleeps.
+const TRIES: u32 = 8;
+
+/// How often it looks before each try.
 const LOOKS: u32 = 100;
+
+/// How long it keeps away before it looks, in turns of a spin. The thread that has the value can
+/// meanwhile make more steps, and the cache lines do not go to and fro.
+const REST: u32 = 32;
 
 /// One value that threads change in turns. Contracts see which cell it is, and what no event changes.
 #[derive(Drop)]
@@ -253,8 +260,7 @@ impl<M: Machine> Turn<M> {
     {
         let mut has_announced = false;
         for _ in rt.forever() {
-            let number = self.look();
-            if self.try_take(seat, number) {
+            if let Some(number) = self.take_soon(seat) {
                 if has_announced {
                     self.sleepers.ask_for_wake();
                 }
@@ -269,6 +275,23 @@ impl<M: Machine> Turn<M> {
         unreachable!()
     }
 
+    // Takes the value if it can be had in a few tries, and answers the number that the word had then.
+    fn take_soon(&self, seat: &mut Seat<M>) -> Option<u64>
+        requires { seat.old.table_id ≡ self.now.id }
+        ensures same { (seat.new.table_id ≡ seat.old.table_id) × (seat.new.id ≡ seat.old.id) }
+        ensures taken { IfSome result (λ _. HasTaken M.history M.fixed M.by M.lawful seat.old.me seat.new.me) }
+        ensures missed { IfNone result (seat.new.me ≡ seat.old.me) }
+    {
+        for _ in 0..TRIES {
+            rest();
+            let number = self.look();
+            if self.try_take(seat, number) {
+                return Some(number);
+            }
+        }
+        None
+    }
+
     // The number of the word, once the value is at home, or after some looks.
     fn look(&self) -> u64 {
         for _ in 0..LOOKS {
@@ -279,5 +302,12 @@ impl<M: Machine> Turn<M> {
             spin_loop();
         }
         self.table.shared.peek(0)
+    }
+}
+
+// Keeps away from the cell for a moment.
+fn rest() {
+    for _ in 0..REST {
+        spin_loop();
     }
 }

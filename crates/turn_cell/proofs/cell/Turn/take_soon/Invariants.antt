@@ -1,0 +1,7 @@
+use Rattle.std.proofs.Common.{◌≡◌}
+use Rattle.turn_cell.proofs.cell.Turn.take_soon.Given as goal
+
+-- a try that failed changes nothing that the pass knows
+abbrev pub invariant-loop : goal.invariant-loop
+invariant-loop g l =
+    (l.seat.table_id ≡ l.initial.seat.table_id) × (l.seat.id ≡ l.initial.seat.id) × (l.seat.me ≡ l.initial.seat.me)
