@@ -1,0 +1,4 @@
+pub mod Parts
+pub mod Queries
+pub mod Targets
+pub mod Places
