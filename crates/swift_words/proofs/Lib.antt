@@ -1,2 +1,5 @@
 pub mod PartLemmas
 pub mod PlaceLemmas
+pub mod QueryLemmas
+pub mod LimitLemmas
+pub mod PathLemmas

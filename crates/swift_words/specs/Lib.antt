@@ -1,4 +1,5 @@
 pub mod Parts
 pub mod Queries
+pub mod Sents
 pub mod Targets
 pub mod Places

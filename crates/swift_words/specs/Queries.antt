@@ -27,11 +27,14 @@ name_part piece = before_mark 61 piece
 abbrev pub value_part : List ℕ → List ℕ
 value_part piece = map blank_for_plus (after_mark 61 piece)
 
--- the first fault among the words of the pieces, in order, each piece's name before its value
+-- the first fault of a piece: the name's, then the value's
+abbrev pub piece_fault : List ℕ → Option WordFault
+piece_fault piece = option_or (word_fault (name_part piece)) (word_fault (value_part piece))
+
+-- the first fault among the pieces, in order, also of those whose names are not known
 unfoldable pub pieces_fault : List (List ℕ) → Option WordFault
 pieces_fault [] = None
-pieces_fault (piece ∷ pieces) =
-    option_or (option_or (word_fault (name_part piece)) (word_fault (value_part piece))) (pieces_fault pieces)
+pieces_fault (piece ∷ pieces) = option_or (piece_fault piece) (pieces_fault pieces)
 
 -- ---- parameters
 
@@ -39,7 +42,7 @@ abbrev pub is_named : List ℕ → List ℕ → Bool
 is_named name piece = bytes_eq (percent_decode (name_part piece)) name
 
 -- the values that are sent under a name, in order
-unfoldable pub values_of : List ℕ → List (List ℕ) → List (List ℕ)
+abbrev pub values_of : List ℕ → List (List ℕ) → List (List ℕ)
 values_of name pieces = map (λ piece. percent_decode (value_part piece)) (filter (is_named name) pieces)
 
 -- the last of them, or else what there was before

@@ -12,4 +12,4 @@ mod target;
 pub use fault::WordFault;
 pub use place::read_place;
 pub use query::Query;
-pub use target::Target;
+pub use target::{Target, read_target};

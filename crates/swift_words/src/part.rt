@@ -43,6 +43,17 @@ pub fn cut(bytes: &[u8], mark: u8) -> Option<(&[u8], &[u8])>
     }
 }
 
+/// What stands before the first mark, and after it: all and nothing where there is none.
+pub fn halves(bytes: &[u8], mark: u8) -> (&[u8], &[u8])
+    ensures before { result.0.now ≡ before_mark mark bytes.now }
+    ensures after { result.1.now ≡ after_mark mark bytes.now }
+{
+    match cut(bytes, mark) {
+        Some(halves) => halves,
+        None => (bytes, &[]),
+    }
+}
+
 /// Whether two hexadecimal digits stand at this place.
 fn has_digits_at(bytes: &[u8], at: usize) -> bool
     requires { at ≤ length bytes.now }
@@ -68,7 +79,7 @@ fn has_whole_escapes(bytes: &[u8]) -> bool
 }
 
 /// The word that a part stands for, which borrows the part where nothing in it is escaped.
-fn decode<'a>(alloc: Global, part: &'a [u8]) -> Result<CowStr<'a>, WordFault>
+pub fn decode<'a>(alloc: Global, part: &'a [u8]) -> Result<CowStr<'a>, WordFault>
     ensures ok { IfOk result (λ word. (word_fault part.now ≡ None) × (cow_str_bytes word ≡ decoded part.now)) }
     ensures err { IfErr result (Tells (word_fault part.now)) }
 {
