@@ -8,7 +8,7 @@ use Rattle.swift_words.specs.declared.fault.WordFault.TheVariants.{NotPath}
 use Rattle.swift_words.specs.declared.query.Query.{Query}
 use Rattle.swift_words.specs.declared.target.Target.{Target}
 use Rattle.swift_words.specs.declared.target.Target.TheVariants.{Auth, Account, Container, Thing, Unknown}
-use Rattle.swift_words.specs.Parts.{has_mark, before_mark, after_mark, word_fault, name_fault, container_limit, object_limit}
+use Rattle.swift_words.specs.Parts.{has_mark, before_mark, after_mark, word_fault, name_fault, is_name, container_limit, object_limit}
 use Rattle.swift_words.specs.Queries.{query_fault, query_of}
 
 -- ---- the parts of a path, as they were sent
@@ -37,11 +37,14 @@ parts_of target = parts_within 4 (path_part target)
 
 -- ---- what the words of a path name
 
--- the account, where the words begin with `swift`, `v1` and `AUTH_` with the account
+-- `swift`, `v1` and `AUTH_` with an account
+abbrev pub is_account : List ℕ → List ℕ → List ℕ → Bool
+is_account api version account =
+    bytes_eq api (codes "swift") && (bytes_eq version (codes "v1") && starts_with nat_eq account (codes "AUTH_"))
+
+-- the account, where the words begin with one
 abbrev pub account_of : List (List ℕ) → Option (List ℕ)
-account_of (api ∷ version ∷ account ∷ words) =
-    if bytes_eq api (codes "swift") && (bytes_eq version (codes "v1") && starts_with nat_eq account (codes "AUTH_"))
-    then Some (drop 5 account) else None
+account_of (api ∷ version ∷ account ∷ words) = if is_account api version account then Some (drop 5 account) else None
 account_of words = None
 
 -- `auth`, alone or with one of two versions
@@ -66,6 +69,14 @@ named_with (Some account) words = below_account account (drop 3 words)
 
 unfoldable pub named_by : List (List ℕ) → Target
 named_by words = named_with (account_of words) words
+
+-- the names that stand there have their sizes
+abbrev pub has_names : Target → Bool
+has_names Auth = true
+has_names (Account account) = true
+has_names (Container account container) = is_name container_limit container
+has_names (Thing account container object) = is_name container_limit container && is_name object_limit object
+has_names Unknown = true
 
 -- ---- faults
 

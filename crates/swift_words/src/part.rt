@@ -121,6 +121,7 @@ pub fn is_name(most: usize, name: &[u8]) -> bool
 pub fn read_name(alloc: Global, most: usize, part: &[u8]) -> Result<Text, WordFault>
     ensures ok { IfOk result (λ name. (name_fault most part.now ≡ None) × (name ≡ decoded part.now)) }
     ensures err { IfErr result (Tells (name_fault most part.now)) }
+    ensures named { IfOk result (λ name. is_name most name ≡ true) }
 {
     let name = read_word(alloc, part)?;
     if is_name(most, name.as_bytes()) {

@@ -1,7 +1,7 @@
-ghost use Rattle.std.specs.Prelude.{◌≡◌, ◌++◌, [], None, IfOk, IfErr, map, option_copied};
+ghost use Rattle.std.specs.Prelude.{◌≡◌, ◌++◌, true, [], None, IfOk, IfErr, map, option_copied};
 ghost use Rattle.percent_encoding.specs.Percent.{percent_decode as decoded};
 ghost use Rattle.swift_words.specs.Parts.{Tells};
-ghost use Rattle.swift_words.specs.Targets.{last_part, parts_within, account_of, is_auth, named_by, limit_after, part_fault, parts_fault};
+ghost use Rattle.swift_words.specs.Targets.{last_part, parts_within, account_of, is_auth, named_by, has_names, limit_after, part_fault, parts_fault};
 
 use crate::part::{CONTAINER_LIMIT, OBJECT_LIMIT, cut, read_name, read_word};
 use crate::{Target, WordFault};
@@ -123,6 +123,7 @@ pub fn read_path(alloc: Global, path: &[u8]) -> Result<Target, WordFault>
     ensures ok { IfOk result (λ target. (parts_fault [] (parts_within 4 path.now) ≡ None)
         × (target ≡ named_by (map decoded (parts_within 4 path.now)))) }
     ensures err { IfErr result (Tells (parts_fault [] (parts_within 4 path.now))) }
+    ensures names { IfOk result (λ target. has_names target ≡ true) }
 {
     let parts = parts_of(alloc, path)?;
     let words = words_of(alloc, &parts)?;

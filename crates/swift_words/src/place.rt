@@ -1,5 +1,5 @@
-ghost use Rattle.std.specs.Prelude.{◌≡◌, None, IfOk, IfErr};
-ghost use Rattle.swift_words.specs.Parts.{Tells};
+ghost use Rattle.std.specs.Prelude.{◌≡◌, true, None, IfOk, IfErr};
+ghost use Rattle.swift_words.specs.Parts.{Tells, is_name, container_limit, object_limit};
 ghost use Rattle.swift_words.specs.Places.{without_slash, place_fault, place_of};
 
 use crate::WordFault;
@@ -29,6 +29,8 @@ fn without_slash(value: &[u8]) -> &[u8]
 pub fn read_place(alloc: Global, value: &[u8]) -> Result<(Text, Text), WordFault>
     ensures ok { IfOk result (λ place. (place_fault value.now ≡ None) × (place ≡ place_of value.now)) }
     ensures err { IfErr result (Tells (place_fault value.now)) }
+    ensures names { IfOk result (λ place.
+        (is_name container_limit place.0 ≡ true) × (is_name object_limit place.1 ≡ true)) }
 {
     let Some((container, object)) = cut(without_slash(value), b'/') else {
         return Err(WordFault::NotPath);

@@ -1,4 +1,4 @@
-ghost use Rattle.std.specs.Prelude.{◌≡◌, IfOk, OnOk, IfErr, map, option_copied, codes};
+ghost use Rattle.std.specs.Prelude.{◌≡◌, ◌≤◌, IfOk, OnOk, IfErr, map, option_copied, codes};
 ghost use Rattle.std.specs.List.{list_all};
 ghost use Rattle.std.specs.Char.{is_ascii_digit};
 ghost use Rattle.percent_encoding.specs.Percent.{percent_decode as decoded};
@@ -141,6 +141,7 @@ fn is_limit(value: &[u8]) -> bool
 fn limit_in(sent: Option<&Text>) -> Result<u32, WordFault>
     ensures ok { IfOk result (λ limit. (limit_fault (option_copied sent.entry) ≡ None) × (limit ≡ limit_in (option_copied sent.entry))) }
     ensures err { IfErr result (λ fault. limit_fault (option_copied sent.entry) ≡ Some fault) }
+    ensures most { IfOk result (λ limit. limit ≤ 10000) }
 {
     let Some(value) = sent else {
         return Ok(MOST_ROWS);
@@ -172,6 +173,7 @@ fn json_in(sent: Option<&Text>) -> Result<bool, WordFault>
 pub fn read_query(alloc: Global, query: &[u8]) -> Result<Query, WordFault>
     ensures ok { IfOk result (λ read. (query_fault query.now ≡ None) × (read ≡ query_of query.now)) }
     ensures err { IfErr result (Tells (query_fault query.now)) }
+    ensures limit { IfOk result (λ read. read.limit ≤ 10000) }
 {
     let sent = parameters(alloc, query)?;
     let limit = limit_in(sent.limit.as_ref())?;

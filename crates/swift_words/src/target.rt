@@ -1,6 +1,6 @@
-ghost use Rattle.std.specs.Prelude.{◌≡◌, None, IfOk, IfErr};
+ghost use Rattle.std.specs.Prelude.{◌≡◌, ◌≤◌, true, None, IfOk, IfErr};
 ghost use Rattle.swift_words.specs.Parts.{Tells};
-ghost use Rattle.swift_words.specs.Targets.{target_fault, target_of, asked_by};
+ghost use Rattle.swift_words.specs.Targets.{target_fault, target_of, asked_by, has_names};
 
 use crate::part::halves;
 use crate::path::read_path;
@@ -49,6 +49,8 @@ pub fn read_target(alloc: Global, target: &[u8]) -> Result<(Target, Query), Word
     ensures ok { IfOk result (λ read. (target_fault target.now ≡ None)
         × (read.0 ≡ target_of target.now) × (read.1 ≡ asked_by target.now)) }
     ensures err { IfErr result (Tells (target_fault target.now)) }
+    ensures names { IfOk result (λ read. has_names read.0 ≡ true) }
+    ensures limit { IfOk result (λ read. read.1.limit ≤ 10000) }
 {
     let [b'/', rest @ ..] = target else {
         return Err(WordFault::NotPath);
