@@ -24,8 +24,15 @@ pub record Escapes : Type 0 where
 pub escapes : Escapes
 unfolding swift_words_on_literals
 escapes = record {
-  none = refl; whole = refl; letters = refl; no_digit = refl; no_second_digit = refl; cut = refl; last = refl; twice = refl;
-  escaped_mark = refl
+  none = refl;
+  whole = refl;
+  letters = refl;
+  no_digit = refl;
+  no_second_digit = refl;
+  cut = refl;
+  last = refl;
+  twice = refl;
+  escaped_mark = refl;
 }
 
 -- ---- names
@@ -77,11 +84,34 @@ pub record Paths : Type 0 where
 pub paths : Paths
 unfolding swift_words_on_literals
 paths = record {
-  auth = refl; auth_version = refl; auth_v_version = refl; auth_slash = refl; auth_version_slash = refl; auth_escaped = refl;
-  auth_two_slashes = refl; auth_more = refl; auth_escaped_slash = refl; root = refl; no_account = refl; other_account = refl;
-  account = refl; account_slash = refl; account_empty = refl; container = refl; container_slash = refl; container_query = refl;
-  container_escaped_slash = refl; object = refl; object_slash = refl; object_is_slash = refl; object_slashes = refl;
-  object_escaped_slash = refl; object_text = refl; object_plus = refl; object_question = refl; other_case = refl
+  auth = refl;
+  auth_version = refl;
+  auth_v_version = refl;
+  auth_slash = refl;
+  auth_version_slash = refl;
+  auth_escaped = refl;
+  auth_two_slashes = refl;
+  auth_more = refl;
+  auth_escaped_slash = refl;
+  root = refl;
+  no_account = refl;
+  other_account = refl;
+  account = refl;
+  account_slash = refl;
+  account_empty = refl;
+  container = refl;
+  container_slash = refl;
+  container_query = refl;
+  container_escaped_slash = refl;
+  object = refl;
+  object_slash = refl;
+  object_is_slash = refl;
+  object_slashes = refl;
+  object_escaped_slash = refl;
+  object_text = refl;
+  object_plus = refl;
+  object_question = refl;
+  other_case = refl;
 }
 
 -- ---- which fault comes
@@ -122,19 +152,49 @@ pub record Faults : Type 0 where
 pub faults : Faults
 unfolding swift_words_on_literals
 faults = record {
-  none = refl; no_slash = refl; empty = refl; escape = refl; escape_of_unknown = refl; utf8 = refl; utf8_whole = refl; utf8_of_unknown = refl;
-  name_empty = refl; name_empty_slash = refl; name_zero = refl; name_of_unknown = refl; limit = refl; limit_empty = refl;
-  limit_without_value = refl; limit_nine = refl; limit_ten = refl; limit_signed = refl; limit_last_counts = refl; format = refl;
-  format_empty = refl; format_case = refl; query_escape = refl; query_utf8 = refl; query_of_unknown = refl;
-  escape_before_utf8 = refl; utf8_before_name = refl; container_before_object = refl; path_before_query = refl;
-  name_before_value = refl; limit_before_format = refl
+  none = refl;
+  no_slash = refl;
+  empty = refl;
+  escape = refl;
+  escape_of_unknown = refl;
+  utf8 = refl;
+  utf8_whole = refl;
+  utf8_of_unknown = refl;
+  name_empty = refl;
+  name_empty_slash = refl;
+  name_zero = refl;
+  name_of_unknown = refl;
+  limit = refl;
+  limit_empty = refl;
+  limit_without_value = refl;
+  limit_nine = refl;
+  limit_ten = refl;
+  limit_signed = refl;
+  limit_last_counts = refl;
+  format = refl;
+  format_empty = refl;
+  format_case = refl;
+  query_escape = refl;
+  query_utf8 = refl;
+  query_of_unknown = refl;
+  escape_before_utf8 = refl;
+  utf8_before_name = refl;
+  container_before_object = refl;
+  path_before_query = refl;
+  name_before_value = refl;
+  limit_before_format = refl;
 }
 
 -- ---- queries
 
 abbrev plain : ℕ → List ℕ → List ℕ → List ℕ → List ℕ → Query
 plain most marker end_marker prefix delimiter = record {
-  limit = most; marker = marker; end_marker = end_marker; prefix = prefix; delimiter = delimiter; json = false
+  limit = most;
+  marker = marker;
+  end_marker = end_marker;
+  prefix = prefix;
+  delimiter = delimiter;
+  json = false;
 }
 
 pub record Queries : Type 0 where
@@ -159,9 +219,23 @@ pub record Queries : Type 0 where
 pub queries : Queries
 unfolding swift_words_on_literals
 queries = record {
-  none = refl; empty = refl; all = refl; json = refl; zero_rows = refl; most_rows = refl; more_rows = refl; leading_zeros = refl;
-  plus = refl; equals = refl; question = refl; last_counts = refl; empty_counts = refl; unknown = refl; escaped_name = refl;
-  escaped_and = refl; semicolon = refl
+  none = refl;
+  empty = refl;
+  all = refl;
+  json = refl;
+  zero_rows = refl;
+  most_rows = refl;
+  more_rows = refl;
+  leading_zeros = refl;
+  plus = refl;
+  equals = refl;
+  question = refl;
+  last_counts = refl;
+  empty_counts = refl;
+  unknown = refl;
+  escaped_name = refl;
+  escaped_and = refl;
+  semicolon = refl;
 }
 
 -- ---- places
@@ -187,7 +261,20 @@ pub record Places : Type 0 where
 pub places : Places
 unfolding swift_words_on_literals
 places = record {
-  with_slash = refl; without_slash = refl; slashes = refl; container_escaped_slash = refl; question = refl; whole = refl;
-  no_object = refl; nothing = refl; empty_object = refl; empty_container = refl; two_slashes = refl; escape = refl; utf8 = refl;
-  zero_byte = refl; container_before_object = refl; no_path_before_escape = refl
+  with_slash = refl;
+  without_slash = refl;
+  slashes = refl;
+  container_escaped_slash = refl;
+  question = refl;
+  whole = refl;
+  no_object = refl;
+  nothing = refl;
+  empty_object = refl;
+  empty_container = refl;
+  two_slashes = refl;
+  escape = refl;
+  utf8 = refl;
+  zero_byte = refl;
+  container_before_object = refl;
+  no_path_before_escape = refl;
 }

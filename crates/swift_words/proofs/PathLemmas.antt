@@ -65,8 +65,8 @@ pub named_container : (words : List (List ℕ)) (account container : List ℕ) �
 unfolding named_by
 named_container words account container is four at =
     rw is (ap (below_account account) (drop_more words 3 container (omega arith))
-      ∙ ap (λ rest. below_account account (get_or words 3 container ∷ rest)) (drop_all 4 words (omega arith))
-      ∙ ap (Container account) (sym at))
+    ∙ ap (λ rest. below_account account (get_or words 3 container ∷ rest)) (drop_all 4 words (omega arith))
+    ∙ ap (Container account) (sym at))
 
 pub named_thing : (words : List (List ℕ)) (account container object : List ℕ) → account_of words ≡ Some account → 5 ≤ length words
     → container ≡ get_or (remove words 4) 3 container → object ≡ get_or words 4 object
@@ -75,9 +75,9 @@ unfolding named_by
 named_thing words account container object is five at_container at_object =
     let kept = get_or-remove_below words 4 container 3 (omega arith) (omega arith) in
     rw is (ap (below_account account) (drop_more words 3 container (omega arith))
-      ∙ ap (λ rest. below_account account (get_or words 3 container ∷ rest)) (drop_more words 4 object (omega arith))
-      ∙ ap (λ c. Thing account c (get_or words 4 object)) (sym (at_container ∙ kept))
-      ∙ ap (Thing account container) (sym at_object))
+    ∙ ap (λ rest. below_account account (get_or words 3 container ∷ rest)) (drop_more words 4 object (omega arith))
+    ∙ ap (λ c. Thing account c (get_or words 4 object)) (sym (at_container ∙ kept))
+    ∙ ap (Thing account container) (sym at_object))
 
 -- ---- a loop over the parts
 
@@ -101,9 +101,9 @@ parts_step parts new part rest after all few put mark at_part at_after before =
     let parted = part_more (4 - length parts) (4 - (length parts + 1)) rest fewer mark in
     rw (put, map-append, length_push, at_after)
     (append_assoc (map (λ p. p.now) parts) (part.now ∷ []) (parts_within (4 - (length parts + 1)) (after_mark 47 rest))
-      ∙ ap (λ p. map (λ p. p.now) parts ++ p ∷ parts_within (4 - (length parts + 1)) (after_mark 47 rest)) at_part
-      ∙ ap (λ p. map (λ p. p.now) parts ++ p) (sym parted)
-      ∙ before)
+    ∙ ap (λ p. map (λ p. p.now) parts ++ p ∷ parts_within (4 - (length parts + 1)) (after_mark 47 rest)) at_part
+    ∙ ap (λ p. map (λ p. p.now) parts ++ p) (sym parted)
+    ∙ before)
 
 pub parts_cut : (parts : List (Bor (List ℕ))) (rest : List ℕ) (all : List (List ℕ)) → has_mark 47 rest ≡ false
     → map (λ p. p.now) parts ++ parts_within (4 - length parts) rest ≡ all → map (λ p. p.now) parts ++ last_part rest ≡ all

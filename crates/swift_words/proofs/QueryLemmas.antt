@@ -37,8 +37,12 @@ pub sent_at_end : (here : Sent) (left all : List (List ℕ)) → left ≡ [] →
 sent_at_end here left all none before =
     let at_end = rw none at before in
     record {
-      limit = at_end.limit; marker = at_end.marker; end_marker = at_end.end_marker;
-      prefix = at_end.prefix; delimiter = at_end.delimiter; format = at_end.format
+      limit = at_end.limit;
+      marker = at_end.marker;
+      end_marker = at_end.end_marker;
+      prefix = at_end.prefix;
+      delimiter = at_end.delimiter;
+      format = at_end.format;
     }
 
 -- ---- faults

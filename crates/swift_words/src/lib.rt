@@ -13,3 +13,6 @@ pub use fault::WordFault;
 pub use place::read_place;
 pub use query::Query;
 pub use target::{Target, read_target};
+
+#[cfg(test)]
+mod tests;

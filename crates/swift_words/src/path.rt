@@ -105,7 +105,11 @@ fn named_by(alloc: Global, mut words: Vec<Text>) -> Result<Target, AllocError>
     ensures { IfOk result (λ target. target ≡ named_by words.items) }
 {
     let Some(account) = account_of(&words) else {
-        return Ok(if is_auth(&words) { Target::Auth } else { Target::Unknown });
+        return Ok(if is_auth(&words) {
+            Target::Auth
+        } else {
+            Target::Unknown
+        });
     };
     let account = Text::from_str(alloc, account)?;
     match words.len() {

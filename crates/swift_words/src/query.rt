@@ -18,7 +18,7 @@ const LIMIT_DIGITS: usize = 9;
 const MOST_ROWS: u32 = 10000;
 
 /// What the query of a target asks of a listing (the Swift API, listings).
-#[derive(Debug, Drop)]
+#[derive(Debug, Drop, PartialEq, Eq)]
 pub struct Query {
     /// The most rows, at most 10000.
     pub limit: u32,
@@ -43,7 +43,10 @@ fn read_value(alloc: Global, value: &[u8]) -> Result<Text, WordFault>
     if !value.contains(&b'+') {
         return read_word(alloc, value);
     }
-    let blanks: Vec<u8> = value.iter().map(|byte| blank_for_plus(*byte)).collect(alloc)?;
+    let blanks: Vec<u8> = value
+        .iter()
+        .map(|byte| blank_for_plus(*byte))
+        .collect(alloc)?;
     read_word(alloc, &blanks)
 }
 

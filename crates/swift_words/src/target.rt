@@ -10,7 +10,7 @@ use rgw_model::Text;
 use std::alloc::Global;
 
 /// What a target names (the Swift API).
-#[derive(Debug, Drop)]
+#[derive(Debug, Drop, PartialEq, Eq)]
 pub enum Target {
     /// Where tokens are asked for.
     Auth,

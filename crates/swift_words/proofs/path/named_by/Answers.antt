@@ -30,4 +30,4 @@ returns c =
     let some = account_words c.args.words.items c.in_ok-account.account is in
     let five : 5 ≤ length c.args.words.items = omega (arith, c.args.words.ok.0, c.len.ensures) in
     sym (named_thing c.args.words.items c.in_ok-account.account c.remove-in_default-len.result c.remove-object.result is five
-      (rw c.remove-object.ensures.items at c.remove-in_default-len.ensures.value) c.remove-object.ensures.value)
+    (rw c.remove-object.ensures.items at c.remove-in_default-len.ensures.value) c.remove-object.ensures.value)
