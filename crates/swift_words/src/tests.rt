@@ -27,7 +27,7 @@ fn shown(alloc: Global, target: &Target) -> Result<String, AllocError> {
 #[test]
 fn paths_name_what_the_table_says(rt: HostRuntime) -> Result<(), Fail> {
     let alloc = rt.alloc();
-    let table: [(&[u8], &str); 30] = [
+    let table: &[(&[u8], &str)] = &[
         (b"/auth", "auth"),
         (b"/auth/", "auth"),
         (b"/auth/1.0", "auth"),
@@ -64,7 +64,7 @@ fn paths_name_what_the_table_says(rt: HostRuntime) -> Result<(), Fail> {
     ];
     for (target, want) in table {
         let (named, _) = read_target(alloc, target)?;
-        assert_eq!(rt; shown(alloc, &named)?.as_str(), want);
+        assert_eq!(rt; shown(alloc, &named)?.as_str(), *want);
     }
     Ok(())
 }

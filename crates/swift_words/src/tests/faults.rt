@@ -1,7 +1,7 @@
 use super::*;
 
 /// The faults of targets. `None` is a target without one.
-const TABLE: [(&[u8], Option<WordFault>); 44] = [
+const TABLE: &[(&[u8], Option<WordFault>)] = &[
     // Each fault alone.
     (b"", Some(WordFault::NotPath)),
     (b"*", Some(WordFault::NotPath)),
@@ -56,7 +56,7 @@ fn the_first_fault_is_answered(rt: HostRuntime) -> Result<(), Fail> {
     let alloc = rt.alloc();
     for (target, want) in TABLE {
         let fault = read_target(alloc, target).err();
-        assert_eq!(rt; fault, want);
+        assert_eq!(rt; fault, *want);
     }
     Ok(())
 }
