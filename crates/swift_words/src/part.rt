@@ -93,8 +93,7 @@ pub fn decode<'a>(alloc: Global, part: &'a [u8]) -> Result<CowStr<'a>, WordFault
     }
 }
 
-/// The word that a part stands for, as a text. A part without an escape is copied once, and a part
-/// with one is decoded in place of a copy. It is checked for whole escapes first, then for UTF-8.
+/// The word that a part stands for, as a text. Its escapes are checked first, then its UTF-8.
 pub fn read_word(alloc: Global, part: &[u8]) -> Result<Text, WordFault>
     ensures ok { IfOk result (λ word. (word_fault part.now ≡ None) × (word ≡ decoded part.now)) }
     ensures err { IfErr result (Tells (word_fault part.now)) }
