@@ -1,4 +1,5 @@
 // Targets and places by the table, with the faults that come first.
+mod callers;
 mod faults;
 mod names;
 mod places;
