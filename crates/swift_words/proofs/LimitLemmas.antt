@@ -1,5 +1,5 @@
 -- What parsing says of a limit of 1 to 9 digits.
-use Rattle.std.proofs.Common.{◌≡◌, ℕ, ◌^◌, ◌<◌, ◌≤◌, leb, ltb, true, ◌&&◌, List, length, Option, Some, None, Ok, Result, min, refl, ap, ◌∙◌, arith, rules}
+use Rattle.std.proofs.Common.{◌≡◌, ℕ, ◌≤◌, leb, ltb, true, List, length, Option, Some, None, Ok, Result, min, refl, ap, ◌∙◌, arith, rules}
 use Rattle.std.specs.List.{list_all}
 use Rattle.std.specs.Char.{is_ascii_digit}
 use Rattle.std.specs.Str.Parse.{ParsesUnsigned, digits_value}

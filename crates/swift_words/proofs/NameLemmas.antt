@@ -1,12 +1,12 @@
 -- A path without a fault has names of their sizes.
-use Rattle.std.proofs.Common.{◌≡◌, ℕ, Bool, true, false, ◌&&◌, cond, List, [], ◌∷◌, ◌++◌, map, drop, Option, Some, None, refl, sym, ap, ◌∙◌}
+use Rattle.std.proofs.Common.{◌≡◌, ℕ, Bool, true, false, cond, List, [], ◌∷◌, ◌++◌, map, Option, Some, None, refl}
 use Rattle.std.specs.Option.{option_or}
 use Rattle.std.proofs.lemmas.Bool.{and_from}
 use Rattle.percent_encoding.specs.Percent.{percent_decode}
 use Rattle.swift_words.specs.declared.fault.WordFault.{WordFault}
 use Rattle.swift_words.specs.declared.target.Target.TheVariants.{Auth, Unknown}
 use Rattle.swift_words.specs.Parts.{fault_unless, name_fault, is_name}
-use Rattle.swift_words.specs.Targets.{is_account, account_of, is_auth, without_account, named_by, has_names, limit_after, part_fault, parts_fault}
+use Rattle.swift_words.specs.Targets.{is_account, is_auth, without_account, named_by, has_names, limit_after, part_fault, parts_fault}
 
 first_none : (first later : Option WordFault) → option_or first later ≡ None → first ≡ None
 first_none None later none = refl

@@ -1,5 +1,5 @@
 -- One part more of a path, and one word more.
-use Rattle.std.proofs.Common.{◌≡◌, ℕ, zero, suc, ◌+◌, ◌-◌, ◌<◌, ◌≤◌, eqb, Bool, true, false, cond, List, [], ◌∷◌, ◌++◌, length, map, get_or, drop, Option, Some, None, refl, sym, ap, ◌∙◌, arith, append_assoc}
+use Rattle.std.proofs.Common.{◌≡◌, ℕ, zero, suc, ◌+◌, ◌-◌, ◌<◌, ◌≤◌, true, false, List, [], ◌∷◌, ◌++◌, length, map, get_or, drop, Option, Some, None, refl, sym, ap, ◌∙◌, arith, append_assoc}
 use Rattle.std.specs.Borrow.{Bor}
 use Rattle.std.specs.List.{remove}
 use Rattle.std.proofs.lemmas.List.{drop_more, drop_all, length_push, map-append, append-nil}
@@ -7,7 +7,7 @@ use Rattle.std.proofs.lemmas.List.Edits.{get_or-remove_below}
 use Rattle.percent_encoding.specs.Percent.{percent_decode}
 use Rattle.swift_words.specs.declared.fault.WordFault.{WordFault}
 use Rattle.swift_words.specs.declared.target.Target.TheVariants.{Auth, Account, Container, Thing, Unknown}
-use Rattle.swift_words.specs.Parts.{Tells, has_mark, before_mark, after_mark, word_fault}
+use Rattle.swift_words.specs.Parts.{Tells, has_mark, before_mark, after_mark}
 use Rattle.swift_words.specs.Targets.{last_part, parts_within, account_of, below_account, is_auth, named_by, limit_after, part_fault, parts_fault}
 
 -- ---- parts

@@ -1,6 +1,5 @@
 -- The fault of a place whose container has none.
-use Rattle.std.proofs.Common.{◌≡◌, ℕ, true, List, Some, None, ap, sym, ◌∙◌}
-use Rattle.std.specs.Option.{option_or}
+use Rattle.std.proofs.Common.{◌≡◌, ℕ, true, List, None}
 use Rattle.swift_words.specs.declared.fault.WordFault.{WordFault}
 use Rattle.swift_words.specs.Parts.{Tells, has_mark, before_mark, after_mark, name_fault}
 use Rattle.swift_words.specs.Places.{without_slash, place_fault}

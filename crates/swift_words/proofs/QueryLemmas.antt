@@ -1,14 +1,14 @@
 -- One piece more of a query.
-use Rattle.std.proofs.Common.{◌≡◌, ℕ, ◌+◌, ◌<◌, ◌≤◌, eqb, Bool, true, false, cond, ◌||◌, List, [], ◌∷◌, length, map, filter, get_or, drop, Option, Some, None, refl, sym, ap, ◌∙◌, codes, bytes_eq, add-one, arith, drop-cons}
+use Rattle.std.proofs.Common.{◌≡◌, ℕ, ◌+◌, ◌<◌, eqb, Bool, true, false, cond, ◌||◌, List, [], ◌∷◌, length, map, filter, get_or, drop, Option, Some, None, refl, sym, ap, ◌∙◌, codes}
 use Rattle.std.specs.List.{list_any}
 use Rattle.std.proofs.lemmas.Bool.{false≢true}
 use Rattle.std.proofs.lemmas.List.{drop_more}
 use Rattle.percent_encoding.specs.Percent.{percent_decode}
 use Rattle.swift_words.specs.declared.fault.WordFault.{WordFault}
 use Rattle.swift_words.specs.declared.query.Sent.{Sent}
-use Rattle.swift_words.specs.Parts.{Tells, word_fault}
-use Rattle.swift_words.specs.Queries.{blank_for_plus, name_part, value_part, piece_fault, pieces_fault, is_named, values_of, last_or, sent}
-use Rattle.swift_words.specs.Sents.{put_under, after_piece, nothing_sent, Follows, LeadsTo, IsSentBy}
+use Rattle.swift_words.specs.Parts.{Tells}
+use Rattle.swift_words.specs.Queries.{blank_for_plus, value_part, piece_fault, pieces_fault, is_named, values_of, last_or}
+use Rattle.swift_words.specs.SentValues.{after_piece, Follows, LeadsTo, IsSentBy}
 
 -- ---- values
 

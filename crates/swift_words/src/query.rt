@@ -4,7 +4,7 @@ ghost use Rattle.std.specs.Char.{is_ascii_digit};
 ghost use Rattle.percent_encoding.specs.Percent.{percent_decode as decoded};
 ghost use Rattle.swift_words.specs.Parts.{Tells, word_fault};
 ghost use Rattle.swift_words.specs.Queries.{blank_for_plus, pieces_of, piece_fault, pieces_fault, is_limit, limit_fault, limit_in, format_fault, json_in, query_fault, query_of};
-ghost use Rattle.swift_words.specs.Sents.{nothing_sent, put_under, Follows, IsSentBy};
+ghost use Rattle.swift_words.specs.SentValues.{nothing_sent, put_under, Follows, IsSentBy};
 
 use crate::WordFault;
 use crate::part::{decode, halves, read_word};

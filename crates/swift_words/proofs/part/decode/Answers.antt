@@ -1,4 +1,4 @@
-use Rattle.std.proofs.Common.{◌≡◌, ◌∙◌, sym, subst, rules}
+use Rattle.std.proofs.Common.{◌∙◌, sym, subst}
 use Rattle.std.specs.Str.{IsUtf8}
 use Rattle.swift_words.proofs.PartLemmas.{word_malformed, word_whole, word_no_text}
 use Rattle.swift_words.proofs.part.decode.Goals as goal

@@ -1,9 +1,7 @@
-use Rattle.std.proofs.Common.{◌≡◌, ◌+◌, List, ℕ, [], map, drop, get_or, sym, ◌∙◌, ap, arith, append-nil}
-use Rattle.std.specs.Borrow.{Bor}
+use Rattle.std.proofs.Common.{◌+◌, [], map, drop, ◌∙◌, ap}
 use Rattle.std.proofs.lemmas.List.{drop_all}
 use Rattle.std.proofs.lemmas.Result.{err_from_is_err_and}
-use Rattle.percent_encoding.specs.Percent.{percent_decode}
-use Rattle.swift_words.specs.Targets.{limit_after, parts_fault}
+use Rattle.swift_words.specs.Targets.{limit_after}
 use Rattle.swift_words.proofs.PathLemmas.{next_part, fault_step, words_step, fault_turn, fault_end, words_end}
 use Rattle.swift_words.proofs.path.words_of.Goals as goal
 

@@ -1,4 +1,4 @@
-use Rattle.std.proofs.Common.{◌≡◌, ◌∙◌, true, ap, option_copied, rules}
+use Rattle.std.proofs.Common.{◌≡◌, true, ap, option_copied, rules}
 use Rattle.swift_words.specs.Queries.{is_limit}
 use Rattle.swift_words.proofs.LimitLemmas.{limit_is_read, limit_of_value}
 use Rattle.swift_words.proofs.query.limit_in.Goals as goal

@@ -1,10 +1,9 @@
-use Rattle.std.proofs.Common.{◌≡◌, ℕ, ◌+◌, eqb, List, ◌∷◌, length, get_or, drop, sym, ap, ◌∙◌, arith, rules, tests}
+use Rattle.std.proofs.Common.{◌+◌, eqb, length, drop, sym, ap, ◌∙◌, arith, rules, tests}
 use Rattle.std.proofs.lemmas.Iterator.Consumers.{YieldsList-turn, YieldsList-end}
 use Rattle.std.proofs.lemmas.Iterator.Splits.{YieldsList-from_slice_split}
 use Rattle.std.proofs.lemmas.List.{length_push, drop_all}
 use Rattle.std.proofs.lemmas.Result.{err_from_is_err_and}
 use Rattle.swift_words.specs.Queries.{pieces_of, pieces_fault}
-use Rattle.swift_words.specs.Sents.{LeadsTo}
 use Rattle.swift_words.proofs.QueryLemmas.{leads_on, sent_at_end, fault_here, fault_later, fault_at_end, next_piece}
 use Rattle.swift_words.proofs.query.parameters.Goals as goal
 

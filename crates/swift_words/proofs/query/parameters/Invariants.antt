@@ -1,6 +1,6 @@
 use Rattle.std.proofs.Common.{◌≡◌, length, drop}
 use Rattle.swift_words.specs.Queries.{pieces_of, pieces_fault}
-use Rattle.swift_words.specs.Sents.{LeadsTo}
+use Rattle.swift_words.specs.SentValues.{LeadsTo}
 use Rattle.swift_words.proofs.query.parameters.Given as goal
 
 abbrev pub invariant-loop-piece : goal.invariant-loop-piece
