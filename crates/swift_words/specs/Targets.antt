@@ -31,7 +31,7 @@ path_part target = before_mark 63 (drop 1 target)
 abbrev pub query_part : List ℕ → List ℕ
 query_part target = after_mark 63 (drop 1 target)
 
--- version, API, account and container end with a slash, and the object has the rest
+-- API, version, account and container end with a slash, and the object has the rest
 abbrev pub parts_of : List ℕ → List (List ℕ)
 parts_of target = parts_within 4 (path_part target)
 

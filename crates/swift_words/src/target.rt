@@ -38,12 +38,13 @@ pub enum Target {
 /// unknown names are dropped. Where `limit` is not sent it is 10000, and a greater one is taken as
 /// 10000; where `format` is not sent it is plain; all else that is not sent is empty.
 ///
-/// The fault is the first of these, and only want of memory may come at any place: `NotPath`; for
-/// each part of the path, `BadEscape` for a `%` without two hexadecimal digits, `BadUtf8` for a word
-/// that is not UTF-8, and, below an account, `BadName` for a name that is not 1 to 256 bytes
-/// (container) or 1 to 1024 bytes (object) without a byte 0; for each name and value of the query,
-/// `BadEscape` and `BadUtf8`; `BadLimit` for a `limit` that is not 1 to 9 digits; `BadFormat` for a
-/// `format` other than `json` and `plain`.
+/// The fault is the first of these, and only want of memory may come at any place: `NotPath` where
+/// no slash stands in front; for each part of the path, also of an unknown one, `BadEscape` for a `%`
+/// without two hexadecimal digits, `BadUtf8` for a word that is not UTF-8, and, below an account,
+/// `BadName` for a name that is not 1 to 256 bytes (container) or 1 to 1024 bytes (object) without a
+/// byte 0; for each name and value of the query, also of unknown ones, `BadEscape` and `BadUtf8`;
+/// `BadLimit` for a `limit` that is not 1 to 9 digits; `BadFormat` for a `format` other than `json`
+/// and `plain`.
 #[tactic(auto, unfolding(crate::specs::Targets::target_fault, crate::specs::Targets::target_of, crate::specs::Targets::asked_by))]
 pub fn read_target(alloc: Global, target: &[u8]) -> Result<(Target, Query), WordFault>
     ensures ok { IfOk result (λ read. (target_fault target.now ≡ None)
