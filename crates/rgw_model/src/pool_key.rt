@@ -1,4 +1,5 @@
 use crate::Text;
+use std::alloc::AllocError;
 use std::marker::Model;
 
 /// The number of a part of an upload, from 1 on, at most 335544319.
@@ -66,4 +67,38 @@ pub enum Key {
     Changes,
     /// How far a peer's changes are taken over.
     Sync { peer: u8 },
+}
+
+impl Key {
+    ghost use Rattle.std.specs.Prelude.{◌≡◌, IfOk};
+
+    /// A copy of its own.
+    pub fn try_clone(&self) -> Result<Key, AllocError>
+        ensures { IfOk result (λ copy. copy ≡ self.now) }
+    {
+        let copy = match self {
+            Key::Root => Key::Root,
+            Key::Shard {
+                container,
+                instance,
+                shard,
+            } => Key::Shard {
+                container: *container,
+                instance: *instance,
+                shard: *shard,
+            },
+            Key::Head { container, name } => Key::Head {
+                container: *container,
+                name: name.try_clone()?,
+            },
+            Key::Tail { write, part } => Key::Tail {
+                write: *write,
+                part: *part,
+            },
+            Key::Queue => Key::Queue,
+            Key::Changes => Key::Changes,
+            Key::Sync { peer } => Key::Sync { peer: *peer },
+        };
+        Ok(copy)
+    }
 }

@@ -1,0 +1,5 @@
+pub mod EntryLemmas
+pub mod FrameSums
+pub mod Keys
+pub mod Lent
+pub mod SlotLemmas

@@ -1,0 +1,5 @@
+pub mod Lending
+pub mod Objects
+pub mod Parts
+pub mod PartsLending
+pub mod Stored
