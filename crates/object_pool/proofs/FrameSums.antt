@@ -10,7 +10,7 @@ use Rattle.rgw_model.specs.declared.pool_key.Key.{Key}
 use Rattle.frame_region.specs.Region.{RegionView, bytes_of}
 use Rattle.object_pool.specs.declared.object.Stored.{Stored}
 use Rattle.object_pool.specs.Objects.{Object, Slots, exists, frames_of, objects, HasFrameSum, PoolView}
-use Rattle.object_pool.specs.Stored.{Entries, object_in, slots_in, IsHeld, AllHeld, IsSound}
+use Rattle.object_pool.specs.Stored.{Entries, object_in, slots_in, is_stored, IsHeld, AllHeld, IsSound}
 
 first_of_both : (a b : Bool) → not (a && b) ≡ false → a ≡ true
 first_of_both true b gone = refl
@@ -67,3 +67,9 @@ view_of region es = record { frame = region.frame; frames = region.frames; free 
 pub frame_sum : (region : RegionView) (frame : ℕ) (es : Entries) → IsSound region frame es → HasFrameSum (view_of region es)
 frame_sum region frame es sound =
     omega (arith, sum_existing region.frame (slots_in region es), sum_counts region es sound.held, sound.sum)
+
+pub exists_is : (region : RegionView) (o : Stored) → IsHeld region o → is_stored o ≡ exists (object_in region o)
+exists_is region o held = ap (λ n. not (n == 0 && (length o.parts.attrs == 0 && length o.parts.rows.rows == 0))) (sym (size_is region o held))
+
+pub same_pool : (p q : PoolView) → p.frame ≡ q.frame → p.frames ≡ q.frames → p.free ≡ q.free → p.slots ≡ q.slots → p ≡ q
+same_pool p q frame frames free slots = λ i. record { frame = frame i; frames = frames i; free = free i; slots = slots i }

@@ -1,5 +1,7 @@
+pub mod Counts
 pub mod EntryLemmas
 pub mod FrameSums
 pub mod Keys
 pub mod Lent
+pub mod Replacements
 pub mod SlotLemmas

@@ -1,5 +1,5 @@
 -- What the entries are, where one is changed.
-use Rattle.std.proofs.Common.{◌≡◌, ℕ, ◌+◌, Bool, true, false, cond, List, [], ◌∷◌, map, sum_by, Some, None, is_some, refl, sym, ◌∙◌, ap, subst, arith}
+use Rattle.std.proofs.Common.{◌≡◌, ℕ, ◌+◌, Bool, true, false, cond, List, [], ◌∷◌, map, sum_by, Some, None, is_some, unwrap_or, refl, sym, ◌∙◌, ap, subst, arith}
 use Rattle.std.specs.List.{AllByRecursion}
 use Rattle.std.specs.Option.{option_map}
 use Rattle.std.specs.Map.{lookup, set_value}
@@ -8,7 +8,7 @@ use Rattle.frame_region.specs.Region.{RegionView}
 use Rattle.object_pool.specs.Parts.{Parts}
 use Rattle.object_pool.specs.declared.object.Stored.{Stored}
 use Rattle.object_pool.specs.Stored.{Entries, object_in, slots_in, IsHeld, AreApart, AllApart, AllHeld, IsSound}
-use Rattle.object_pool.specs.Objects.{Slots}
+use Rattle.object_pool.specs.Objects.{Slots, is_key, nothing, slot_at}
 use Rattle.object_pool.proofs.EntryLemmas.{lookup_map, set_value_map, all_at, all_set, sum_set}
 
 module _ (test : Key → Bool) (o w : Stored) where
@@ -61,3 +61,23 @@ entry_there region es slots test same there =
       | None ↦ λ no. no
       | Some x ↦ λ _. refl
     ] mapped
+
+-- what is found in the entries is kept at the key
+pub slot_there : (region : RegionView) (es : Entries) (slots : Slots) (key : Key) (o : Stored) → slots_in region es ≡ slots → lookup (is_key key) es ≡ Some o → slot_at slots key ≡ object_in region o
+slot_there region es slots key o same found =
+    ap (λ z. slot_at z key) (sym same) ∙ ap (λ z. unwrap_or z nothing) (lookup_map (is_key key) (object_in region) es ∙ ap (λ z. option_map (object_in region) z) found)
+
+pub slot_absent : (region : RegionView) (es : Entries) (slots : Slots) (key : Key) → slots_in region es ≡ slots → lookup (is_key key) es ≡ None → slot_at slots key ≡ nothing
+slot_absent region es slots key same none =
+    ap (λ z. slot_at z key) (sym same) ∙ ap (λ z. unwrap_or z nothing) (lookup_map (is_key key) (object_in region) es ∙ ap (λ z. option_map (object_in region) z) none)
+
+pub kept_or_not : (region : RegionView) (es : Entries) (slots : Slots) (test : Key → Bool) → slots_in region es ≡ slots → is_some (lookup test es) ≡ is_some (lookup test slots)
+kept_or_not region es slots test same =
+    let mapped : is_some (option_map (object_in region) (lookup test es)) ≡ is_some (lookup test slots) = ap is_some (sym (lookup_map test (object_in region) es) ∙ ap (lookup test) same) in
+    elim (lookup test es) as (λ o. is_some (option_map (object_in region) o) ≡ is_some (lookup test slots) → is_some o ≡ is_some (lookup test slots)) [
+      | None ↦ λ no. no
+      | Some x ↦ λ yes. yes
+    ] mapped
+
+pub held_of : (region : RegionView) (frame : ℕ) (es : Entries) (test : Key → Bool) (o : Stored) → IsSound region frame es → lookup test es ≡ Some o → IsHeld region o
+held_of region frame es test o sound found = all_at test (λ f. IsHeld region f) es o sound.held found

@@ -1,4 +1,4 @@
-ghost use Rattle.std.specs.Prelude.{◌≡◌, Some, is_some, true};
+ghost use Rattle.std.specs.Prelude.{◌≡◌, Some, IsSome};
 ghost use Rattle.std.specs.Map.{lookup};
 ghost use Rattle.object_pool.specs.Objects.{is_key};
 
@@ -8,7 +8,7 @@ use std::collections::BTreeMap;
 
 // What is kept under a key that has something.
 pub(crate) fn stored_at<'a>(objects: &'a BTreeMap<Key, Stored>, key: &Key) -> &'a Stored
-    requires { is_some (lookup (is_key key.now) objects.now.entries) ≡ true }
+    requires { IsSome (lookup (is_key key.now) objects.now.entries) }
     ensures { lookup (is_key key.now) objects.now.entries ≡ Some result.now }
 {
     objects.get(key).unwrap()

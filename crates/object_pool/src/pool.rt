@@ -1,4 +1,4 @@
-ghost use Rattle.std.specs.Prelude.{◌≡◌, ◌↔◌, ◌+◌, ◌-◌, ◌^◌, ◌<◌, ◌≤◌, [], IfOk, IfErr, OnOk, OnErr, IsErr, is_some, true, false, min, length, take, drop};
+ghost use Rattle.std.specs.Prelude.{◌≡◌, ◌↔◌, ◌+◌, ◌-◌, ◌^◌, ◌<◌, ◌≤◌, [], IfOk, IfErr, OnOk, OnErr, IsErr, IsSome, IsNone, is_some, false, min, length, take, drop};
 ghost use Rattle.std.specs.Borrow.{sem};
 ghost use Rattle.std.specs.Int.{div_ceil};
 ghost use Rattle.std.specs.Map.{lookup};
@@ -96,7 +96,7 @@ impl Pool {
     // Makes a place for the key of an object that does not exist, with nothing in it.
     pub(crate) fn make_place(&mut self, alloc: Global, key: &Key) -> Result<(), OutOfMemory>
         requires { exists (slot_at self.old.slots key.now) ≡ false }
-        ensures there { OnOk result (is_some (lookup (is_key key.now) self.new.slots) ≡ true) }
+        ensures there { OnOk result (IsSome (lookup (is_key key.now) self.new.slots)) }
         ensures ok { OnOk result (slot_at self.new.slots key.now ≡ nothing) }
         ensures objects { objects self.new ≡ objects self.old }
         ensures all { KeepsAll self.old self.new }
@@ -122,7 +122,7 @@ impl Pool {
 
     // Keeps nothing under a new key.
     fn insert(&mut self, alloc: Global, key: &Key) -> Result<(), OutOfMemory>
-        requires { is_some (lookup (is_key key.now) self.old.slots) ≡ false }
+        requires { IsNone (lookup (is_key key.now) self.old.slots) }
         ensures ok { OnOk result (self.new ≡ record self.old { slots = insert_entry key_cmp self.old.slots key.now nothing }) }
         ensures err { OnErr result (self.new ≡ self.old) }
     {
@@ -135,7 +135,7 @@ impl Pool {
 
     // The attributes and the rows at a key, to change them.
     pub(crate) fn parts_mut(&mut self, key: &Key) -> &mut ObjectParts
-        requires { is_some (lookup (is_key key.now) self.old.slots) ≡ true }
+        requires { IsSome (lookup (is_key key.now) self.old.slots) }
         ensures* lends { sem 𝓛 (LendsParts self.entry key.now result) }
         ensures attrs { result.now.attrs ≡ (slot_at self.old.slots key.now).attrs }
         ensures rows { result.now.rows ≡ (slot_at self.old.slots key.now).rows }
@@ -146,7 +146,7 @@ impl Pool {
 
     // The attributes and the rows at a key.
     pub(crate) fn parts(&self, key: &Key) -> &ObjectParts
-        requires { is_some (lookup (is_key key.now) self.now.slots) ≡ true }
+        requires { IsSome (lookup (is_key key.now) self.now.slots) }
         ensures attrs { result.now.attrs ≡ (slot_at self.now.slots key.now).attrs }
         ensures rows { result.now.rows ≡ (slot_at self.now.slots key.now).rows }
     {
@@ -155,7 +155,7 @@ impl Pool {
 
     // How many bytes are at a key.
     pub(crate) fn size(&self, key: &Key) -> u64
-        requires { is_some (lookup (is_key key.now) self.now.slots) ≡ true }
+        requires { IsSome (lookup (is_key key.now) self.now.slots) }
         ensures { result ≡ length (slot_at self.now.slots key.now).bytes }
     {
         stored_at(&self.objects, key).size
@@ -169,7 +169,7 @@ impl Pool {
         start: u64,
         count: u64,
     ) -> Result<Bytes, OutOfMemory>
-        requires { is_some (lookup (is_key key.now) self.now.slots) ≡ true }
+        requires { IsSome (lookup (is_key key.now) self.now.slots) }
         ensures { IfOk result (λ bytes. bytes ≡ take count (drop start (slot_at self.now.slots key.now).bytes)) }
     {
         let object = stored_at(&self.objects, key);
@@ -183,7 +183,7 @@ impl Pool {
 
     // Puts bytes in the place of those at a key.
     pub(crate) fn put_bytes(&mut self, key: &Key, bytes: &[u8]) -> Result<(), NoSpace>
-        requires { is_some (lookup (is_key key.now) self.old.slots) ≡ true }
+        requires { IsSome (lookup (is_key key.now) self.old.slots) }
         ensures refused { IsErr result ↔ (self.old.free < div_ceil (length bytes.now) self.old.frame) }
         ensures told { IfErr result (λ e. e ≡ record { free = self.old.free; needed = min (div_ceil (length bytes.now) self.old.frame) (2 ^ 32 - 1) }) }
         ensures err { OnErr result (self.new ≡ self.old) }
