@@ -12,7 +12,7 @@ use Rattle.object_pool.specs.declared.object.Stored.{Stored}
 use Rattle.object_pool.specs.Objects.{Object, Slots, exists, frames_of, objects, HasFrameSum, PoolView}
 use Rattle.object_pool.specs.Stored.{Entries, object_in, slots_in, is_stored, IsHeld, AllHeld, IsSound}
 
-first_of_both : (a b : Bool) → not (a && b) ≡ false → a ≡ true
+pub first_of_both : (a b : Bool) → not (a && b) ≡ false → a ≡ true
 first_of_both true b gone = refl
 first_of_both false b gone = absurd (let bad : true ≡ false = gone in cc)
 

@@ -1,7 +1,9 @@
 pub mod Counts
 pub mod EntryLemmas
 pub mod FrameSums
+pub mod Insertions
 pub mod Keys
 pub mod Lent
 pub mod Replacements
 pub mod SlotLemmas
+pub mod Sweeps

@@ -1,13 +1,15 @@
 -- What a pool is where the run of one object is replaced.
 use Rattle.std.proofs.Common.{◌≡◌, ℕ, ◌+◌, ◌*◌, ◌<◌, ◌≤◌, Bool, true, false, cond, List, [], ◌∷◌, ◌++◌, length, take, drop, map, Some, None, refl, sym, ◌∙◌, ap, ap₂, subst, arith}
 use Rattle.std.specs.List.{AllByRecursion}
+use Rattle.std.specs.List.Sorted.{IsStrictlySortedBy}
 use Rattle.std.specs.Int.{div_ceil}
+use Rattle.std.proofs.lemmas.Map.{keys-set_value}
 use Rattle.std.specs.Map.{lookup, set_value}
 use Rattle.std.proofs.lemmas.Grind.{div_ceil_times}
 use Rattle.rgw_model.specs.declared.pool_key.Key.{Key}
 use Rattle.frame_region.specs.Region.{Run, RegionView, bytes_of, Owns, Apart, Keeps, overwritten}
 use Rattle.object_pool.specs.declared.object.Stored.{Stored}
-use Rattle.object_pool.specs.Objects.{Object}
+use Rattle.object_pool.specs.Objects.{Object, key_cmp}
 use Rattle.object_pool.specs.Stored.{Entries, object_in, slots_in, IsHeld, AreApart, AllApart, AllHeld, IsSound}
 use Rattle.object_pool.proofs.EntryLemmas.{all_at, sum_set}
 use Rattle.object_pool.proofs.SlotLemmas.{apart_set}
@@ -86,6 +88,7 @@ module _ (old new : RegionView) (frame : ℕ) (es : Entries) (sound : IsSound ol
         not_too_many = let same = replaces.frames in omega (arith, same, sound.not_too_many);
         held = held_set test o stored (λ f. IsHeld old f) (λ f. IsHeld new f) keeps_held holds_new es sound.held sound.apart found;
         apart = apart_set test o stored (λ f. IsHeld old f) (λ f held a. replaces.apart f.run held.owned) es sound.held sound.apart found;
+        in_order = subst (IsStrictlySortedBy key_cmp) (sym (keys-set_value test es stored)) sound.in_order;
         sum = omega (arith, more, sound.sum, replaces.free, replaces.frames);
       }
 

@@ -1,14 +1,16 @@
 -- What the entries are, where one is changed.
 use Rattle.std.proofs.Common.{◌≡◌, ℕ, ◌+◌, Bool, true, false, cond, List, [], ◌∷◌, map, sum_by, Some, None, is_some, unwrap_or, refl, sym, ◌∙◌, ap, subst, arith}
 use Rattle.std.specs.List.{AllByRecursion}
+use Rattle.std.specs.List.Sorted.{IsStrictlySortedBy}
 use Rattle.std.specs.Option.{option_map}
+use Rattle.std.proofs.lemmas.Map.{keys-set_value}
 use Rattle.std.specs.Map.{lookup, set_value}
 use Rattle.rgw_model.specs.declared.pool_key.Key.{Key}
 use Rattle.frame_region.specs.Region.{RegionView}
 use Rattle.object_pool.specs.Parts.{Parts}
 use Rattle.object_pool.specs.declared.object.Stored.{Stored}
 use Rattle.object_pool.specs.Stored.{Entries, object_in, slots_in, IsHeld, AreApart, AllApart, AllHeld, IsSound}
-use Rattle.object_pool.specs.Objects.{Slots, is_key, nothing, slot_at}
+use Rattle.object_pool.specs.Objects.{key_cmp, Slots, is_key, nothing, slot_at}
 use Rattle.object_pool.proofs.EntryLemmas.{lookup_map, set_value_map, all_at, all_set, sum_set}
 
 module _ (test : Key → Bool) (o w : Stored) where
@@ -48,6 +50,7 @@ module _ (region : RegionView) (frame : ℕ) (es : Entries) (sound : IsSound reg
         not_too_many = sound.not_too_many;
         held = all_set test (λ f. IsHeld region f) es new sound.held (record { owned = held_there.owned; fits = held_there.fits; count = held_there.count });
         apart = apart_set test o new (λ f. IsHeld region f) (λ f h a. a) es sound.held sound.apart found;
+        in_order = subst (IsStrictlySortedBy key_cmp) (sym (keys-set_value test es new)) sound.in_order;
         sum = omega (arith, more, sound.sum);
       }
 

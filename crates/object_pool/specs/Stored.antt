@@ -1,11 +1,13 @@
 -- How a pool keeps its objects. No public clause cites this module.
 use Rattle.std.specs.Prelude.{◌≡◌, ℕ, ◌+◌, ◌*◌, ◌≤◌, Bool, not, ◌&&◌, ◌==◌, length, List, [], ◌∷◌, map, take, sum_by}
 use Rattle.std.specs.List.{AllByRecursion}
+use Rattle.std.specs.List.Sorted.{IsStrictlySortedBy}
+use Rattle.std.specs.Map.{keys_of}
 use Rattle.std.specs.Int.{div_ceil}
 use Rattle.rgw_model.specs.declared.pool_key.Key.{Key}
 use Rattle.frame_region.specs.Region.{RegionView, bytes_of, Owns, Apart}
 use Rattle.object_pool.specs.declared.object.Stored.{Stored}
-use Rattle.object_pool.specs.Objects.{Object, Slots}
+use Rattle.object_pool.specs.Objects.{Object, Slots, key_cmp}
 
 abbrev pub Entries : Type 0
 Entries = List (Key × Stored)
@@ -44,4 +46,5 @@ pub record IsSound (region : RegionView) (frame : ℕ) (entries : Entries) : Typ
   pub not_too_many : region.frames ≤ 4194304
   pub held : AllHeld region entries
   pub apart : AllApart entries
+  pub in_order : IsStrictlySortedBy key_cmp (keys_of entries)
   pub sum : region.free + sum_by (λ e. e.1.run.count) entries ≡ region.frames

@@ -1,4 +1,5 @@
-use Rattle.std.proofs.Common.{◌≡◌, ℕ, ◌+◌, ◌-◌, ◌≤◌, ap, sym, length, min, take, drop, ◌∙◌, arith}
+use Rattle.std.proofs.Common.{◌≡◌, ℕ, ◌+◌, ◌-◌, ◌≤◌, ap, sym, length, ◌++◌, take, drop, ◌∙◌, arith}
+use Rattle.frame_region.specs.Region.{bytes_of}
 use Rattle.object_pool.specs.Objects.{is_key}
 use Rattle.object_pool.specs.Stored.{IsHeld}
 use Rattle.object_pool.proofs.Counts.{part_of_size}
@@ -22,10 +23,12 @@ pub returns : goal.returns
 returns c =
     let held = held_of c.self.inside.region _ _ (is_key c.args.key.now) _ c.self.invariant c.stored_at-object.ensures in
     let kept = slot_there c.self.inside.region _ _ c.args.key.now _ (ap (λ p. p.slots) c.self.view_is) c.stored_at-object.ensures in
-    let a = c.min-first.ensures in
-    let b = c.min-length.ensures in
-    let d = c.in_ok-bytes.ensures.len in
-    let e = c.from_vec.ensures in
-    let f = c.read.ensures in
-    let g = ap length c.as_mut_slice.ensures.value in
-    ?
+    let region = c.self.inside.region in
+    let o = c.stored_at-object.result.now in
+    let fits : o.size ≤ length (bytes_of region o.run) = omega (arith, held.owned.sized, held.fits) in
+    let slice = ap length c.as_mut_slice.ensures.value in
+    let len : length c.in_ok-bytes.bytes.items ≡ c.min-length.result = sym slice ∙ (c.as_mut_slice.ensures.len ∙ c.in_ok-bytes.ensures.len) in
+    let read : c.read.new.out ≡ take c.min-length.result (drop c.min-first.result (bytes_of region o.run)) = c.read.ensures ∙ ap (λ n. take n (drop c.min-first.result (bytes_of region o.run))) (slice ∙ len) in
+    let given : c.from_vec.result ≡ take c.min-length.result (c.read.new.out ++ drop (length c.read.new.out) c.in_ok-bytes.bytes.items) = c.from_vec.ensures ∙ ap (λ n. take n (c.read.new.out ++ drop (length c.read.new.out) c.in_ok-bytes.bytes.items)) c.in_ok-bytes.ensures.len in
+    part_of_size (bytes_of region o.run) o.size c.args.start c.args.count c.min-first.result c.min-length.result c.read.new.out c.in_ok-bytes.bytes.items c.from_vec.result fits c.min-first.ensures c.min-length.ensures len read given
+    ∙ ap (λ z. take c.args.count (drop c.args.start z.bytes)) (sym kept)

@@ -1,5 +1,5 @@
-use Rattle.std.proofs.Common.{◌≡◌, ℕ, [], ap, subst, arith, sym, ◌∙◌}
-use Rattle.object_pool.specs.Stored.{Entries, IsSound, AllApart}
+use Rattle.std.proofs.Common.{◌≡◌, ℕ, ◌+◌, [], sum_by, ap, subst, arith, sym, ◌∙◌}
+use Rattle.object_pool.specs.Stored.{Entries, AllHeld, AllApart}
 use Rattle.object_pool.proofs.pool.Pool.new.Goals as goal
 
 no_entries_apart : AllApart []
@@ -13,13 +13,14 @@ invariant_of-result c =
     let frame : region.frame ≡ c.args.frame = ap (λ r. r.frame) is in
     let frames : region.frames ≡ c.args.frames = ap (λ r. r.frames) is in
     let free : region.free ≡ c.args.frames = ap (λ r. r.free) is in
-    let P : Entries → Type 0 = λ es. IsSound region c.args.frame es in
-    subst P (sym c.new-2.ensures.empty) (record {
+    let none : c.new-2.result.entries ≡ [] = c.new-2.ensures.empty in
+    record {
       frame_is = frame;
       not_too_small = c.requires.not_too_small;
       not_too_large = c.requires.not_too_large;
       not_too_many = omega (arith, frames, c.requires.not_too_many);
-      held = tt;
-      apart = no_entries_apart;
-      sum = omega (arith, frames, free);
-    })
+      held = subst (λ es. AllHeld region es) (sym none) tt;
+      apart = subst (λ es. AllApart es) (sym none) no_entries_apart;
+      in_order = c.new-2.ensures.ordered;
+      sum = subst (λ es. region.free + sum_by (λ e. e.1.run.count) es ≡ region.frames) (sym none) (omega (arith, frames, free));
+    }
