@@ -25,7 +25,7 @@ no_frames frame o gone =
     let at_none : div_ceil 0 frame ≡ 0 = omega (arith, quotient, rest) in
     ap (λ n. div_ceil n frame) none ∙ at_none
 
-sum_existing : (frame : ℕ) (slots : Slots) → sum_by (λ e. frames_of frame e.1) (filter (λ e. exists e.1) slots) ≡ sum_by (λ e. frames_of frame e.1) slots
+pub sum_existing : (frame : ℕ) (slots : Slots) → sum_by (λ e. frames_of frame e.1) (filter (λ e. exists e.1) slots) ≡ sum_by (λ e. frames_of frame e.1) slots
 sum_existing frame [] = refl
 sum_existing frame (e ∷ es) =
     let F : Key × Object → ℕ = λ e. frames_of frame e.1 in

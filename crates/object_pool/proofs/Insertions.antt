@@ -1,9 +1,10 @@
 -- What a pool is where nothing is kept under a new key.
-use Rattle.std.proofs.Common.{◌≡◌, ℕ, ◌+◌, ◌*◌, ◌≤◌, Bool, true, false, cond, List, [], ◌∷◌, take, length, map, sum_by, Some, None, IsNone, is_some, refl, sym, ◌∙◌, ap, ap₂, subst, arith}
+use Rattle.std.proofs.Common.{◌≡◌, ℕ, ◌+◌, ◌*◌, ◌≤◌, Bool, true, false, cond, List, [], ◌∷◌, take, length, map, sum_by, Option, Some, None, unwrap_or, IsNone, is_some, Result, Ok, Err, IfOk, OnOk, refl, sym, ◌∙◌, ap, ap₂, subst, arith}
 use Rattle.std.specs.List.{AllByRecursion, filter}
 use Rattle.std.specs.List.Sorted.{IsStrictlySortedBy}
 use Rattle.std.specs.Int.{div_ceil}
 use Rattle.std.specs.Map.{lookup, keys_of}
+use Rattle.std.specs.Option.{option_map}
 use Rattle.std.specs.BTreeMap.{insert_entry}
 use Rattle.std.specs.declared.cmp.Ordering.{Ordering}
 use Rattle.std.specs.declared.cmp.Ordering.TheVariants.{Less, Equal, Greater}
@@ -14,8 +15,11 @@ use Rattle.rgw_model.specs.declared.pool_key.Key.{Key}
 use Rattle.frame_region.specs.Region.{Run, RegionView, Owns, Apart, AddsRun}
 use Rattle.object_pool.specs.declared.object.Stored.{Stored}
 use Rattle.object_pool.specs.Parts.{no_parts}
-use Rattle.object_pool.specs.Objects.{Object, Slots, exists, is_key, key_cmp, nothing}
+use Rattle.object_pool.specs.Objects.{Object, Slots, exists, is_key, key_cmp, nothing, settled, slot_at}
 use Rattle.object_pool.specs.Stored.{Entries, object_in, slots_in, IsHeld, AreApart, AllApart, AllHeld, IsSound}
+use Rattle.object_pool.proofs.EntryLemmas.{lookup_map}
+use Rattle.object_pool.proofs.Keys.{same_key}
+use Rattle.object_pool.proofs.SlotLemmas.{slot_absent}
 
 module _ (k : Key) where
   all_insert : {X : Type 0} (P : X → Type 0) (v : X) (es : List (Key × X)) → P v → AllByRecursion (λ e. P e.1) es → AllByRecursion (λ e. P e.1) (insert_entry key_cmp es k v)
@@ -144,3 +148,26 @@ module _ (old new : RegionView) (frame : ℕ) (es : Entries) (sound : IsSound ol
 
   pub inserted_view : (k : Key) → slots_in new (insert_entry key_cmp es k stored) ≡ insert_entry key_cmp (slots_in old es) k nothing
   inserted_view k = map_insert k (object_in new) stored es ∙ ap (λ z. insert_entry key_cmp z k nothing) added_view
+
+pub adds_from : {E : Type 0} (old new : RegionView) (result : Result Run E) (run : Run) → result ≡ Ok run → IfOk result (λ r. r.count ≡ 0) → IfOk result (λ r. Owns new r) → IfOk result (λ r. AddsRun old new r) → OnOk result (new.free + 0 ≡ old.free) → new.frame ≡ old.frame → new.frames ≡ old.frames → Adds old new run
+adds_from old new (Ok r) run is count owned adds free frame frames =
+    let same : r ≡ run = cc in
+    record { frame = frame; frames = frames; free = omega (arith, free); count = subst (λ z. z.count ≡ 0) same count; owned = subst (λ z. Owns new z) same owned; adds = subst (λ z. AddsRun old new z) same adds }
+adds_from old new (Err e) run is count owned adds free frame frames = absurd cc
+
+none_is : {X : Type 0} (o : Option X) → IsNone o → o ≡ None
+none_is None h = refl
+none_is (Some x) h = absurd (let no : true ≡ false = h in cc)
+
+-- no object is another one, where nothing is kept under a new key
+pub inserted_same : (old new : RegionView) (es more : Entries) (k : Key) (v : Stored) → object_in new v ≡ nothing → ((q : Key) → lookup (is_key q) more ≡ cond (is_key k q) (Some v) (lookup (is_key q) es)) → IsNone (lookup (is_key k) es) → slots_in new es ≡ slots_in old es
+    → (q : Key) → settled (slot_at (slots_in new more) q) ≡ settled (slot_at (slots_in old es) q)
+inserted_same old new es more k v empty found none same q =
+    let mapped : lookup (is_key q) (slots_in new more) ≡ option_map (object_in new) (cond (is_key k q) (Some v) (lookup (is_key q) es)) = lookup_map (is_key q) (object_in new) more ∙ ap (option_map (object_in new)) (found q) in
+    let S : _ → Object = λ o. settled (unwrap_or o nothing) in
+    ap S mapped ∙ elim (is_key k q) as (λ b. is_key k q ≡ b → S (option_map (object_in new) (cond b (Some v) (lookup (is_key q) es))) ≡ S (lookup (is_key q) (slots_in old es))) [
+      | true ↦ λ here.
+          let gone : lookup (is_key q) es ≡ None = subst (λ z. lookup (is_key z) es ≡ None) (same_key k q here) (none_is _ none) in
+          ap settled empty ∙ ap settled (sym (slot_absent old es (slots_in old es) q refl gone))
+      | false ↦ λ _. ap S (sym (lookup_map (is_key q) (object_in new) es) ∙ ap (lookup (is_key q)) same)
+    ] refl

@@ -1,5 +1,5 @@
 -- Keys that compare as equal are the same.
-use Rattle.std.proofs.Common.{◌≡◌, ◌≢◌, ℕ, Bool, true, false, List, refl, sym, ◌∙◌, ap, ap₂}
+use Rattle.std.proofs.Common.{◌≡◌, ◌≢◌, ℕ, Bool, true, false, List, refl, sym, ◌∙◌, ap, ap₂, subst}
 use Rattle.std.specs.declared.cmp.Ordering.{Ordering}
 use Rattle.std.specs.declared.cmp.Ordering.TheVariants.{Less, Equal, Greater}
 use Rattle.std.specs.Ordering.{is_eq, nat_cmp, ordering_then}
@@ -86,3 +86,10 @@ same_key (Sync p) (Sync p') here =
 -- no key is both of two that differ
 pub keys_apart : (k q : Key) → q ≢ k → (x : Key) → is_key k x ≡ true → is_key q x ≡ false
 keys_apart k q differs x here = false_from_ne_true _ (λ there. differs (same_key q x there ∙ sym (same_key k x here)))
+
+-- and none is both of two that compare as different
+pub keys_apart_by : (k q : Key) → is_key k q ≡ false → (x : Key) → is_key k x ≡ true → is_key q x ≡ false
+keys_apart_by k q other x here = false_from_ne_true _ (λ there.
+    let both : is_key k q ≡ true = subst (λ z. is_key k z ≡ true) (sym (same_key q x there)) here in
+    let no : false ≡ true = sym other ∙ both in
+    absurd cc)

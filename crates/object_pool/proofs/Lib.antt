@@ -7,3 +7,4 @@ pub mod Lent
 pub mod Replacements
 pub mod SlotLemmas
 pub mod Sweeps
+pub mod Touches

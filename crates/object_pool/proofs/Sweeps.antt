@@ -1,5 +1,5 @@
 -- What is left where the objects that do not exist are forgotten.
-use Rattle.std.proofs.Common.{◌≡◌, ℕ, ◌+◌, ◌==◌, ◌&&◌, not, Bool, true, false, cond, List, [], ◌∷◌, length, map, sum_by, Some, None, unwrap_or, if◌then◌else◌, refl, sym, ◌∙◌, ap, ap₂, subst, arith}
+use Rattle.std.proofs.Common.{◌≡◌, ℕ, ◌+◌, ◌==◌, ◌&&◌, not, Bool, true, false, cond, List, [], ◌∷◌, length, map, sum_by, Some, None, IsNone, is_some, unwrap_or, if◌then◌else◌, refl, sym, ◌∙◌, ap, ap₂, subst, arith}
 use Rattle.std.specs.List.{AllByRecursion, filter}
 use Rattle.std.specs.List.Sorted.{IsStrictlySortedBy}
 use Rattle.std.specs.Int.{div_ceil}
@@ -116,3 +116,26 @@ swept_same region key (e ∷ es) sorted held =
             | false ↦ λ _. more
           ] refl
     ] refl
+
+-- the same filter once more changes nothing
+pub filter_twice : {X : Type 0} (p : X → Bool) (xs : List X) → filter p (filter p xs) ≡ filter p xs
+filter_twice p [] = refl
+filter_twice p (x ∷ xs) =
+    elim (p x) as (λ b. p x ≡ b → filter p (cond b (x ∷ filter p xs) (filter p xs)) ≡ cond b (x ∷ filter p xs) (filter p xs)) [
+      | true ↦ λ is. ap (λ b. cond b (x ∷ filter p (filter p xs)) (filter p (filter p xs))) is ∙ ap (λ z. x ∷ z) (filter_twice p xs)
+      | false ↦ λ _. filter_twice p xs
+    ] refl
+
+-- what is not found is not found in a part
+pub absent_still : {X : Type 0} (test : Key → Bool) (p : Key × X → Bool) (es : List (Key × X)) → IsNone (lookup test es) → IsNone (lookup test (filter p es))
+absent_still test p [] none = none
+absent_still test p (e ∷ es) none =
+    elim (test e.0) as (λ t. test e.0 ≡ t → IsNone (cond t (Some e.1) (lookup test es)) → IsNone (lookup test (cond (p e) (e ∷ filter p es) (filter p es)))) [
+      | true ↦ λ _ bad. absurd (let no : true ≡ false = bad in cc)
+      | false ↦ λ not_here later.
+          let more = absent_still test p es later in
+          elim (p e) as (λ b. IsNone (lookup test (cond b (e ∷ filter p es) (filter p es)))) [
+            | true ↦ ap (λ t. is_some (cond t (Some e.1) (lookup test (filter p es)))) not_here ∙ more
+            | false ↦ more
+          ]
+    ] refl none

@@ -2,4 +2,5 @@ pub mod Lending
 pub mod Objects
 pub mod Parts
 pub mod PartsLending
+pub mod Places
 pub mod Stored

@@ -28,6 +28,10 @@ exists object = not (length object.bytes == 0 && (length object.attrs == 0 && le
 abbrev pub settled : Object → Object
 settled object = if exists object then object else nothing
 
+-- the object with no bytes, attributes and rows, and with the spare rows that it had
+abbrev pub dropped : Object → Object
+dropped object = record { bytes = []; attrs = []; rows = record { rows = []; rooms = []; spare = object.rows.spare } }
+
 -- how many frames its bytes take
 abbrev pub frames_of : ℕ → Object → ℕ
 frames_of frame object = div_ceil (length object.bytes) frame

@@ -1,9 +1,9 @@
-ghost use Rattle.std.specs.Prelude.{◌≡◌, ◌↔◌, ◌+◌, ◌-◌, ◌^◌, ◌<◌, ◌≤◌, [], IfOk, IfErr, OnOk, OnErr, IsErr, IsSome, IsNone, is_some, false, min, length, take, drop};
+ghost use Rattle.std.specs.Prelude.{◌≡◌, ◌↔◌, ◌+◌, ◌-◌, ◌^◌, ◌<◌, ◌≤◌, [], IfOk, IfErr, OnOk, OnErr, IsErr, IsTrue, IsSome, IsNone, is_some, false, min, length, take, drop};
 ghost use Rattle.std.specs.Borrow.{sem};
 ghost use Rattle.std.specs.Int.{div_ceil};
 ghost use Rattle.std.specs.Map.{lookup};
-ghost use Rattle.std.specs.BTreeMap.{insert_entry};
-ghost use Rattle.object_pool.specs.Objects.{HasFrameSum, KeepsAll, KeepsCounts, exists, frames_of, is_key, key_cmp, nothing, objects, slot_at, with_object};
+ghost use Rattle.rgw_model.specs.declared.pool_key.Key.{Key as KeyOf};
+ghost use Rattle.object_pool.specs.Objects.{HasFrameSum, KeepsAll, KeepsCounts, dropped, exists, frames_of, is_key, nothing, object_at, objects, slot_at, with_object};
 ghost use Rattle.object_pool.specs.Lending.{LendsParts};
 
 use crate::error::NoSpace;
@@ -85,7 +85,9 @@ impl Pool {
 
     // Whether the object exists.
     pub(crate) fn has_object(&self, key: &Key) -> bool
-        ensures { result ≡ exists (slot_at self.now.slots key.now) }
+        ensures value { result ≡ exists (slot_at self.now.slots key.now) }
+        ensures there { IsTrue result → IsSome (lookup (is_key key.now) self.now.slots) }
+        ensures sum { HasFrameSum self.now }
     {
         match self.objects.get(key) {
             Some(object) => object.exists(),
@@ -93,14 +95,30 @@ impl Pool {
         }
     }
 
+    // Keeps something under the key: the object, or nothing where it does not exist.
+    pub(crate) fn make_ready(&mut self, alloc: Global, key: &Key) -> Result<(), OutOfMemory>
+        ensures there { OnOk result (IsSome (lookup (is_key key.now) self.new.slots)) }
+        ensures object { OnOk result (slot_at self.new.slots key.now ≡ object_at self.old key.now) }
+        ensures objects { objects self.new ≡ objects self.old }
+        ensures all { KeepsAll self.old self.new }
+        ensures counts { KeepsCounts self.old self.new }
+        ensures sum { HasFrameSum self.new }
+    {
+        if self.has_object(key) {
+            return Ok(());
+        }
+        self.make_place(alloc, key)
+    }
+
     // Makes a place for the key of an object that does not exist, with nothing in it.
-    pub(crate) fn make_place(&mut self, alloc: Global, key: &Key) -> Result<(), OutOfMemory>
+    fn make_place(&mut self, alloc: Global, key: &Key) -> Result<(), OutOfMemory>
         requires { exists (slot_at self.old.slots key.now) ≡ false }
         ensures there { OnOk result (IsSome (lookup (is_key key.now) self.new.slots)) }
         ensures ok { OnOk result (slot_at self.new.slots key.now ≡ nothing) }
         ensures objects { objects self.new ≡ objects self.old }
         ensures all { KeepsAll self.old self.new }
         ensures counts { KeepsCounts self.old self.new }
+        ensures sum { HasFrameSum self.old → HasFrameSum self.new }
     {
         if self.is_kept(key) {
             *self.parts_mut(key) = ObjectParts::new(alloc)?;
@@ -114,7 +132,10 @@ impl Pool {
 
     // Forgets what is kept for objects that do not exist.
     fn forget_emptied(&mut self)
-        ensures { self.new ≡ record self.old { slots = objects self.old } }
+        ensures objects { objects self.new ≡ objects self.old }
+        ensures all { KeepsAll self.old self.new }
+        ensures counts { KeepsCounts self.old self.new }
+        ensures absent { (k : KeyOf) → IsNone (lookup (is_key k) self.old.slots) → IsNone (lookup (is_key k) self.new.slots) }
     {
         self.objects.retain(|_key, object| object.exists());
         self.sweep.note(self.objects.len());
@@ -123,8 +144,11 @@ impl Pool {
     // Keeps nothing under a new key.
     fn insert(&mut self, alloc: Global, key: &Key) -> Result<(), OutOfMemory>
         requires { IsNone (lookup (is_key key.now) self.old.slots) }
-        ensures ok { OnOk result (self.new ≡ record self.old { slots = insert_entry key_cmp self.old.slots key.now nothing }) }
-        ensures err { OnErr result (self.new ≡ self.old) }
+        ensures there { OnOk result (IsSome (lookup (is_key key.now) self.new.slots)) }
+        ensures ok { OnOk result (slot_at self.new.slots key.now ≡ nothing) }
+        ensures objects { objects self.new ≡ objects self.old }
+        ensures all { KeepsAll self.old self.new }
+        ensures counts { KeepsCounts self.old self.new }
     {
         let key = key.try_clone()?;
         let parts = ObjectParts::new(alloc)?;
@@ -207,5 +231,16 @@ impl Pool {
         let old = replace(&mut object.run, run);
         self.region.give(old);
         Ok(())
+    }
+
+    // Drops the bytes, the attributes and the rows at a key. Spare rows stay.
+    pub(crate) fn drop_object(&mut self, key: &Key)
+        requires { IsSome (lookup (is_key key.now) self.old.slots) }
+        ensures after { self.new ≡ with_object self.old key.now (dropped (slot_at self.old.slots key.now))
+            (self.old.free + frames_of self.old.frame (slot_at self.old.slots key.now)) }
+        ensures sum { HasFrameSum self.old → HasFrameSum self.new }
+    {
+        let _ = self.put_bytes(key, &[]);
+        self.parts_mut(key).clear();
     }
 }
