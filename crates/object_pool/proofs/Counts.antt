@@ -30,10 +30,10 @@ part_of_size bytes size start count first len out items result fits is_first is_
     let whole : result ≡ out = given ∙ (ap (λ n. take n (out ++ drop (length out) items)) (sym out_len) ∙ take-append_seam out (drop (length out) items)) in
     let rest = drop first bytes in
     let tail : drop start (take size bytes) ≡ take (size - first) rest =
-        clipped bytes size start first fits is_first ∙ (ap (λ n. drop first (take n bytes)) (omega (arith, is_first)) ∙ drop-take first (size - first) bytes) in
+    clipped bytes size start first fits is_first ∙ (ap (λ n. drop first (take n bytes)) (omega (arith, is_first)) ∙ drop-take first (size - first) bytes) in
     let tail_len : length (take (size - first) rest) ≡ size - first = length-take-le (size - first) rest (omega (arith, length-drop first bytes, fits, is_first)) in
     let shorter : take count (take (size - first) rest) ≡ take len (take (size - first) rest) =
-        sym (take_min count (take (size - first) rest)) ∙ ap (λ n. take n (take (size - first) rest)) (ap (min count) tail_len ∙ sym is_len) in
+    sym (take_min count (take (size - first) rest)) ∙ ap (λ n. take n (take (size - first) rest)) (ap (min count) tail_len ∙ sym is_len) in
     let fewer : take len (take (size - first) rest) ≡ take len rest =
-        sym (take-append-le len (take (size - first) rest) (drop (size - first) rest) (omega (arith, tail_len, is_len))) ∙ ap (take len) (take-append-drop (size - first) rest) in
+    sym (take-append-le len (take (size - first) rest) (drop (size - first) rest) (omega (arith, tail_len, is_len))) ∙ ap (take len) (take-append-drop (size - first) rest) in
     whole ∙ (read ∙ sym (ap (take count) tail ∙ (shorter ∙ fewer)))

@@ -73,3 +73,6 @@ exists_is region o held = ap (λ n. not (n == 0 && (length o.parts.attrs == 0 &&
 
 pub same_pool : (p q : PoolView) → p.frame ≡ q.frame → p.frames ≡ q.frames → p.free ≡ q.free → p.slots ≡ q.slots → p ≡ q
 same_pool p q frame frames free slots = λ i. record { frame = frame i; frames = frames i; free = free i; slots = slots i }
+
+pub no_frames_of_none : (frame : ℕ) → div_ceil 0 frame ≡ 0
+no_frames_of_none frame = let quotient = zero-div frame in let rest = zero-mod frame in omega (arith, quotient, rest)

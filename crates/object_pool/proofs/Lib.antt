@@ -4,6 +4,7 @@ pub mod FrameSums
 pub mod Insertions
 pub mod Keys
 pub mod Lent
+pub mod PlaceLemmas
 pub mod Replacements
 pub mod SlotLemmas
 pub mod Sweeps

@@ -101,9 +101,9 @@ swept_same region key (e ∷ es) sorted held =
     let o = object_in region e.1 in
     let more : settled (slot_at (S (stored_only es)) key) ≡ settled (slot_at (S es) key) = swept_same region key es sorted.1 held.1 in
     let gone_here : is_stored e.1 ≡ false → T e.0 ≡ true → settled (slot_at (S (stored_only es)) key) ≡ settled o = λ gone here.
-      let none : lookup T es ≡ None = subst (λ k. lookup (is_key k) es ≡ None) (sym (same_key key e.0 here)) (none_later e.0 es sorted.0) in
-      let out : settled o ≡ nothing = ap (λ b. if b then o else nothing) (sym (exists_is region e.1 held.0) ∙ gone) in
-      more ∙ (ap settled (slot_absent region es (S es) key refl none) ∙ sym out) in
+    let none : lookup T es ≡ None = subst (λ k. lookup (is_key k) es ≡ None) (sym (same_key key e.0 here)) (none_later e.0 es sorted.0) in
+    let out : settled o ≡ nothing = ap (λ b. if b then o else nothing) (sym (exists_is region e.1 held.0) ∙ gone) in
+    more ∙ (ap settled (slot_absent region es (S es) key refl none) ∙ sym out) in
     elim (is_stored e.1) as (λ b. is_stored e.1 ≡ b → settled (slot_at (S (cond b (e ∷ stored_only es) (stored_only es))) key) ≡ settled (slot_at (S (e ∷ es)) key)) [
       | true ↦ λ _.
           elim (T e.0) as (λ t. settled (unwrap_or (cond t (Some o) (lookup T (S (stored_only es)))) nothing) ≡ settled (unwrap_or (cond t (Some o) (lookup T (S es))) nothing)) [

@@ -10,7 +10,6 @@ mod sweep;
 
 pub use error::NoSpace;
 pub use omap_pages::{OutOfMemory, Page};
-
 pub use place::Place;
 pub use pool::Pool;
 pub use rgw_model::{Bytes, Key, PartNumber};

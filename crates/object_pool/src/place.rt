@@ -50,7 +50,7 @@ impl Pool {
 }
 
 impl Place<'_> {
-    ghost use Rattle.std.specs.Prelude.{◌≡◌, ◌↔◌, ◌+◌, ◌-◌, ◌^◌, ◌<◌, ◌≤◌, IfErr, IfNone, IfOk, IfSome, IsErr, IsTrue, None, OnErr, OnOk, Some, drop, is_some, length, min, option_map, take};
+    ghost use Rattle.std.specs.Prelude.{◌≡◌, ◌↔◌, ◌+◌, ◌-◌, ◌^◌, ◌<◌, ◌≤◌, IfErr, IfNone, IfOk, IfSome, IsErr, IsSome, IsTrue, None, OnErr, OnOk, Some, drop, is_some, length, min, option_map, take};
     ghost use Rattle.std.specs.Bool.{OnFalse};
     ghost use Rattle.std.specs.Int.{div_ceil};
     ghost use Rattle.std.specs.List.{splice};
@@ -127,6 +127,145 @@ impl Place<'_> {
         ensures in_order { IsInOrder (rows_of self.now).rows }
     {
         self.pool.parts(self.key).rows().get(key)
+    }
+
+    /// Puts the value at the key of a row, in the place of the one that was there.
+    /// After an error nothing has changed.
+    #[tactic(auto, using(crate::proofs::PlaceLemmas::rows_now))]
+    pub fn put_row(&mut self, alloc: Global, key: Bytes, value: Bytes) -> Result<(), OutOfMemory>
+        ensures change { ChangesRows self.old self.new }
+        ensures rows { OnOk result ((rows_of self.new).rows ≡ with_row (rows_of self.old).rows key value) }
+        ensures at_key { OnOk result (value_at (rows_of self.new).rows key ≡ Some value) }
+        ensures others { OnOk result (rows.KeepsOthers (rows_of self.old).rows (rows_of self.new).rows key) }
+        ensures fits { OnOk result (length value ≤ room_at (rows_of self.new).rooms key) }
+        ensures other_rooms { OnOk result (KeepsOtherRooms (rows_of self.old) (rows_of self.new) key) }
+        ensures spare { (rows_of self.new).spare ≡ (rows_of self.old).spare }
+        ensures err { OnErr result (Stays self.old self.new) }
+    {
+        self.pool.parts_mut(self.key).rows_mut().put(key, value)
+    }
+
+    /// Removes the row at the key, and says whether it was there. Takes no memory.
+    #[tactic(auto, using(crate::proofs::PlaceLemmas::rows_now))]
+    pub fn take_row(&mut self, key: &[u8]) -> bool
+        ensures change { ChangesRows self.old self.new }
+        ensures found { result ≡ is_some (value_at (rows_of self.old).rows key.now) }
+        ensures rows { (rows_of self.new).rows ≡ without_row (rows_of self.old).rows key.now }
+        ensures at_key { value_at (rows_of self.new).rows key.now ≡ None }
+        ensures others { rows.KeepsOthers (rows_of self.old).rows (rows_of self.new).rows key.now }
+        ensures other_rooms { KeepsOtherRooms (rows_of self.old) (rows_of self.new) key.now }
+        ensures spare { (rows_of self.new).spare ≡ (rows_of self.old).spare }
+        ensures absent { OnFalse result (rows_of self.new ≡ rows_of self.old) }
+    {
+        self.pool.parts_mut(self.key).rows_mut().remove(key)
+    }
+
+    /// Removes the rows whose keys are at least `from` and below `to`, and says how many they were.
+    /// Takes no memory.
+    #[tactic(auto, using(crate::proofs::PlaceLemmas::rows_now))]
+    pub fn take_rows(&mut self, from: &[u8], to: &[u8]) -> u64
+        ensures change { ChangesRows self.old self.new }
+        ensures count { result ≡ length (rows_within (rows_of self.old).rows from.now to.now) }
+        ensures rows { (rows_of self.new).rows ≡ rows_outside (rows_of self.old).rows from.now to.now }
+        ensures within { HasNoneWithin (rows_of self.new).rows from.now to.now }
+        ensures outside { KeepsOutside (rows_of self.old).rows (rows_of self.new).rows from.now to.now }
+        ensures rooms_outside { KeepsRoomsOutside (rows_of self.old) (rows_of self.new) from.now to.now }
+        ensures spare { (rows_of self.new).spare ≡ (rows_of self.old).spare }
+        ensures none { result ≡ 0 → rows_of self.new ≡ rows_of self.old }
+    {
+        self.pool
+            .parts_mut(self.key)
+            .rows_mut()
+            .remove_range(from, to)
+    }
+
+    /// Makes the room of the row at the key at least `room` bytes, so that [`Place::splice_row`] can
+    /// make its value as long. After an error nothing has changed.
+    #[tactic(auto, using(crate::proofs::PlaceLemmas::rows_now))]
+    pub fn widen_row(&mut self, alloc: Global, key: &[u8], room: u64) -> Result<(), OutOfMemory>
+        requires { IsSome (value_at (rows_of self.old).rows key.now) }
+        ensures change { ChangesRows self.old self.new }
+        ensures ok { OnOk result (room ≤ room_at (rows_of self.new).rooms key.now) }
+        ensures rows { (rows_of self.new).rows ≡ (rows_of self.old).rows }
+        ensures rooms { KeepsRooms (rows_of self.old) (rows_of self.new) }
+        ensures spare { (rows_of self.new).spare ≡ (rows_of self.old).spare }
+        ensures err { OnErr result (Stays self.old self.new) }
+    {
+        self.pool.parts_mut(self.key).rows_mut().widen(key, room)
+    }
+
+    /// Puts `bytes` in the place of the `count` bytes from `start` of the value at the key. The new
+    /// value fits the row's room. Takes no memory.
+    #[tactic(auto, using(crate::proofs::PlaceLemmas::rows_now))]
+    pub fn splice_row(&mut self, key: &[u8], start: u64, count: u64, bytes: &[u8])
+        requires there { IsSome (value_at (rows_of self.old).rows key.now) }
+        requires range { ForSome (value_at (rows_of self.old).rows key.now) (λ value.
+            start + count ≤ length value) }
+        requires fits { ForSome (value_at (rows_of self.old).rows key.now) (λ value.
+            length value + length bytes.now ≤ room_at (rows_of self.old).rooms key.now + count) }
+        ensures change { ChangesRows self.old self.new }
+        ensures rows { ForSome (value_at (rows_of self.old).rows key.now) (λ value.
+            (rows_of self.new).rows
+            ≡ with_row (rows_of self.old).rows key.now (splice value start (start + count) bytes.now)) }
+        ensures at_key { ForSome (value_at (rows_of self.old).rows key.now) (λ value.
+            value_at (rows_of self.new).rows key.now
+            ≡ Some (splice value start (start + count) bytes.now)) }
+        ensures others { rows.KeepsOthers (rows_of self.old).rows (rows_of self.new).rows key.now }
+        ensures rooms { KeepsRooms (rows_of self.old) (rows_of self.new) }
+        ensures spare { (rows_of self.new).spare ≡ (rows_of self.old).spare }
+    {
+        self.pool
+            .parts_mut(self.key)
+            .rows_mut()
+            .splice(key, start, count, bytes);
+    }
+
+    /// Makes the number of spare rows at least `rows`. They stay ready while the object exists or the
+    /// place is held. After an error nothing has changed.
+    #[tactic(auto, using(crate::proofs::PlaceLemmas::rows_now))]
+    pub fn reserve_rows(&mut self, alloc: Global, count: u64) -> Result<(), OutOfMemory>
+        ensures change { ChangesRows self.old self.new }
+        ensures ok { OnOk result (count ≤ (rows_of self.new).spare) }
+        ensures kept { (rows_of self.old).spare ≤ (rows_of self.new).spare }
+        ensures rows { (rows_of self.new).rows ≡ (rows_of self.old).rows }
+        ensures rooms { KeepsRooms (rows_of self.old) (rows_of self.new) }
+        ensures err { OnErr result (Stays self.old self.new) }
+    {
+        self.pool.parts_mut(self.key).rows_mut().reserve(count)
+    }
+
+    /// Makes a spare row the row of a key that is not there. The key has at most 16 bytes and the
+    /// value at most 1040. Takes no memory.
+    #[tactic(auto, using(crate::proofs::PlaceLemmas::rows_now))]
+    pub fn put_spare(&mut self, key: &[u8], value: &[u8])
+        requires spare { 0 < (rows_of self.old).spare }
+        requires absent { value_at (rows_of self.old).rows key.now ≡ None }
+        requires key_fits { length key.now ≤ 16 }
+        requires value_fits { length value.now ≤ 1040 }
+        ensures change { ChangesRows self.old self.new }
+        ensures rows { (rows_of self.new).rows ≡ with_row (rows_of self.old).rows key.now value.now }
+        ensures at_key { value_at (rows_of self.new).rows key.now ≡ Some value.now }
+        ensures others { rows.KeepsOthers (rows_of self.old).rows (rows_of self.new).rows key.now }
+        ensures fits { length value.now ≤ room_at (rows_of self.new).rooms key.now }
+        ensures rooms { KeepsRooms (rows_of self.old) (rows_of self.new) }
+        ensures spare { (rows_of self.new).spare + 1 ≡ (rows_of self.old).spare }
+    {
+        self.pool
+            .parts_mut(self.key)
+            .rows_mut()
+            .put_spare(key, value);
+    }
+
+    /// Copies of the first rows whose keys are above `after`, at most `limit` of them, and whether
+    /// no row follows these.
+    pub fn page(&self, alloc: Global, after: &[u8], limit: u32) -> Result<Page, OutOfMemory>
+        ensures rows { IfOk result (λ page.
+            page.rows ≡ take limit (rows_after (rows_of self.now).rows after.now)) }
+        ensures end { IfOk result (λ page.
+            IsTrue page.end ↔ (length (rows_after (rows_of self.now).rows after.now) ≤ limit)) }
+        ensures in_order { IfOk result (λ page. IsInOrder page.rows) }
+    {
+        self.pool.parts(self.key).rows().page(alloc, after, limit)
     }
 
     /// Drops the bytes, the attributes and the rows, so that the object does not exist. Its frames are

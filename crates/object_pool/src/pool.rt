@@ -153,7 +153,14 @@ impl Pool {
         let key = key.try_clone()?;
         let parts = ObjectParts::new(alloc)?;
         let run = self.region.take(0).unwrap();
-        self.objects.insert(key, Stored { run, size: 0, parts })?;
+        self.objects.insert(
+            key,
+            Stored {
+                run,
+                size: 0,
+                parts,
+            },
+        )?;
         Ok(())
     }
 
@@ -200,8 +207,7 @@ impl Pool {
         let first = start.min(object.size);
         let length = count.min(object.size - first);
         let mut bytes = vec![in alloc; 0u8; length as usize]?;
-        self.region
-            .read(&object.run, first, bytes.as_mut_slice());
+        self.region.read(&object.run, first, bytes.as_mut_slice());
         Ok(Bytes::from_vec(bytes))
     }
 
@@ -214,6 +220,7 @@ impl Pool {
         ensures ok { OnOk result (self.new ≡ with_object self.old key.now
             (record (slot_at self.old.slots key.now) { bytes = bytes.now })
             (self.old.free - div_ceil (length bytes.now) self.old.frame + frames_of self.old.frame (slot_at self.old.slots key.now))) }
+        ensures there { IsSome (lookup (is_key key.now) self.new.slots) }
         ensures sum { HasFrameSum self.new }
     {
         let frames = bytes.len().div_ceil(self.frame as usize);
@@ -238,7 +245,8 @@ impl Pool {
         requires { IsSome (lookup (is_key key.now) self.old.slots) }
         ensures after { self.new ≡ with_object self.old key.now (dropped (slot_at self.old.slots key.now))
             (self.old.free + frames_of self.old.frame (slot_at self.old.slots key.now)) }
-        ensures sum { HasFrameSum self.old → HasFrameSum self.new }
+        ensures there { IsSome (lookup (is_key key.now) self.new.slots) }
+        ensures sum { HasFrameSum self.new }
     {
         let _ = self.put_bytes(key, &[]);
         self.parts_mut(key).clear();

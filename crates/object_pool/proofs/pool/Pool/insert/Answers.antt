@@ -68,7 +68,7 @@ returns-clause-all c q =
     let key = c.args.key.now in
     let with_parts : Parts → Stored = λ p. record { run = c.unwrap-run.result; size = 0; parts = p } in
     let at : (x : Key) → lookup (is_key x) c.insert.new.self.entries ≡ cond (is_key key x) (Some (new_object c)) (lookup (is_key x) c.self.inside.objects.entries) =
-        λ x. c.in_ok-insert.ensures.updates.0 x ∙ ap₂ (λ k p. cond (is_key k x) (Some (with_parts p)) (lookup (is_key x) c.self.inside.objects.entries)) c.in_ok-key.ensures c.in_ok-parts.ensures in
+    λ x. c.in_ok-insert.ensures.updates.0 x ∙ ap₂ (λ k p. cond (is_key k x) (Some (with_parts p)) (lookup (is_key x) c.self.inside.objects.entries)) c.in_ok-key.ensures c.in_ok-parts.ensures in
     inserted_same c.self.inside.region c.take.new.self c.self.inside.objects.entries c.insert.new.self.entries key (new_object c) refl at (none c)
-      (added_view c.self.inside.region c.take.new.self _ _ c.self.invariant c.unwrap-run.result (adds c)) q
+    (added_view c.self.inside.region c.take.new.self _ _ c.self.invariant c.unwrap-run.result (adds c)) q
     ∙ ap (λ z. settled (slot_at z q)) (ap (λ p. p.slots) c.self.view_is)

@@ -31,11 +31,16 @@ returns c =
     let es = c.self.inside.objects.entries in
     let o = c.unwrap-object.result.now in
     let found : lookup (is_key key) es ≡ Some o = sym c.get_mut.ensures.value ∙ ap option_copied_mut c.unwrap-object.ensures in
-    let kept : slot_at c.args.self.now.slots key ≡ object_in region o = slot_there region es _ key o (ap (λ p. p.slots) c.self.view_is) found in
-    ((refl, λ w.
-    let here : slot_at (slots_in region es) key ≡ object_in region o = ap (λ z. unwrap_or z nothing) (kept_there region _ es c.self.invariant (is_key key) o found) in
-    let written : (c.get_mut.follows.lender (record o { parts = w })).entries ≡ set_value (is_key key) es (record o { parts = w }) = (c.get_mut.follows.holds (record o { parts = w })).0 in
-    let now : slots_in region (set_value (is_key key) es (record o { parts = w })) ≡ set_value (is_key key) (slots_in region es) (record (slot_at (slots_in region es) key) { attrs = w.attrs; rows = w.rows }) =
-        parts_view region _ es c.self.invariant (is_key key) o found w ∙ ap (λ z. set_value (is_key key) (slots_in region es) (record z { attrs = w.attrs; rows = w.rows })) (sym here) in
-    let before : view_of region es ≡ c.args.self.now = c.self.view_is in
-    ap (λ z. view_of region z) written ∙ (ap (λ z. let v : PoolView = record (view_of region es) { slots = z } in v) now ∙ ap (λ p. with_parts p key w) before)), record { lends = tt; attrs = ap (λ z. z.attrs) (sym kept); rows = ap (λ z. z.rows) (sym kept) })
+    let kept : slot_at c.args.self.now.slots key ≡ object_in region o = slot_there region es _ key o (ap (λ p. p.slots) c.self.view_is) found in (
+      (
+        refl,
+        λ w.
+            let here : slot_at (slots_in region es) key ≡ object_in region o = ap (λ z. unwrap_or z nothing) (kept_there region _ es c.self.invariant (is_key key) o found) in
+            let written : (c.get_mut.follows.lender (record o { parts = w })).entries ≡ set_value (is_key key) es (record o { parts = w }) = (c.get_mut.follows.holds (record o { parts = w })).0 in
+            let now : slots_in region (set_value (is_key key) es (record o { parts = w })) ≡ set_value (is_key key) (slots_in region es) (record (slot_at (slots_in region es) key) { attrs = w.attrs; rows = w.rows }) =
+            parts_view region _ es c.self.invariant (is_key key) o found w ∙ ap (λ z. set_value (is_key key) (slots_in region es) (record z { attrs = w.attrs; rows = w.rows })) (sym here) in
+            let before : view_of region es ≡ c.args.self.now = c.self.view_is in
+            ap (λ z. view_of region z) written ∙ (ap (λ z. let v : PoolView = record (view_of region es) { slots = z } in v) now ∙ ap (λ p. with_parts p key w) before),
+      ),
+      record { lends = tt; attrs = ap (λ z. z.attrs) (sym kept); rows = ap (λ z. z.rows) (sym kept) },
+    )

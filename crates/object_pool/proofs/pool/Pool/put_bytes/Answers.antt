@@ -1,4 +1,4 @@
-use Rattle.std.proofs.Common.{◌≡◌, ℕ, ◌+◌, ◌-◌, ◌≤◌, ap, ap₂, sym, subst, length, take, drop, ◌++◌, Some, ◌∙◌, arith, rules}
+use Rattle.std.proofs.Common.{◌≡◌, ℕ, ◌+◌, ◌-◌, ◌≤◌, ap, ap₂, sym, subst, length, take, drop, ◌++◌, Some, is_some, ◌∙◌, arith, rules}
 use Rattle.std.specs.Int.{div_ceil}
 use Rattle.std.specs.Option.{IsSome, option_copied_mut}
 use Rattle.std.specs.Map.{lookup, set_value}
@@ -10,6 +10,7 @@ use Rattle.object_pool.proofs.Counts.{count_fits, first_of_overwritten}
 use Rattle.object_pool.proofs.FrameSums.{view_of, frame_sum, frames_are, same_pool}
 use Rattle.object_pool.proofs.Lent.{some_mut}
 use Rattle.object_pool.proofs.Replacements.{Replaces, replaced_sound, replaced_view}
+use Rattle.object_pool.proofs.Touches.{still_there}
 use Rattle.object_pool.proofs.SlotLemmas.{entry_there, slot_there, held_of}
 use Rattle.object_pool.proofs.pool.Pool.put_bytes.Goals as goal
 
@@ -57,10 +58,10 @@ replaces c =
       free = omega (arith, old, c.give.ensures.free, c.write.ensures.free, c.in-Ok.ensures.free, c.in-Ok.ensures.count);
       owned = (new_kept c).owned;
       keeps = λ other owned apart.
-        let taken = c.in-Ok.ensures.others other owned in
-        let written = c.write.ensures.others other taken.2.owned taken.0 in
-        let given = give_keeps c other written.owned apart in
-        record { owned = given.owned; bytes = given.bytes ∙ (written.bytes ∙ taken.2.bytes) };
+          let taken = c.in-Ok.ensures.others other owned in
+          let written = c.write.ensures.others other taken.2.owned taken.0 in
+          let given = give_keeps c other written.owned apart in
+          record { owned = given.owned; bytes = given.bytes ∙ (written.bytes ∙ taken.2.bytes) };
       apart = λ other owned. let taken = c.in-Ok.ensures.others other owned in (taken.0, taken.1);
     }
 
@@ -108,11 +109,14 @@ returns-clause-ok c =
     let needed : c.in-Ok.run'.count ≡ div_ceil (length c.args.bytes.now) old.frame = count c ∙ ap (div_ceil (length c.args.bytes.now)) (sym c.self.invariant.frame_is ∙ frame) in
     let given : frames_of old.frame (slot_at old.slots key) ≡ o.run.count = ap₂ frames_of (sym frame) kept ∙ frames_are region o (held c) in
     let object : object_in c.give.new.self (new_object c) ≡ record (slot_at old.slots key) { bytes = c.args.bytes.now } =
-        λ i. record { bytes = bytes_now c i; attrs = (sym kept i).attrs; rows = (sym kept i).rows } in
+    λ i. record { bytes = bytes_now c i; attrs = (sym kept i).attrs; rows = (sym kept i).rows } in
     let seen : slots_in c.give.new.self (set_value (is_key key) c.self.inside.objects.entries (new_object c)) ≡ set_value (is_key key) old.slots (record (slot_at old.slots key) { bytes = c.args.bytes.now }) =
-        replaced_view region c.give.new.self _ _ c.self.invariant (is_key key) o (found c) c.in-Ok.run' (length c.args.bytes.now) (replaces c) (count c) ∙ ap₂ (set_value (is_key key)) slots object in
+    replaced_view region c.give.new.self _ _ c.self.invariant (is_key key) o (found c) c.in-Ok.run' (length c.args.bytes.now) (replaces c) (count c) ∙ ap₂ (set_value (is_key key)) slots object in
     same_pool _ _
-      ((replaces c).frame ∙ frame)
-      ((replaces c).frames ∙ ap (λ p. p.frames) c.self.view_is)
-      (omega (arith, (replaces c).free, c.in-Ok.ensures.free, c.in-Ok.ensures.count, free, needed, given))
-      (ap (slots_in c.give.new.self) (written c) ∙ seen)
+    ((replaces c).frame ∙ frame)
+    ((replaces c).frames ∙ ap (λ p. p.frames) c.self.view_is)
+    (omega (arith, (replaces c).free, c.in-Ok.ensures.free, c.in-Ok.ensures.count, free, needed, given))
+    (ap (slots_in c.give.new.self) (written c) ∙ seen)
+
+pub returns-clause-there : goal.returns-clause-there
+returns-clause-there c = ap (λ z. is_some (lookup (is_key c.args.key.now) z)) (ap (λ p. p.slots) (returns-clause-ok c)) ∙ still_there c.args.self.now.slots c.args.key.now c.requires _
