@@ -7,6 +7,8 @@ mod object;
 mod place;
 mod pool;
 mod sweep;
+#[cfg(test)]
+mod tests;
 
 pub use error::NoSpace;
 pub use omap_pages::{OutOfMemory, Page};

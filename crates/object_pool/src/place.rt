@@ -10,6 +10,7 @@ use std::alloc::Global;
 
 /// One object of a pool, to read and to change. What it becomes is kept in the pool once the place is
 /// given up, and no other object changes.
+#[derive(Drop)]
 pub struct Place<'a> {
     pool: &'a mut Pool,
     key: &'a Key,
