@@ -76,6 +76,11 @@ impl Pool {
         self.region.free()
     }
 
+    #[cfg(test)]
+    pub(crate) fn kept(&self) -> usize {
+        self.objects.len()
+    }
+
     // Whether something is kept under the key.
     fn is_kept(&self, key: &Key) -> bool
         ensures { result ≡ is_some (lookup (is_key key.now) self.now.slots) }
