@@ -139,3 +139,48 @@ absent_still test p (e ∷ es) none =
             | false ↦ more
           ]
     ] refl none
+
+-- what is found among the objects that exist does exist
+found_exists : (slots : Slots) (key : Key) → settled (slot_at (filter (λ e. exists e.1) slots) key) ≡ slot_at (filter (λ e. exists e.1) slots) key
+found_exists [] key = refl
+found_exists (e ∷ es) key =
+    let E : Key × Object → Bool = λ e. exists e.1 in
+    let more = found_exists es key in
+    elim (exists e.1) as (λ b. exists e.1 ≡ b → settled (slot_at (cond b (e ∷ filter E es) (filter E es)) key) ≡ slot_at (cond b (e ∷ filter E es) (filter E es)) key) [
+      | true ↦ λ is.
+          elim (is_key key e.0) as (λ t. settled (unwrap_or (cond t (Some e.1) (lookup (is_key key) (filter E es))) nothing) ≡ unwrap_or (cond t (Some e.1) (lookup (is_key key) (filter E es))) nothing) [
+            | true ↦ ap (λ b. if b then e.1 else nothing) is
+            | false ↦ more
+          ]
+      | false ↦ λ _. more
+    ] refl
+
+-- the list of the objects has at a key what a look-up finds
+pub one_map : (region : RegionView) (frame : ℕ) (es : Entries) → IsSound region frame es → (key : Key) → settled (slot_at (slots_in region es) key) ≡ slot_at (filter (λ e. exists e.1) (slots_in region es)) key
+one_map region frame es sound key =
+    sym (swept_same region key es sound.in_order sound.held)
+    ∙ (ap (λ z. settled (slot_at z key)) (view_swept region es sound.held) ∙ found_exists (slots_in region es) key)
+
+all_keys : (P : Key → Type 0) (p : Key × Object → Bool) (es : Slots) → AllByRecursion P (keys_of es) → AllByRecursion P (keys_of (filter p es))
+all_keys P p [] h = tt
+all_keys P p (e ∷ es) h =
+    elim (p e) as (λ b. AllByRecursion P (keys_of (cond b (e ∷ filter p es) (filter p es)))) [
+      | true ↦ (h.0, all_keys P p es h.1)
+      | false ↦ all_keys P p es h.1
+    ]
+
+sorted_filter : (p : Key × Object → Bool) (es : Slots) → IsStrictlySortedBy key_cmp (keys_of es) → IsStrictlySortedBy key_cmp (keys_of (filter p es))
+unfolding IsStrictlySortedBy
+sorted_filter p [] h = h
+sorted_filter p (e ∷ es) h =
+    elim (p e) as (λ b. IsStrictlySortedBy key_cmp (keys_of (cond b (e ∷ filter p es) (filter p es)))) [
+      | true ↦ (all_keys (λ y. key_cmp e.0 y ≡ Less) p es h.0, sorted_filter p es h.1)
+      | false ↦ sorted_filter p es h.1
+    ]
+
+same_keys : (region : RegionView) (es : Entries) → keys_of (slots_in region es) ≡ keys_of es
+same_keys region [] = refl
+same_keys region (e ∷ es) = ap (λ z. e.0 ∷ z) (same_keys region es)
+
+pub objects_in_order : (region : RegionView) (frame : ℕ) (es : Entries) → IsSound region frame es → IsStrictlySortedBy key_cmp (keys_of (filter (λ e. exists e.1) (slots_in region es)))
+objects_in_order region frame es sound = sorted_filter (λ e. exists e.1) (slots_in region es) (subst (IsStrictlySortedBy key_cmp) (sym (same_keys region es)) sound.in_order)

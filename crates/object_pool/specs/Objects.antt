@@ -3,7 +3,8 @@ use Rattle.std.specs.Prelude.{◌≡◌, ◌≢◌, ℕ, ◌+◌, Bool, not, ◌
 use Rattle.std.specs.List.{filter}
 use Rattle.std.specs.Int.{div_ceil}
 use Rattle.std.specs.declared.cmp.Ordering.{Ordering}
-use Rattle.std.specs.Map.{lookup, set_value}
+use Rattle.std.specs.List.Sorted.{IsStrictlySortedBy}
+use Rattle.std.specs.Map.{keys_of, lookup, set_value}
 use Rattle.std.specs.BTreeMap.{is_at}
 use Rattle.rgw_model.specs.declared.pool_key.Key.{Key}
 use Rattle.rgw_model.specs.contracts.pool_key.KeyOrd.TheImpl as key_order
@@ -65,6 +66,11 @@ object_at pool key = settled (slot_at pool.slots key)
 -- the objects that exist
 abbrev pub objects : PoolView → Slots
 objects pool = filter (λ e. exists e.1) pool.slots
+
+-- they are in the order of their keys, and each key has among them what it has in the pool
+pub record IsMap (pool : PoolView) : Type 0 where
+  pub in_order : IsStrictlySortedBy key_cmp (keys_of (objects pool))
+  pub at_key : (key : Key) → object_at pool key ≡ slot_at (objects pool) key
 
 -- the free frames, with the frames of each object, are all frames
 abbrev pub HasFrameSum : PoolView → Type 0

@@ -133,7 +133,7 @@ impl Place<'_> {
     /// Puts the value at the key of a row, in the place of the one that was there.
     /// After an error nothing has changed.
     #[tactic(auto, using(crate::proofs::PlaceLemmas::rows_now))]
-    pub fn put_row(&mut self, alloc: Global, key: Bytes, value: Bytes) -> Result<(), OutOfMemory>
+    pub fn put_row(&mut self, _alloc: Global, key: Bytes, value: Bytes) -> Result<(), OutOfMemory>
         ensures change { ChangesRows self.old self.new }
         ensures rows { OnOk result ((rows_of self.new).rows ≡ with_row (rows_of self.old).rows key value) }
         ensures at_key { OnOk result (value_at (rows_of self.new).rows key ≡ Some value) }
@@ -183,7 +183,7 @@ impl Place<'_> {
     /// Makes the room of the row at the key at least `room` bytes, so that [`Place::splice_row`] can
     /// make its value as long. After an error nothing has changed.
     #[tactic(auto, using(crate::proofs::PlaceLemmas::rows_now))]
-    pub fn widen_row(&mut self, alloc: Global, key: &[u8], room: u64) -> Result<(), OutOfMemory>
+    pub fn widen_row(&mut self, _alloc: Global, key: &[u8], room: u64) -> Result<(), OutOfMemory>
         requires { IsSome (value_at (rows_of self.old).rows key.now) }
         ensures change { ChangesRows self.old self.new }
         ensures ok { OnOk result (room ≤ room_at (rows_of self.new).rooms key.now) }
@@ -224,7 +224,7 @@ impl Place<'_> {
     /// Makes the number of spare rows at least `rows`. They stay ready while the object exists or the
     /// place is held. After an error nothing has changed.
     #[tactic(auto, using(crate::proofs::PlaceLemmas::rows_now))]
-    pub fn reserve_rows(&mut self, alloc: Global, count: u64) -> Result<(), OutOfMemory>
+    pub fn reserve_rows(&mut self, _alloc: Global, count: u64) -> Result<(), OutOfMemory>
         ensures change { ChangesRows self.old self.new }
         ensures ok { OnOk result (count ≤ (rows_of self.new).spare) }
         ensures kept { (rows_of self.old).spare ≤ (rows_of self.new).spare }

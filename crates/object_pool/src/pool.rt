@@ -3,7 +3,7 @@ ghost use Rattle.std.specs.Borrow.{sem};
 ghost use Rattle.std.specs.Int.{div_ceil};
 ghost use Rattle.std.specs.Map.{lookup};
 ghost use Rattle.rgw_model.specs.declared.pool_key.Key.{Key as KeyOf};
-ghost use Rattle.object_pool.specs.Objects.{HasFrameSum, KeepsAll, KeepsCounts, dropped, exists, frames_of, is_key, nothing, object_at, objects, slot_at, with_object};
+ghost use Rattle.object_pool.specs.Objects.{HasFrameSum, IsMap, KeepsAll, KeepsCounts, dropped, exists, frames_of, is_key, nothing, object_at, objects, slot_at, with_object};
 ghost use Rattle.object_pool.specs.Lending.{LendsParts};
 
 use crate::error::NoSpace;
@@ -20,9 +20,10 @@ use std::mem::replace;
 
 /// The objects of one zone, by their keys. Each has bytes, which lie in frames, attributes and rows.
 ///
-/// An object with none of these does not exist. Contracts see what is kept under each key, and read
-/// it by `object_at`, which is `nothing` where no object exists. What was prepared for an object that
-/// does not exist, spare rows, is lost when its place is given up.
+/// An object with none of these does not exist. Contracts see a finite map from keys to objects that
+/// has none of that kind: `objects` lists it, and `object_at` finds in it, with `nothing` where there is
+/// no object. Spare rows that are ready for an object that does not exist are lost when its place is
+/// given up.
 ///
 /// The bytes of an object take as many frames as they fill, the last one in part.
 #[derive(Drop)]
@@ -72,6 +73,7 @@ impl Pool {
     pub fn free(&self) -> u32
         ensures value { result ≡ self.now.free }
         ensures sum { HasFrameSum self.now }
+        ensures map { IsMap self.now }
     {
         self.region.free()
     }

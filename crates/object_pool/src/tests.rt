@@ -91,7 +91,10 @@ fn too_few_frames_change_nothing(rt: HostRuntime) -> Result<(), Fail> {
     assert_eq!(rt; place.put_bytes(b"0123456789abcdef"), Ok(()));
     let refused = place.put_bytes(b"abc");
     assert_eq!(rt; refused, Err(NoSpace { free: 0, needed: 1 }));
-    assert_eq!(rt; place.bytes(alloc, 0, 99)?.as_slice(), b"0123456789abcdef".as_slice());
+    assert_eq!(rt;
+        place.bytes(alloc, 0, 99)?.as_slice(),
+        b"0123456789abcdef".as_slice()
+    );
     drop(place);
     assert_eq!(rt; pool.free(), 0);
     Ok(())

@@ -9,7 +9,9 @@ use std::process::Abort;
 type Pair = (Vec<u8>, Vec<u8>);
 
 const FRAMES: usize = 9;
+
 const FRAME: usize = 16;
+
 const KEYS: u64 = 7;
 
 // A linear congruential generator.
@@ -305,9 +307,8 @@ fn take_rows(
         drop(plain.rows.swap_remove(at));
     }
     let before = plain.rows.len();
-    plain
-        .rows
-        .retain(|pair| pair.0.as_slice() < from.as_slice() || pair.0.as_slice() >= to.as_slice());
+    plain.rows.retain(|pair| pair.0.as_slice() < from.as_slice()
+        || pair.0.as_slice() >= to.as_slice());
     let count = place.take_rows(from.as_slice(), to.as_slice());
     assert_eq!(rt; count, (before - plain.rows.len()) as u64);
     Ok(())
