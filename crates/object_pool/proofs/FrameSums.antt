@@ -1,6 +1,6 @@
 -- The frames of the objects are those that are not free.
-use Rattle.std.proofs.Common.{◌≡◌, ℕ, ◌+◌, ◌*◌, ◌≤◌, ◌==◌, Bool, true, false, not, ◌&&◌, cond, List, [], ◌∷◌, length, take, map, sum_by, min, refl, sym, ◌∙◌, ap, subst, arith}
-use Rattle.std.specs.List.{AllByRecursion, filter}
+use Rattle.std.proofs.Common.{◌≡◌, ℕ, ◌==◌, Bool, true, false, not, ◌&&◌, cond, [], ◌∷◌, length, sum_by, refl, sym, ◌∙◌, ap, arith}
+use Rattle.std.specs.List.{filter}
 use Rattle.std.specs.Int.{div_ceil}
 use Rattle.std.proofs.Math.Nat.{zero-div, zero-mod}
 use Rattle.std.proofs.lemmas.Bool.{eqb-true}
@@ -9,7 +9,7 @@ use Rattle.std.proofs.lemmas.List.Sums.{sum_by-cons}
 use Rattle.rgw_model.specs.declared.pool_key.Key.{Key}
 use Rattle.frame_region.specs.Region.{RegionView, bytes_of}
 use Rattle.object_pool.specs.declared.object.Stored.{Stored}
-use Rattle.object_pool.specs.Objects.{Object, Slots, exists, frames_of, objects, HasFrameSum, PoolView}
+use Rattle.object_pool.specs.Objects.{Object, Slots, exists, frames_of, HasFrameSum, PoolView}
 use Rattle.object_pool.specs.Stored.{Entries, object_in, slots_in, is_stored, IsHeld, AllHeld, IsSound}
 
 pub first_of_both : (a b : Bool) → not (a && b) ≡ false → a ≡ true

@@ -1,18 +1,17 @@
 -- What a pool is where nothing is kept under a new key.
-use Rattle.std.proofs.Common.{◌≡◌, ℕ, ◌+◌, ◌*◌, ◌≤◌, Bool, true, false, cond, List, [], ◌∷◌, take, length, map, sum_by, Option, Some, None, unwrap_or, IsNone, is_some, Result, Ok, Err, IfOk, OnOk, refl, sym, ◌∙◌, ap, ap₂, subst, arith}
+use Rattle.std.proofs.Common.{◌≡◌, ℕ, ◌+◌, ◌*◌, ◌≤◌, Bool, true, false, cond, List, [], ◌∷◌, take, map, sum_by, Option, Some, None, unwrap_or, IsNone, Result, Ok, Err, IfOk, OnOk, refl, sym, ◌∙◌, ap, ap₂, subst, arith}
 use Rattle.std.specs.List.{AllByRecursion, filter}
 use Rattle.std.specs.List.Sorted.{IsStrictlySortedBy}
 use Rattle.std.specs.Int.{div_ceil}
 use Rattle.std.specs.Map.{lookup, keys_of}
 use Rattle.std.specs.Option.{option_map}
 use Rattle.std.specs.BTreeMap.{insert_entry}
-use Rattle.std.specs.declared.cmp.Ordering.{Ordering}
 use Rattle.std.specs.declared.cmp.Ordering.TheVariants.{Less, Equal, Greater}
 use Rattle.std.specs.Ordering.{is_eq, match_ordering}
 use Rattle.std.proofs.Math.Nat.{zero-div, zero-mod}
 use Rattle.std.proofs.lemmas.List.Sums.{sum_by-cons}
 use Rattle.rgw_model.specs.declared.pool_key.Key.{Key}
-use Rattle.frame_region.specs.Region.{Run, RegionView, Owns, Apart, AddsRun}
+use Rattle.frame_region.specs.Region.{Run, RegionView, Owns, AddsRun}
 use Rattle.object_pool.specs.declared.object.Stored.{Stored}
 use Rattle.object_pool.specs.Parts.{no_parts}
 use Rattle.object_pool.specs.Objects.{Object, Slots, exists, is_key, key_cmp, nothing, settled, slot_at}

@@ -1,5 +1,5 @@
 -- A look-up that finds something.
-use Rattle.std.proofs.Common.{◌≡◌, Option, None, Some, is_some, IsSome, rules}
+use Rattle.std.proofs.Common.{Option, None, Some, IsSome, rules}
 use Rattle.std.specs.Option.{option_copied_mut}
 use Rattle.std.specs.Borrow.{MutBor}
 

@@ -1,8 +1,7 @@
 -- What a place is where the object at it is changed.
-use Rattle.std.proofs.Common.{◌≡◌, ◌≢◌, ℕ, List, Some, IsSome, Result, Ok, Err, IsErr, OnOk, OnErr, ◌↔◌, refl, sym, ◌∙◌, ap, ap₂, subst}
+use Rattle.std.proofs.Common.{◌≡◌, ℕ, List, Some, IsSome, Result, Ok, Err, IsErr, OnOk, OnErr, ◌↔◌, refl, sym, ◌∙◌, ap, ap₂, subst}
 use Rattle.std.specs.Map.{lookup, set_value}
 use Rattle.std.proofs.lemmas.Map.Steps.{set_value_same}
-use Rattle.rgw_model.specs.declared.pool_key.Key.{Key}
 use Rattle.omap_pages.specs.Contents.{Contents}
 use Rattle.object_pool.specs.declared.place.Place.{Place}
 use Rattle.object_pool.specs.Parts.{Parts}

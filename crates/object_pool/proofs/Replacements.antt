@@ -1,5 +1,5 @@
 -- What a pool is where the run of one object is replaced.
-use Rattle.std.proofs.Common.{◌≡◌, ℕ, ◌+◌, ◌*◌, ◌<◌, ◌≤◌, Bool, true, false, cond, List, [], ◌∷◌, ◌++◌, length, take, drop, map, Some, None, refl, sym, ◌∙◌, ap, ap₂, subst, arith}
+use Rattle.std.proofs.Common.{◌≡◌, ℕ, ◌+◌, ◌*◌, ◌≤◌, Bool, true, false, cond, [], ◌∷◌, take, Some, refl, sym, ◌∙◌, ap, ap₂, subst, arith}
 use Rattle.std.specs.List.{AllByRecursion}
 use Rattle.std.specs.List.Sorted.{IsStrictlySortedBy}
 use Rattle.std.specs.Int.{div_ceil}
@@ -7,10 +7,10 @@ use Rattle.std.proofs.lemmas.Map.{keys-set_value}
 use Rattle.std.specs.Map.{lookup, set_value}
 use Rattle.std.proofs.lemmas.Grind.{div_ceil_times}
 use Rattle.rgw_model.specs.declared.pool_key.Key.{Key}
-use Rattle.frame_region.specs.Region.{Run, RegionView, bytes_of, Owns, Apart, Keeps, overwritten}
+use Rattle.frame_region.specs.Region.{Run, RegionView, Owns, Apart, Keeps}
 use Rattle.object_pool.specs.declared.object.Stored.{Stored}
 use Rattle.object_pool.specs.Objects.{Object, key_cmp}
-use Rattle.object_pool.specs.Stored.{Entries, object_in, slots_in, IsHeld, AreApart, AllApart, AllHeld, IsSound}
+use Rattle.object_pool.specs.Stored.{Entries, object_in, slots_in, IsHeld, AreApart, AllApart, IsSound}
 use Rattle.object_pool.proofs.EntryLemmas.{all_at, sum_set}
 use Rattle.object_pool.proofs.SlotLemmas.{apart_set}
 

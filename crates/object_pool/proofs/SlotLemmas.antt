@@ -1,5 +1,5 @@
 -- What the entries are, where one is changed.
-use Rattle.std.proofs.Common.{◌≡◌, ℕ, ◌+◌, Bool, true, false, cond, List, [], ◌∷◌, map, sum_by, Some, None, is_some, unwrap_or, refl, sym, ◌∙◌, ap, subst, arith}
+use Rattle.std.proofs.Common.{◌≡◌, ℕ, Bool, true, false, cond, [], ◌∷◌, Some, None, is_some, unwrap_or, refl, sym, ◌∙◌, ap, subst, arith}
 use Rattle.std.specs.List.{AllByRecursion}
 use Rattle.std.specs.List.Sorted.{IsStrictlySortedBy}
 use Rattle.std.specs.Option.{option_map}
@@ -9,7 +9,7 @@ use Rattle.rgw_model.specs.declared.pool_key.Key.{Key}
 use Rattle.frame_region.specs.Region.{RegionView}
 use Rattle.object_pool.specs.Parts.{Parts}
 use Rattle.object_pool.specs.declared.object.Stored.{Stored}
-use Rattle.object_pool.specs.Stored.{Entries, object_in, slots_in, IsHeld, AreApart, AllApart, AllHeld, IsSound}
+use Rattle.object_pool.specs.Stored.{Entries, object_in, slots_in, IsHeld, AreApart, AllApart, IsSound}
 use Rattle.object_pool.specs.Objects.{key_cmp, Slots, is_key, nothing, slot_at}
 use Rattle.object_pool.proofs.EntryLemmas.{lookup_map, set_value_map, all_at, all_set, sum_set}
 

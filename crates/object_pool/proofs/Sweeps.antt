@@ -1,5 +1,5 @@
 -- What is left where the objects that do not exist are forgotten.
-use Rattle.std.proofs.Common.{◌≡◌, ℕ, ◌+◌, ◌==◌, ◌&&◌, not, Bool, true, false, cond, List, [], ◌∷◌, length, map, sum_by, Some, None, IsNone, is_some, unwrap_or, if◌then◌else◌, refl, sym, ◌∙◌, ap, ap₂, subst, arith}
+use Rattle.std.proofs.Common.{◌≡◌, ℕ, ◌==◌, Bool, true, false, cond, List, [], ◌∷◌, sum_by, Some, None, IsNone, is_some, unwrap_or, if◌then◌else◌, refl, sym, ◌∙◌, ap, ap₂, subst, arith}
 use Rattle.std.specs.List.{AllByRecursion, filter}
 use Rattle.std.specs.List.Sorted.{IsStrictlySortedBy}
 use Rattle.std.specs.Int.{div_ceil}
@@ -12,7 +12,7 @@ use Rattle.std.proofs.lemmas.List.Sums.{sum_by-cons}
 use Rattle.rgw_model.specs.declared.pool_key.Key.{Key}
 use Rattle.frame_region.specs.Region.{RegionView}
 use Rattle.object_pool.specs.declared.object.Stored.{Stored}
-use Rattle.object_pool.specs.Objects.{Object, Slots, PoolView, exists, is_key, key_cmp, nothing, settled, slot_at}
+use Rattle.object_pool.specs.Objects.{Object, Slots, exists, is_key, key_cmp, nothing, settled, slot_at}
 use Rattle.object_pool.specs.Stored.{Entries, object_in, slots_in, is_stored, IsHeld, AreApart, AllApart, AllHeld, IsSound}
 use Rattle.object_pool.proofs.FrameSums.{exists_is, first_of_both}
 use Rattle.object_pool.proofs.Keys.{same_key}

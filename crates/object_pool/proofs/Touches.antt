@@ -1,10 +1,10 @@
 -- What a pool is where what is kept under one key is changed.
-use Rattle.std.proofs.Common.{◌≡◌, ◌≢◌, ℕ, ◌+◌, ◌==◌, ◌&&◌, not, Bool, true, false, cond, List, [], ◌∷◌, length, sum_by, Some, None, IsSome, is_some, unwrap_or, if◌then◌else◌, refl, sym, ◌∙◌, ap, ap₂, subst, arith}
+use Rattle.std.proofs.Common.{◌≡◌, ◌≢◌, ℕ, ◌+◌, ◌==◌, Bool, true, false, cond, List, [], ◌∷◌, length, sum_by, Some, IsSome, is_some, unwrap_or, if◌then◌else◌, refl, sym, ◌∙◌, ap, subst, arith}
 use Rattle.std.specs.List.{filter}
 use Rattle.std.specs.Map.{lookup, set_value}
 use Rattle.std.proofs.lemmas.Bool.{eqb-true}
 use Rattle.rgw_model.specs.declared.pool_key.Key.{Key}
-use Rattle.object_pool.specs.Objects.{Object, Slots, PoolView, exists, frames_of, is_key, nothing, object_at, settled, slot_at, HasFrameSum, with_object, KeepsOthers}
+use Rattle.object_pool.specs.Objects.{Object, Slots, PoolView, exists, frames_of, is_key, nothing, settled, slot_at, HasFrameSum, with_object}
 use Rattle.object_pool.proofs.EntryLemmas.{found_there, lookup_set, lookup_set_other, sum_set}
 use Rattle.object_pool.proofs.FrameSums.{first_of_both, sum_existing}
 use Rattle.object_pool.proofs.Keys.{keys_apart, keys_apart_by, same_key}

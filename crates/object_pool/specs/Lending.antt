@@ -1,6 +1,5 @@
 -- What a pool is once the borrow that a call returns has ended.
-use Rattle.std.specs.Prelude.{◌≡◌, List, Option, Result}
-use Rattle.std.specs.Borrow.{Fml, MutBor, Lends, RestsIfErr, RestsIfNone}
+use Rattle.std.specs.Borrow.{Fml, MutBor, Lends}
 use Rattle.std.specs.Map.{set_value}
 use Rattle.rgw_model.specs.declared.pool_key.Key.{Key}
 use Rattle.object_pool.specs.Objects.{PoolView, slot_at, is_key}

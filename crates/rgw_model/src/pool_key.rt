@@ -58,15 +58,23 @@ pub enum Key {
         shard: u32,
     },
     /// The first bytes of an object, with its attributes.
-    Head { container: u64, name: Text },
+    Head {
+        container: u64,
+        name: Text,
+    },
     /// The bytes of one further stripe of an object.
-    Tail { write: u64, part: PartNumber },
+    Tail {
+        write: u64,
+        part: PartNumber,
+    },
     /// Stripes that are to be dropped.
     Queue,
     /// The log of changed shards.
     Changes,
     /// How far a peer's changes are taken over.
-    Sync { peer: u8 },
+    Sync {
+        peer: u8,
+    },
 }
 
 impl Key {

@@ -1,6 +1,4 @@
-use Rattle.std.proofs.Common.{◌+◌, length, ap, refl, ◌∙◌}
-use Rattle.std.specs.List.{splice}
-use Rattle.object_pool.specs.Places.{object_of}
+use Rattle.std.proofs.Common.{ap, refl, ◌∙◌}
 use Rattle.object_pool.proofs.PlaceLemmas.{parts_there, parts_sum, attrs_change}
 use Rattle.object_pool.proofs.place.Place.set_attrs.Goals as goal
 

@@ -1,5 +1,5 @@
-use Rattle.std.proofs.Common.{refl, ◌∙◌}
-use Rattle.object_pool.proofs.PlaceLemmas.{parts_there, parts_sum, rows_change, stays_on_err}
+use Rattle.std.proofs.Common.{refl}
+use Rattle.object_pool.proofs.PlaceLemmas.{parts_there, parts_sum, rows_change}
 use Rattle.object_pool.proofs.place.Place.take_row.Goals as goal
 
 pub invariant_of-self : goal.invariant_of-self

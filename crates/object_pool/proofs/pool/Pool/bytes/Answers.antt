@@ -1,9 +1,7 @@
-use Rattle.std.proofs.Common.{◌≡◌, ℕ, ◌+◌, ◌-◌, ◌≤◌, ap, sym, length, ◌++◌, take, drop, ◌∙◌, arith}
+use Rattle.std.proofs.Common.{◌≡◌, ◌≤◌, ap, sym, length, ◌++◌, take, drop, ◌∙◌, arith}
 use Rattle.frame_region.specs.Region.{bytes_of}
 use Rattle.object_pool.specs.Objects.{is_key}
-use Rattle.object_pool.specs.Stored.{IsHeld}
 use Rattle.object_pool.proofs.Counts.{part_of_size}
-use Rattle.object_pool.proofs.FrameSums.{size_is}
 use Rattle.object_pool.proofs.SlotLemmas.{entry_there, slot_there, held_of}
 use Rattle.object_pool.proofs.pool.Pool.bytes.Goals as goal
 

@@ -1,9 +1,7 @@
-use Rattle.std.proofs.Common.{◌≡◌, ℕ, ◌+◌, ◌-◌, ◌<◌, [], is_some, ap, ap₂, sym, ◌∙◌, refl, arith}
+use Rattle.std.proofs.Common.{◌≡◌, ◌+◌, ◌-◌, ◌<◌, [], ap, ap₂, ◌∙◌, refl, arith}
 use Rattle.std.specs.Int.{div_ceil}
-use Rattle.std.specs.Map.{lookup, set_value}
-use Rattle.object_pool.specs.Objects.{Object, PoolView, dropped, frames_of, is_key, slot_at, with_object}
-use Rattle.object_pool.specs.Parts.{Parts}
-use Rattle.object_pool.specs.Lending.{with_parts}
+use Rattle.std.specs.Map.{set_value}
+use Rattle.object_pool.specs.Objects.{Object, dropped, frames_of, is_key, slot_at, with_object}
 use Rattle.object_pool.proofs.EntryLemmas.{set_value_twice}
 use Rattle.object_pool.proofs.FrameSums.{no_frames_of_none, same_pool}
 use Rattle.object_pool.proofs.PlaceLemmas.{done}

@@ -1,4 +1,4 @@
-use Rattle.std.proofs.Common.{◌≡◌, Some, Ok, IsNone, is_some, cond, ap, ap₂, sym, refl, subst, ◌∙◌}
+use Rattle.std.proofs.Common.{◌≡◌, Some, IsNone, is_some, cond, ap, ap₂, sym, refl, subst, ◌∙◌}
 use Rattle.std.specs.List.{filter}
 use Rattle.std.specs.List.Sorted.{IsStrictlySortedBy}
 use Rattle.std.specs.Map.{lookup, keys_of}
@@ -6,9 +6,8 @@ use Rattle.std.specs.BTreeMap.{insert_entry}
 use Rattle.rgw_model.specs.declared.pool_key.Key.{Key}
 use Rattle.object_pool.specs.declared.object.Stored.{Stored}
 use Rattle.object_pool.specs.Parts.{Parts, no_parts}
-use Rattle.object_pool.specs.Objects.{PoolView, Slots, exists, is_key, key_cmp, nothing, object_at, objects, settled, slot_at}
-use Rattle.object_pool.specs.Stored.{Entries, IsSound, slots_in, object_in}
-use Rattle.object_pool.proofs.FrameSums.{view_of}
+use Rattle.object_pool.specs.Objects.{exists, is_key, key_cmp, settled, slot_at}
+use Rattle.object_pool.specs.Stored.{Entries, IsSound, slots_in}
 use Rattle.object_pool.proofs.Insertions.{Adds, adds_from, added_view, inserted_sound, inserted_view, inserted_same, objects_insert}
 use Rattle.object_pool.proofs.SlotLemmas.{kept_or_not, slot_there}
 use Rattle.object_pool.proofs.pool.Pool.insert.Goals as goal

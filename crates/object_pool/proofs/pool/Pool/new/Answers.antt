@@ -1,5 +1,5 @@
-use Rattle.std.proofs.Common.{◌≡◌, ℕ, ◌+◌, [], sum_by, ap, subst, arith, sym, ◌∙◌}
-use Rattle.object_pool.specs.Stored.{Entries, AllHeld, AllApart}
+use Rattle.std.proofs.Common.{◌≡◌, ◌+◌, [], sum_by, ap, subst, arith, sym}
+use Rattle.object_pool.specs.Stored.{AllHeld, AllApart}
 use Rattle.object_pool.proofs.pool.Pool.new.Goals as goal
 
 no_entries_apart : AllApart []

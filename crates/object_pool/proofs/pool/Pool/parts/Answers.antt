@@ -1,7 +1,6 @@
-use Rattle.std.proofs.Common.{ap, sym, ◌∙◌}
+use Rattle.std.proofs.Common.{ap, sym}
 use Rattle.object_pool.specs.Objects.{is_key}
-use Rattle.object_pool.proofs.FrameSums.{size_is}
-use Rattle.object_pool.proofs.SlotLemmas.{entry_there, slot_there, held_of}
+use Rattle.object_pool.proofs.SlotLemmas.{entry_there, slot_there}
 use Rattle.object_pool.proofs.pool.Pool.parts.Goals as goal
 
 pub stored_at-requires : goal.stored_at-requires

@@ -1,11 +1,9 @@
-use Rattle.std.proofs.Common.{◌≡◌, Some, is_some, IsSome, true, ap, subst, refl, sym, ◌∙◌, unwrap_or}
+use Rattle.std.proofs.Common.{◌≡◌, Some, is_some, ap, subst, refl, sym, ◌∙◌, unwrap_or}
 use Rattle.std.specs.Option.{option_copied_mut}
 use Rattle.std.specs.Map.{lookup, set_value}
-use Rattle.object_pool.specs.declared.object.Stored.{Stored}
-use Rattle.object_pool.specs.Objects.{Object, Slots, PoolView, is_key, slot_at, nothing}
+use Rattle.object_pool.specs.Objects.{PoolView, is_key, slot_at, nothing}
 use Rattle.object_pool.specs.Stored.{Entries, IsSound, slots_in, object_in}
 use Rattle.object_pool.specs.Lending.{with_parts}
-use Rattle.object_pool.proofs.EntryLemmas.{lookup_map}
 use Rattle.object_pool.proofs.FrameSums.{view_of}
 use Rattle.object_pool.proofs.SlotLemmas.{entry_there, slot_there, kept_there, parts_sound, parts_view}
 use Rattle.object_pool.proofs.Lent.{some_mut}

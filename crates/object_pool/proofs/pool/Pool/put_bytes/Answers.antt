@@ -1,11 +1,11 @@
-use Rattle.std.proofs.Common.{◌≡◌, ℕ, ◌+◌, ◌-◌, ◌≤◌, ap, ap₂, sym, subst, length, take, drop, ◌++◌, Some, is_some, ◌∙◌, arith, rules}
+use Rattle.std.proofs.Common.{◌≡◌, ◌≤◌, ap, ap₂, sym, subst, length, take, Some, is_some, ◌∙◌, arith}
 use Rattle.std.specs.Int.{div_ceil}
 use Rattle.std.specs.Option.{IsSome, option_copied_mut}
 use Rattle.std.specs.Map.{lookup, set_value}
-use Rattle.frame_region.specs.Region.{Run, RegionView, bytes_of, overwritten, Owns, Apart, Keeps}
+use Rattle.frame_region.specs.Region.{Run, RegionView, bytes_of, Owns, Apart, Keeps}
 use Rattle.object_pool.specs.declared.object.Stored.{Stored}
-use Rattle.object_pool.specs.Objects.{is_key, PoolView, HasFrameSum, frames_of, slot_at, with_object}
-use Rattle.object_pool.specs.Stored.{Entries, IsSound, IsHeld, slots_in, object_in}
+use Rattle.object_pool.specs.Objects.{is_key, HasFrameSum, frames_of, slot_at}
+use Rattle.object_pool.specs.Stored.{IsSound, IsHeld, slots_in, object_in}
 use Rattle.object_pool.proofs.Counts.{count_fits, first_of_overwritten}
 use Rattle.object_pool.proofs.FrameSums.{view_of, frame_sum, frames_are, same_pool}
 use Rattle.object_pool.proofs.Lent.{some_mut}
