@@ -98,6 +98,13 @@ impl Omap {
         Ok(())
     }
 
+    /// Removes all rows. Takes no memory.
+    pub fn clear(&mut self)
+        ensures { self.new ≡ record { rows = []; rooms = []; spare = self.old.spare } }
+    {
+        self.rows.clear();
+    }
+
     /// Removes the row at the key, and says whether it was there. Takes no memory.
     pub fn remove(&mut self, key: &[u8]) -> bool
         ensures found { result ≡ is_some (value_at self.old.rows key.now) }

@@ -10,6 +10,7 @@ mod known;
 mod laws;
 mod pairs;
 mod plain;
+mod pool_key;
 mod reading;
 mod reply;
 mod slot;
@@ -29,6 +30,7 @@ pub use laws::{
 };
 pub use pairs::Pairs;
 pub use plain::{Stream, read_stream};
+pub use pool_key::{Key, PartNumber};
 pub use reading::{HeadFault, read_head};
 pub use reply::{BadRequest, HttpReply, MapReply, Refusal, ReplyHead, StreamEnd};
 pub use slot::{Content, Slot};

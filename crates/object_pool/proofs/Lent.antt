@@ -1,0 +1,8 @@
+-- A look-up that finds something.
+use Rattle.std.proofs.Common.{Option, None, Some, IsSome, rules}
+use Rattle.std.specs.Option.{option_copied_mut}
+use Rattle.std.specs.Borrow.{MutBor}
+
+pub some_mut : {X : Type 0} (r : Option (MutBor X)) → IsSome (option_copied_mut r) → IsSome r
+some_mut None bad = bad
+some_mut (Some x) _ = search rules

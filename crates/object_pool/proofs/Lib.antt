@@ -1,0 +1,11 @@
+pub mod Counts
+pub mod EntryLemmas
+pub mod FrameSums
+pub mod Insertions
+pub mod Keys
+pub mod Lent
+pub mod PlaceLemmas
+pub mod Replacements
+pub mod SlotLemmas
+pub mod Sweeps
+pub mod Touches

@@ -1,0 +1,6 @@
+pub mod Lending
+pub mod Objects
+pub mod Parts
+pub mod PartsLending
+pub mod Places
+pub mod Stored

@@ -1,0 +1,17 @@
+//! One zone's objects, each of bytes in frames, attributes and rows.
+#![tactic(auto)]
+
+mod error;
+mod lookup;
+mod object;
+mod place;
+mod pool;
+mod sweep;
+#[cfg(test)]
+mod tests;
+
+pub use error::NoSpace;
+pub use omap_pages::{OutOfMemory, Page};
+pub use place::Place;
+pub use pool::Pool;
+pub use rgw_model::{Bytes, Key, PartNumber};

@@ -1,0 +1,261 @@
+ghost use Rattle.std.specs.Prelude.{◌≡◌, ◌↔◌, ◌+◌, ◌-◌, ◌^◌, ◌<◌, ◌≤◌, [], IfOk, IfErr, OnOk, OnErr, IsErr, IsTrue, IsSome, IsNone, is_some, false, min, length, take, drop};
+ghost use Rattle.std.specs.Borrow.{sem};
+ghost use Rattle.std.specs.Int.{div_ceil};
+ghost use Rattle.std.specs.Map.{lookup};
+ghost use Rattle.rgw_model.specs.declared.pool_key.Key.{Key as KeyOf};
+ghost use Rattle.object_pool.specs.Objects.{HasFrameSum, IsMap, KeepsAll, KeepsCounts, dropped, exists, frames_of, is_key, nothing, object_at, objects, slot_at, with_object};
+ghost use Rattle.object_pool.specs.Lending.{LendsParts};
+
+use crate::error::NoSpace;
+use crate::lookup::stored_at;
+use crate::object::{ObjectParts, Stored};
+use crate::sweep::Sweep;
+use frame_region::Region;
+use omap_pages::OutOfMemory;
+use rgw_model::{Bytes, Key};
+use std::alloc::Global;
+use std::collections::BTreeMap;
+use std::marker::Model;
+use std::mem::replace;
+
+/// The objects of one zone, by their keys. Each has bytes, which lie in frames, attributes and rows.
+///
+/// An object with none of these does not exist. Contracts see a finite map from keys to objects that
+/// has none of that kind: `objects` lists it, and `object_at` finds in it, with `nothing` where there is
+/// no object. Spare rows that are ready for an object that does not exist are lost when its place is
+/// given up.
+///
+/// The bytes of an object take as many frames as they fill, the last one in part.
+#[derive(Drop)]
+pub struct Pool {
+    region: Region,
+    // The bytes of one frame.
+    frame: u32,
+    objects: BTreeMap<Key, Stored>,
+    sweep: Sweep,
+}
+
+impl Model for Pool {
+    ghost use Rattle.object_pool.specs.Objects.{PoolView};
+    ghost use Rattle.object_pool.specs.Stored.{IsSound, slots_in};
+
+    ghost Value = { PoolView };
+
+    ghost view = { λ p. record {
+      frame = p.region.frame;
+      frames = p.region.frames;
+      free = p.region.free;
+      slots = slots_in p.region p.objects.entries;
+    } };
+
+    ghost invariant = { λ p. IsSound p.region p.frame p.objects.entries };
+}
+
+impl Pool {
+    /// A pool without objects, of `frames` frames of `frame` bytes each. It fails only for want of
+    /// memory.
+    pub fn new(alloc: Global, frames: u32, frame: u32) -> Result<Pool, OutOfMemory>
+        requires some_frames { 1 ≤ frames }
+        requires not_too_many { frames ≤ 4194304 }
+        requires not_too_small { 16 ≤ frame }
+        requires not_too_large { frame ≤ 65536 }
+        ensures { IfOk result (λ pool. pool ≡ record { frame = frame; frames = frames; free = frames; slots = [] }) }
+    {
+        Ok(Pool {
+            region: Region::new(alloc, frames, frame)?,
+            frame,
+            objects: BTreeMap::new(alloc),
+            sweep: Sweep::new(),
+        })
+    }
+
+    /// How many frames are free.
+    pub fn free(&self) -> u32
+        ensures value { result ≡ self.now.free }
+        ensures sum { HasFrameSum self.now }
+        ensures map { IsMap self.now }
+    {
+        self.region.free()
+    }
+
+    #[cfg(test)]
+    pub(crate) fn kept(&self) -> usize {
+        self.objects.len()
+    }
+
+    // Whether something is kept under the key.
+    fn is_kept(&self, key: &Key) -> bool
+        ensures { result ≡ is_some (lookup (is_key key.now) self.now.slots) }
+    {
+        self.objects.contains_key(key)
+    }
+
+    // Whether the object exists.
+    pub(crate) fn has_object(&self, key: &Key) -> bool
+        ensures value { result ≡ exists (slot_at self.now.slots key.now) }
+        ensures there { IsTrue result → IsSome (lookup (is_key key.now) self.now.slots) }
+        ensures sum { HasFrameSum self.now }
+    {
+        match self.objects.get(key) {
+            Some(object) => object.exists(),
+            None => false,
+        }
+    }
+
+    // Keeps something under the key: the object, or nothing where it does not exist.
+    pub(crate) fn make_ready(&mut self, alloc: Global, key: &Key) -> Result<(), OutOfMemory>
+        ensures there { OnOk result (IsSome (lookup (is_key key.now) self.new.slots)) }
+        ensures object { OnOk result (slot_at self.new.slots key.now ≡ object_at self.old key.now) }
+        ensures objects { objects self.new ≡ objects self.old }
+        ensures all { KeepsAll self.old self.new }
+        ensures counts { KeepsCounts self.old self.new }
+        ensures sum { HasFrameSum self.new }
+    {
+        if self.has_object(key) {
+            return Ok(());
+        }
+        self.make_place(alloc, key)
+    }
+
+    // Makes a place for the key of an object that does not exist, with nothing in it.
+    fn make_place(&mut self, alloc: Global, key: &Key) -> Result<(), OutOfMemory>
+        requires { exists (slot_at self.old.slots key.now) ≡ false }
+        ensures there { OnOk result (IsSome (lookup (is_key key.now) self.new.slots)) }
+        ensures ok { OnOk result (slot_at self.new.slots key.now ≡ nothing) }
+        ensures objects { objects self.new ≡ objects self.old }
+        ensures all { KeepsAll self.old self.new }
+        ensures counts { KeepsCounts self.old self.new }
+        ensures sum { HasFrameSum self.old → HasFrameSum self.new }
+    {
+        if self.is_kept(key) {
+            *self.parts_mut(key) = ObjectParts::new(alloc)?;
+            return Ok(());
+        }
+        if self.sweep.is_due(self.objects.len()) {
+            self.forget_emptied();
+        }
+        self.insert(alloc, key)
+    }
+
+    // Forgets what is kept for objects that do not exist.
+    fn forget_emptied(&mut self)
+        ensures objects { objects self.new ≡ objects self.old }
+        ensures all { KeepsAll self.old self.new }
+        ensures counts { KeepsCounts self.old self.new }
+        ensures absent { (k : KeyOf) → IsNone (lookup (is_key k) self.old.slots) → IsNone (lookup (is_key k) self.new.slots) }
+    {
+        self.objects.retain(|_key, object| object.exists());
+        self.sweep.note(self.objects.len());
+    }
+
+    // Keeps nothing under a new key.
+    fn insert(&mut self, alloc: Global, key: &Key) -> Result<(), OutOfMemory>
+        requires { IsNone (lookup (is_key key.now) self.old.slots) }
+        ensures there { OnOk result (IsSome (lookup (is_key key.now) self.new.slots)) }
+        ensures ok { OnOk result (slot_at self.new.slots key.now ≡ nothing) }
+        ensures objects { objects self.new ≡ objects self.old }
+        ensures all { KeepsAll self.old self.new }
+        ensures counts { KeepsCounts self.old self.new }
+    {
+        let key = key.try_clone()?;
+        let parts = ObjectParts::new(alloc)?;
+        let run = self.region.take(0).unwrap();
+        self.objects.insert(
+            key,
+            Stored {
+                run,
+                size: 0,
+                parts,
+            },
+        )?;
+        Ok(())
+    }
+
+    // The attributes and the rows at a key, to change them.
+    pub(crate) fn parts_mut(&mut self, key: &Key) -> &mut ObjectParts
+        requires { IsSome (lookup (is_key key.now) self.old.slots) }
+        ensures* lends { sem 𝓛 (LendsParts self.entry key.now result) }
+        ensures attrs { result.now.attrs ≡ (slot_at self.old.slots key.now).attrs }
+        ensures rows { result.now.rows ≡ (slot_at self.old.slots key.now).rows }
+    {
+        let object = self.objects.get_mut(key).unwrap();
+        &mut object.parts
+    }
+
+    // The attributes and the rows at a key.
+    pub(crate) fn parts(&self, key: &Key) -> &ObjectParts
+        requires { IsSome (lookup (is_key key.now) self.now.slots) }
+        ensures attrs { result.now.attrs ≡ (slot_at self.now.slots key.now).attrs }
+        ensures rows { result.now.rows ≡ (slot_at self.now.slots key.now).rows }
+    {
+        &stored_at(&self.objects, key).parts
+    }
+
+    // How many bytes are at a key.
+    pub(crate) fn size(&self, key: &Key) -> u64
+        requires { IsSome (lookup (is_key key.now) self.now.slots) }
+        ensures { result ≡ length (slot_at self.now.slots key.now).bytes }
+    {
+        stored_at(&self.objects, key).size
+    }
+
+    // What there is of a range of the bytes at a key.
+    pub(crate) fn bytes(
+        &self,
+        alloc: Global,
+        key: &Key,
+        start: u64,
+        count: u64,
+    ) -> Result<Bytes, OutOfMemory>
+        requires { IsSome (lookup (is_key key.now) self.now.slots) }
+        ensures { IfOk result (λ bytes. bytes ≡ take count (drop start (slot_at self.now.slots key.now).bytes)) }
+    {
+        let object = stored_at(&self.objects, key);
+        let first = start.min(object.size);
+        let length = count.min(object.size - first);
+        let mut bytes = vec![in alloc; 0u8; length as usize]?;
+        self.region.read(&object.run, first, bytes.as_mut_slice());
+        Ok(Bytes::from_vec(bytes))
+    }
+
+    // Puts bytes in the place of those at a key.
+    pub(crate) fn put_bytes(&mut self, key: &Key, bytes: &[u8]) -> Result<(), NoSpace>
+        requires { IsSome (lookup (is_key key.now) self.old.slots) }
+        ensures refused { IsErr result ↔ (self.old.free < div_ceil (length bytes.now) self.old.frame) }
+        ensures told { IfErr result (λ e. e ≡ record { free = self.old.free; needed = min (div_ceil (length bytes.now) self.old.frame) (2 ^ 32 - 1) }) }
+        ensures err { OnErr result (self.new ≡ self.old) }
+        ensures ok { OnOk result (self.new ≡ with_object self.old key.now
+            (record (slot_at self.old.slots key.now) { bytes = bytes.now })
+            (self.old.free - div_ceil (length bytes.now) self.old.frame + frames_of self.old.frame (slot_at self.old.slots key.now))) }
+        ensures there { IsSome (lookup (is_key key.now) self.new.slots) }
+        ensures sum { HasFrameSum self.new }
+    {
+        let frames = bytes.len().div_ceil(self.frame as usize);
+        let needed = u32::try_from(frames).unwrap_or(u32::MAX);
+        let run = match self.region.take(needed) {
+            Ok(run) => run,
+            Err(refused) => {
+                let free = refused.free;
+                return Err(NoSpace { free, needed });
+            }
+        };
+        self.region.write(&run, 0, bytes);
+        let object = self.objects.get_mut(key).unwrap();
+        object.size = bytes.len() as u64;
+        let old = replace(&mut object.run, run);
+        self.region.give(old);
+        Ok(())
+    }
+
+    // Drops the bytes, the attributes and the rows at a key. Spare rows stay.
+    pub(crate) fn drop_object(&mut self, key: &Key)
+        requires { IsSome (lookup (is_key key.now) self.old.slots) }
+        ensures after { self.new ≡ with_object self.old key.now (dropped (slot_at self.old.slots key.now))
+            (self.old.free + frames_of self.old.frame (slot_at self.old.slots key.now)) }
+        ensures there { IsSome (lookup (is_key key.now) self.new.slots) }
+        ensures sum { HasFrameSum self.new }
+    {
+        let _ = self.put_bytes(key, &[]);
+        self.parts_mut(key).clear();
+    }
+}

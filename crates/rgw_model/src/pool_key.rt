@@ -1,0 +1,112 @@
+use crate::Text;
+use std::alloc::AllocError;
+use std::marker::Model;
+
+/// The number of a part of an upload, from 1 on, at most 335544319.
+#[derive(Clone, Copy, Debug, PartialEq, Eq, PartialOrd, Ord)]
+pub struct PartNumber {
+    number: u32,
+}
+
+impl Model for PartNumber {
+    ghost use Rattle.std.specs.Prelude.{ℕ, ◌≤◌};
+
+    ghost Value = { ℕ };
+
+    ghost view = { λ part. part.number };
+
+    ghost invariant = { λ part. part.number ≤ 335544319 };
+
+    ghost inverse = { λ number. record { number = number } };
+}
+
+impl PartNumber {
+    ghost use Rattle.std.specs.Prelude.{◌≡◌, ◌≤◌};
+
+    /// The greatest number.
+    pub const LAST: u32 = 335_544_319;
+
+    /// The part with this number.
+    pub fn new(number: u32) -> PartNumber
+        requires { number ≤ 335544319 }
+        ensures { result ≡ number }
+    {
+        PartNumber { number }
+    }
+
+    /// Its number.
+    pub fn get(self) -> u32
+        ensures value { result ≡ self }
+        ensures bound { result ≤ 335544319 }
+    {
+        self.number
+    }
+}
+
+/// The name of an object of a zone's pool.
+///
+/// Keys are ordered by kind, as the variants stand here, and then by their fields, each number as
+/// a number and a name byte by byte.
+#[derive(Debug, PartialEq, Eq, PartialOrd, Ord, Drop)]
+pub enum Key {
+    /// Rows of the containers and of the accounts, and the log of the containers' changes.
+    Root,
+    /// Entries of a container's objects by name.
+    Shard {
+        container: u64,
+        instance: u64,
+        shard: u32,
+    },
+    /// The first bytes of an object, with its attributes.
+    Head {
+        container: u64,
+        name: Text,
+    },
+    /// The bytes of one further stripe of an object.
+    Tail {
+        write: u64,
+        part: PartNumber,
+    },
+    /// Stripes that are to be dropped.
+    Queue,
+    /// The log of changed shards.
+    Changes,
+    /// How far a peer's changes are taken over.
+    Sync {
+        peer: u8,
+    },
+}
+
+impl Key {
+    ghost use Rattle.std.specs.Prelude.{◌≡◌, IfOk};
+
+    /// A copy of its own.
+    pub fn try_clone(&self) -> Result<Key, AllocError>
+        ensures { IfOk result (λ copy. copy ≡ self.now) }
+    {
+        let copy = match self {
+            Key::Root => Key::Root,
+            Key::Shard {
+                container,
+                instance,
+                shard,
+            } => Key::Shard {
+                container: *container,
+                instance: *instance,
+                shard: *shard,
+            },
+            Key::Head { container, name } => Key::Head {
+                container: *container,
+                name: name.try_clone()?,
+            },
+            Key::Tail { write, part } => Key::Tail {
+                write: *write,
+                part: *part,
+            },
+            Key::Queue => Key::Queue,
+            Key::Changes => Key::Changes,
+            Key::Sync { peer } => Key::Sync { peer: *peer },
+        };
+        Ok(copy)
+    }
+}
