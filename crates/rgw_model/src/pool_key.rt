@@ -2,7 +2,7 @@ use crate::Text;
 use std::alloc::AllocError;
 use std::marker::Model;
 
-/// The number of a part of an upload, from 1 on, at most 335544319.
+/// The number of a part of an object, at most 335544319. Part 0 is the head, and part k the tail k.
 #[derive(Clone, Copy, Debug, PartialEq, Eq, PartialOrd, Ord)]
 pub struct PartNumber {
     number: u32,
