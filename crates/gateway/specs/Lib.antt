@@ -1,3 +1,4 @@
+pub mod Faults
 pub mod Store
 pub mod Asking
 pub mod Answering
