@@ -4,21 +4,21 @@ use Rattle.std.specs.Prelude.{if◌then◌else◌, IfOk, OnErr}
 use Rattle.std.proofs.KnownBytes.{Consumes-trans}
 use Rattle.std.specs.Io.KnownBytes.{Consumes, IsAtEnd}
 use Rattle.http_intake.specs.Intake.{IntakeState, is_in_chunks, GivesHead}
-use Rattle.rgw_model.specs.declared.head.Framing.{Framing}
-use Rattle.rgw_model.specs.declared.head.Framing.TheVariants as Frame
-use Rattle.rgw_model.specs.declared.head.Head.{Head}
-use Rattle.rgw_model.specs.declared.head.BodyPlan.TheVariants as Plan
-use Rattle.rgw_model.specs.declared.reply.StreamEnd.TheVariants as Stream
-use Rattle.rgw_model.specs.Forms.{is_put, is_get, is_framed, is_sized, object_limit, drop_limit, content_length, has_host, is_built, has_method_form, can_drop, plan_of, closes}
-use Rattle.rgw_model.specs.Streams.{IsBody, TakesRequest, IsEnd}
+use Rattle.http_model.specs.declared.head.Framing.{Framing}
+use Rattle.http_model.specs.declared.head.Framing.TheVariants as Frame
+use Rattle.http_model.specs.declared.head.Head.{Head}
+use Rattle.http_model.specs.declared.head.BodyPlan.TheVariants as Plan
+use Rattle.http_model.specs.declared.reply.StreamEnd.TheVariants as Stream
+use Rattle.http_model.specs.Forms.{is_put, is_get, is_framed, is_sized, object_limit, drop_limit, content_length, has_host, is_built, has_method_form, can_drop, plan_of, closes}
+use Rattle.http_model.specs.Streams.{IsBody, TakesRequest, IsEnd}
 use Rattle.rgw_model.specs.Answers.{put, get}
-use Rattle.rgw_model.specs.Connections.{judged, kind_of, command_of}
-use Rattle.rgw_model.proofs.StreamLaws.{more_head, some_bytes}
+use Rattle.swift_model.specs.Connections.{judged, kind_of, command_of}
+use Rattle.http_model.proofs.StreamLaws.{more_head, some_bytes}
 use Rattle.http_intake.specs.Reading.{HasNoNext}
 use Rattle.http_intake.specs.declared.fault.IntakeFault.{IntakeFault}
 use Rattle.http_intake.specs.declared.fault.IntakeFault.TheVariants as Fault
-use Rattle.rgw_model.specs.declared.reply.StreamEnd.{StreamEnd}
-use Rattle.rgw_model.specs.declared.reply.BadRequest.TheVariants as Word
+use Rattle.http_model.specs.declared.reply.StreamEnd.{StreamEnd}
+use Rattle.http_model.specs.declared.reply.BadRequest.TheVariants as Word
 use Rattle.gateway.specs.declared.incoming.Incoming.{Incoming}
 use Rattle.gateway.specs.declared.incoming.Incoming.TheVariants as Came
 use Rattle.gateway.specs.Incoming.{FindsRest, FindsIncoming, ReadsSome, EndsHeads, end_for}

@@ -3,9 +3,9 @@ use Rattle.std.proofs.Common.{◌≡◌, ℕ, suc, ◌+◌, ◌<◌, Bool, true,
 use Rattle.std.proofs.lemmas.Bool.Decides.{nat_tests}
 use Rattle.std.proofs.KnownBytes.{Consumes-nil, Appends-nil}
 use Rattle.std.specs.Prelude.{nat_le}
-use Rattle.rgw_model.specs.declared.head.Head.{Head}
-use Rattle.rgw_model.specs.Framings.{value_of}
-use Rattle.rgw_model.specs.Forms.{is_unread, plan_of, lists_close, request_limit, closes}
+use Rattle.http_model.specs.declared.head.Head.{Head}
+use Rattle.http_model.specs.Framings.{value_of}
+use Rattle.http_model.specs.Forms.{is_unread, plan_of, lists_close, request_limit, closes}
 use Rattle.gateway.specs.declared.serve.ConnEnd.{ConnEnd}
 use Rattle.gateway.specs.declared.serve.Served.{Served}
 use Rattle.gateway.specs.Store.{StoreState}

@@ -3,16 +3,16 @@ use Rattle.std.proofs.Common.{◌≡◌, ◌⊎◌, inl, inr, ℕ, suc, ◌+◌,
 use Rattle.std.specs.Prelude.{MatchBool, if◌then◌else◌}
 use Rattle.std.proofs.KnownBytes.{Consumes-trans, Appends-trans}
 use Rattle.std.specs.Io.KnownBytes.{Consumes, Appends}
-use Rattle.rgw_model.specs.declared.head.Request.{Request}
-use Rattle.rgw_model.specs.declared.reply.StreamEnd.{StreamEnd}
-use Rattle.rgw_model.specs.declared.reply.StreamEnd.TheVariants as Stream
-use Rattle.rgw_model.specs.Forms.{closes}
-use Rattle.rgw_model.specs.Streams.{TakesRequest, IsEnd, IsStreamFrom}
-use Rattle.rgw_model.specs.Replies.{reply_text, end_text}
+use Rattle.http_model.specs.declared.head.Request.{Request}
+use Rattle.http_model.specs.declared.reply.StreamEnd.{StreamEnd}
+use Rattle.http_model.specs.declared.reply.StreamEnd.TheVariants as Stream
+use Rattle.http_model.specs.Forms.{closes}
+use Rattle.http_model.specs.Streams.{TakesRequest, IsEnd, IsStreamFrom}
+use Rattle.swift_model.specs.Replies.{reply_text, end_text}
 use Rattle.rgw_model.specs.Answers.{Command}
 use Rattle.rgw_model.specs.Buckets.{BucketMap}
-use Rattle.rgw_model.specs.Connections.{Verdict, refused, reaches, judged, is_reaching, Served, served, served_verdict, command_of, next_moment, moments_after, replies_from, bucket_from, moments_told, end_replies}
-use Rattle.rgw_model.proofs.StreamLaws.{more_request, stream_after, stream_of_end, more_broken, IsFinal}
+use Rattle.swift_model.specs.Connections.{Verdict, refused, reaches, judged, is_reaching, Served, served, served_verdict, command_of, next_moment, moments_after, replies_from, bucket_from, moments_told, end_replies}
+use Rattle.http_model.proofs.StreamLaws.{more_request, stream_after, stream_of_end, more_broken, IsFinal}
 use Rattle.gateway.specs.declared.serve.ConnEnd.{ConnEnd}
 use Rattle.gateway.specs.declared.asked.Asked.{Asked}
 use Rattle.gateway.specs.Store.{StoreState}

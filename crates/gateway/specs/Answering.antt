@@ -6,12 +6,12 @@ use Rattle.md5.specs.Md5.{md5}
 use Rattle.rgw_model.specs.declared.stamp.Stamp.{Stamp}
 use Rattle.rgw_model.specs.declared.slot.Slot.TheVariants.{Live}
 use Rattle.rgw_model.specs.declared.slot.Slot.{Slot}
-use Rattle.rgw_model.specs.declared.reply.HttpReply.TheVariants.{Answered}
+use Rattle.swift_model.specs.declared.reply.HttpReply.TheVariants.{Answered}
 use Rattle.rgw_model.specs.Stamps.{counted_moment, next_stamp}
 use Rattle.rgw_model.specs.Answers.{content_of, shown_answer}
 use Rattle.rgw_model.specs.Buckets.{slot_at, with_slot}
-use Rattle.rgw_model.specs.Connections.{next_moment, first_zone}
-use Rattle.rgw_model.specs.Replies.{reply_text}
+use Rattle.swift_model.specs.Connections.{next_moment, first_zone}
+use Rattle.swift_model.specs.Replies.{reply_text}
 use Rattle.gateway.specs.declared.asked.Asked.{Asked}
 use Rattle.gateway.specs.declared.fault.ServeFault.{ServeFault}
 use Rattle.gateway.specs.declared.fault.ServeFault.TheVariants.{ReadFault, WriteFault}

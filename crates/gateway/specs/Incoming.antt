@@ -4,15 +4,15 @@ use Rattle.std.specs.Io.KnownBytes.{IsAtEnd, Consumes}
 use Rattle.gw_io.specs.Outside.{Rose}
 use Rattle.http_intake.specs.declared.fault.IntakeFault.{IntakeFault}
 use Rattle.http_intake.specs.declared.fault.IntakeFault.TheVariants as Fault
-use Rattle.rgw_model.specs.declared.reply.BadRequest.TheVariants as Word
+use Rattle.http_model.specs.declared.reply.BadRequest.TheVariants as Word
 use Rattle.http_intake.specs.Intake.{IntakeState, IsBetween, is_in_chunks, GivesBytes}
-use Rattle.rgw_model.specs.declared.head.Head.{Head}
-use Rattle.rgw_model.specs.declared.head.BodyPlan.TheVariants as Plan
-use Rattle.rgw_model.specs.declared.head.Request.{Request}
-use Rattle.rgw_model.specs.declared.reply.StreamEnd.{StreamEnd}
-use Rattle.rgw_model.specs.declared.reply.StreamEnd.TheVariants as Stream
-use Rattle.rgw_model.specs.Forms.{content_length, plan_of, closes}
-use Rattle.rgw_model.specs.Streams.{IsBody, TakesRequest, IsEnd}
+use Rattle.http_model.specs.declared.head.Head.{Head}
+use Rattle.http_model.specs.declared.head.BodyPlan.TheVariants as Plan
+use Rattle.http_model.specs.declared.head.Request.{Request}
+use Rattle.http_model.specs.declared.reply.StreamEnd.{StreamEnd}
+use Rattle.http_model.specs.declared.reply.StreamEnd.TheVariants as Stream
+use Rattle.http_model.specs.Forms.{content_length, plan_of, closes}
+use Rattle.http_model.specs.Streams.{IsBody, TakesRequest, IsEnd}
 use Rattle.gateway.specs.declared.asked.Asked.{Asked}
 use Rattle.gateway.specs.declared.fault.ServeFault.{ServeFault}
 use Rattle.gateway.specs.declared.fault.ServeFault.TheVariants.{OutOfMemory, ReadFault, WriteFault}

@@ -2,11 +2,11 @@
 -- were read (OpenStack Object Storage API v1; RFC 9112).
 use Rattle.std.specs.Prelude.{◌≡◌, ℕ, List, ◌++◌, length, take, Option, ⊤}
 use Rattle.std.specs.Io.KnownBytes.{IsAtEnd, Consumes, Appends}
-use Rattle.rgw_model.specs.declared.head.Request.{Request}
-use Rattle.rgw_model.specs.declared.reply.StreamEnd.{StreamEnd}
-use Rattle.rgw_model.specs.declared.reply.StreamEnd.TheVariants as Stream
-use Rattle.rgw_model.specs.Streams.{IsStream}
-use Rattle.rgw_model.specs.Connections.{connection_text, bucket_from, moments_told, reply_count}
+use Rattle.http_model.specs.declared.head.Request.{Request}
+use Rattle.http_model.specs.declared.reply.StreamEnd.{StreamEnd}
+use Rattle.http_model.specs.declared.reply.StreamEnd.TheVariants as Stream
+use Rattle.http_model.specs.Streams.{IsStream}
+use Rattle.swift_model.specs.Connections.{connection_text, bucket_from, moments_told, reply_count}
 use Rattle.gateway.specs.declared.serve.ConnEnd.{ConnEnd}
 use Rattle.gateway.specs.declared.serve.ConnEnd.TheVariants.{Clean, Closed, Cut, Refused}
 use Rattle.gateway.specs.declared.serve.Served.{Served}

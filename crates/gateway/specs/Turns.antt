@@ -1,12 +1,12 @@
 -- What serving from the kth request of a connection on comes to, and what one turn does.
 use Rattle.std.specs.Prelude.{◌≡◌, ℕ, false, List, ◌++◌, length, take, if◌then◌else◌}
 use Rattle.std.specs.Io.KnownBytes.{Consumes, Appends}
-use Rattle.rgw_model.specs.declared.head.Request.{Request}
-use Rattle.rgw_model.specs.declared.reply.StreamEnd.{StreamEnd}
-use Rattle.rgw_model.specs.Forms.{closes}
-use Rattle.rgw_model.specs.Streams.{TakesRequest, IsStreamFrom}
-use Rattle.rgw_model.specs.Replies.{reply_text, end_text}
-use Rattle.rgw_model.specs.Connections.{judged, is_reaching, served, next_moment, replies_from, bucket_from, moments_told, reply_count}
+use Rattle.http_model.specs.declared.head.Request.{Request}
+use Rattle.http_model.specs.declared.reply.StreamEnd.{StreamEnd}
+use Rattle.http_model.specs.Forms.{closes}
+use Rattle.http_model.specs.Streams.{TakesRequest, IsStreamFrom}
+use Rattle.swift_model.specs.Replies.{reply_text, end_text}
+use Rattle.swift_model.specs.Connections.{judged, is_reaching, served, next_moment, replies_from, bucket_from, moments_told, reply_count}
 use Rattle.gateway.specs.declared.serve.ConnEnd.{ConnEnd}
 use Rattle.gateway.specs.Store.{StoreState}
 use Rattle.gateway.specs.Serving.{Outside, ReadsOut, connection_end}

@@ -1,12 +1,12 @@
 // The answer to a request: its reply is written, and the store is as the request leaves it.
 ghost use Rattle.std.specs.Prelude.{◌≡◌, ◌++◌, [], IfOk, OnOk, OnErr, unwrap_or, option_copied};
 ghost use Rattle.std.specs.Io.KnownBytes.{Appends};
-ghost use Rattle.rgw_model.specs.Replies.{reply_text};
-ghost use Rattle.rgw_model.specs.declared.reply.HttpReply.TheVariants.{Answered, BadRequest as Broken};
+ghost use Rattle.swift_model.specs.Replies.{reply_text};
+ghost use Rattle.swift_model.specs.declared.reply.HttpReply.TheVariants.{Answered, BadRequest as Broken};
 ghost use Rattle.rgw_model.specs.declared.reply.MapReply.TheVariants.{Refused, Stored};
 ghost use Rattle.rgw_model.specs.Answers.{shown_whole, default_kind, content_of};
 ghost use Rattle.rgw_model.specs.Buckets.{slot_at};
-ghost use Rattle.rgw_model.specs.Connections.{first_zone};
+ghost use Rattle.swift_model.specs.Connections.{first_zone};
 ghost use Rattle.rgw_model.specs.Stamps.{counted_moment, next_stamp};
 ghost use Rattle.gateway.specs.declared.asked.Asked.TheVariants.{Put, Get};
 ghost use Rattle.gateway.specs.Answering.{AppendsFront, WritesAtFault, IsStored, Answers, AnswersInPart, slot_text};
@@ -16,7 +16,9 @@ use crate::reply::{push_bad_request, push_refusal, push_shown_head, push_stored}
 use crate::{PlainStore, ServeFault};
 use gw_io::{Clock, Sink, write_all};
 use md5::{Digest, Md5};
-use rgw_model::{BadRequest, Bytes, Content, Pairs, Refusal, Slot, Stamp, Text, counted_moment};
+use http_model::BadRequest;
+use rgw_model::{Content, Refusal, Slot, Stamp, counted_moment};
+use rgw_types::{Bytes, Pairs, Text};
 use std::alloc::{AllocError, Global};
 
 /// The number of the one zone.
@@ -97,7 +99,7 @@ pub(crate) fn send_bad_request<K: Sink>(
 }
 
 /// Writes the reply that shows an object whole. A large one is written straight from the store.
-#[tactic(auto, unfolding(rgw_model::specs::Replies::reply_text))]
+#[tactic(auto, unfolding(swift_model::specs::Replies::reply_text))]
 fn send_shown<K: Sink>(
     sink: &mut K,
     out: &mut Vec<u8>,

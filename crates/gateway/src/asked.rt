@@ -1,12 +1,16 @@
 // What a request asks of the container.
 ghost use Rattle.std.specs.Prelude.{◌≡◌, IfOk, true, codes};
 ghost use Rattle.std.specs.List.{list_all};
-ghost use Rattle.rgw_model.specs.Framings.{values_of};
-ghost use Rattle.rgw_model.specs.Forms.{is_kind, has_host, is_built};
-ghost use Rattle.rgw_model.specs.Connections.{is_user, kind_of, judged};
+ghost use Rattle.http_model.specs.Framings.{values_of};
+ghost use Rattle.http_model.specs.Forms.{is_kind, has_host, is_built};
+ghost use Rattle.swift_model.specs.Connections.{is_user, kind_of, judged};
 ghost use Rattle.gateway.specs.Asking.{IsJudged};
 
-use rgw_model::{Bytes, Head, Refusal, Text};
+use http_model::Head;
+
+use rgw_model::Refusal;
+
+use rgw_types::{Bytes, Text};
 use std::alloc::{AllocError, Global};
 
 /// The token of the one user.
@@ -53,7 +57,7 @@ impl Asked {
 }
 
 /// Whether the token that counts is the user's.
-#[tactic(auto, unfolding(rgw_model::specs::Connections::is_user))]
+#[tactic(auto, unfolding(swift_model::specs::Connections::is_user))]
 fn is_user(head: &Head) -> bool
     ensures { result ≡ is_user head.now }
 {
@@ -64,7 +68,7 @@ fn is_user(head: &Head) -> bool
 }
 
 /// The media type that was sent. An empty one counts as none.
-#[tactic(auto, unfolding(rgw_model::specs::Connections::kind_of))]
+#[tactic(auto, unfolding(swift_model::specs::Connections::kind_of))]
 fn kind_of(alloc: Global, head: &Head) -> Result<Option<Text>, AllocError>
     requires { list_all is_kind (values_of (codes "content-type") head.now.fields) ≡ true }
     ensures { IfOk result (λ kind. kind ≡ kind_of head.now) }
@@ -76,7 +80,7 @@ fn kind_of(alloc: Global, head: &Head) -> Result<Option<Text>, AllocError>
 }
 
 /// What a request asks of the container, still without its body.
-#[tactic(auto, unfolding(rgw_model::specs::Connections::judged))]
+#[tactic(auto, unfolding(swift_model::specs::Connections::judged))]
 pub(crate) fn judge(alloc: Global, container: &Text, head: &Head) -> Result<Asked, AllocError>
     requires { has_host head.now ≡ true → is_built head.now ≡ true }
     ensures { IfOk result (IsJudged container.now head.now) }

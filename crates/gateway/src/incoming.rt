@@ -1,8 +1,8 @@
 // What comes next on a connection: a request that was read whole, or the end.
 ghost use Rattle.std.specs.Prelude.{◌≡◌, ◌++◌, ◌<◌, ℕ, List, length, take, false, if◌then◌else◌, ◌≤◌, IfOk, OnOk, OnErr};
 ghost use Rattle.http_intake.specs.Intake.{IsUnchunked, is_in_chunks};
-ghost use Rattle.rgw_model.specs.Forms.{plan_of, content_length};
-ghost use Rattle.rgw_model.specs.declared.head.BodyPlan.TheVariants as Plan;
+ghost use Rattle.http_model.specs.Forms.{plan_of, content_length};
+ghost use Rattle.http_model.specs.declared.head.BodyPlan.TheVariants as Plan;
 ghost use Rattle.gateway.specs.Incoming.{PassesPiece, PassesBody, ReadsSome, ReadsAtFault, EndsHeads, end_for, IsBehindHead, TakesBody, IsReady, FindsRest, FindsIncoming};
 ghost use Rattle.gw_io.specs.Outside.{Rose};
 
@@ -10,7 +10,8 @@ use crate::ServeFault;
 use crate::asked::{Asked, judge};
 use gw_io::Source;
 use http_intake::{Intake, IntakeFault};
-use rgw_model::{BadRequest, BodyPlan, Bytes, Head, StreamEnd, Text};
+use http_model::{BadRequest, BodyPlan, Head, StreamEnd};
+use rgw_types::{Bytes, Text};
 use std::alloc::{AllocError, Global};
 
 /// What comes next on a connection.

@@ -1,18 +1,20 @@
 // The texts of replies, at the end of a buffer (RFC 9112, sections 4 and 5).
 ghost use Rattle.std.specs.Prelude.{◌≡◌, ◌+◌, ◌++◌, ◌<◌, [], length, IfOk, OnOk, decimal, flat_map, codes};
 ghost use Rattle.hex.specs.Hex.{encode_lower};
-ghost use Rattle.rgw_model.specs.Replies.{phrase_of, status_line, field_line, field_if, close_field, content_length_field, content_type_field, etag_field, last_modified_field, accept_ranges_field, code_of, line_of, word_of, challenge_of, crlf, refusal_kind, head_text, map_reply_head, reply_text};
-ghost use Rattle.rgw_model.specs.declared.reply.HttpReply.TheVariants.{Answered, BadRequest as Broken};
+ghost use Rattle.http_model.specs.Replies.{phrase_of, status_line, field_line, field_if, close_field, content_length_field, content_type_field, etag_field, last_modified_field, accept_ranges_field, word_of, crlf, refusal_kind, head_text};
+ghost use Rattle.swift_model.specs.Replies.{code_of, line_of, challenge_of, map_reply_head, reply_text};
+ghost use Rattle.swift_model.specs.declared.reply.HttpReply.TheVariants.{Answered, BadRequest as Broken};
 ghost use Rattle.rgw_model.specs.declared.reply.MapReply.TheVariants.{Refused, Stored};
 ghost use Rattle.rgw_model.specs.Answers.{shown_whole};
 
 use date_words::date_text_of_micros;
 use http::StatusCode;
-use rgw_model::{BadRequest, Content, Refusal, Stamp};
+use http_model::BadRequest;
+use rgw_model::{Content, Refusal, Stamp};
 use std::alloc::AllocError;
 
 /// The phrase of a status code.
-#[tactic(auto, unfolding(rgw_model::specs::Replies::phrase_of))]
+#[tactic(auto, unfolding(http_model::specs::Replies::phrase_of))]
 fn phrase(status: StatusCode) -> &'static str
     ensures { result.now ≡ phrase_of status }
 {

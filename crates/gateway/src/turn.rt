@@ -2,8 +2,8 @@
 ghost use Rattle.std.specs.Prelude.{◌≡◌, ◌≤◌, ◌<◌, [], length, IfOk, OnOk, OnErr};
 ghost use Rattle.std.specs.Io.KnownBytes.{Appends};
 ghost use Rattle.gw_io.specs.Outside.{Rose};
-ghost use Rattle.rgw_model.specs.Replies.{end_text};
-ghost use Rattle.rgw_model.specs.Connections.{end_replies};
+ghost use Rattle.swift_model.specs.Replies.{end_text};
+ghost use Rattle.swift_model.specs.Connections.{end_replies};
 ghost use Rattle.gateway.specs.Answering.{AppendsFront, WritesAtFault};
 ghost use Rattle.gateway.specs.Incoming.{IsReady};
 ghost use Rattle.gateway.specs.Serving.{connection_end};
@@ -14,7 +14,8 @@ use crate::incoming::{Incoming, take_request};
 use crate::{ConnEnd, PlainStore, ServeFault};
 use gw_io::{Clock, Sink, Source};
 use http_intake::Intake;
-use rgw_model::{Refusal, StreamEnd};
+use http_model::StreamEnd;
+use rgw_model::Refusal;
 use std::alloc::Global;
 
 /// What a turn of a connection comes to.

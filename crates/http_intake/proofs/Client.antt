@@ -4,14 +4,14 @@ use Rattle.std.specs.Prelude.{◌≢◌, MatchBool}
 use Rattle.std.proofs.lemmas.List.{append-nil, length-append, length-take-le}
 use Rattle.std.proofs.KnownBytes.{Consumes-nil, Consumes-trans}
 use Rattle.std.specs.Io.KnownBytes.{Consumes}
-use Rattle.rgw_model.specs.declared.head.BodyPlan.TheVariants.{Content, Unread}
-use Rattle.rgw_model.specs.declared.head.Head.{Head}
-use Rattle.rgw_model.specs.declared.head.Request.{Request}
-use Rattle.rgw_model.specs.declared.reply.StreamEnd.{StreamEnd}
-use Rattle.rgw_model.specs.declared.reply.StreamEnd.TheVariants.{Closed, Cut}
-use Rattle.rgw_model.specs.Forms.{plan_of, closes}
-use Rattle.rgw_model.specs.Heads.{EndsHead, BeginsWith}
-use Rattle.rgw_model.specs.Streams.{TakesRequest, IsEnd, IsStreamFrom, IsStream}
+use Rattle.http_model.specs.declared.head.BodyPlan.TheVariants.{Content, Unread}
+use Rattle.http_model.specs.declared.head.Head.{Head}
+use Rattle.http_model.specs.declared.head.Request.{Request}
+use Rattle.http_model.specs.declared.reply.StreamEnd.{StreamEnd}
+use Rattle.http_model.specs.declared.reply.StreamEnd.TheVariants.{Closed, Cut}
+use Rattle.http_model.specs.Forms.{plan_of, closes}
+use Rattle.http_model.specs.Heads.{EndsHead, BeginsWith}
+use Rattle.http_model.specs.Streams.{TakesRequest, IsEnd, IsStreamFrom, IsStream}
 use Rattle.http_intake.specs.Intake.{IntakeState, GivesHead, GivesBytes}
 use Rattle.http_intake.proofs.Planned.{content_is}
 use Rattle.http_intake.proofs.ScanSteps.{no_head}

@@ -2,11 +2,11 @@
 use Rattle.std.proofs.Common.{◌≡◌, ℕ, ◌<◌, leb, ◌==◌, Bool, true, false, cond, refl, ⊎_elim, inl, inr}
 use Rattle.std.specs.Prelude.{◌&&◌, ◌⊎◌}
 use Rattle.std.proofs.lemmas.Bool.{and_parts, or_cases, or_parts, leb-false}
-use Rattle.rgw_model.specs.declared.head.BodyPlan.TheVariants.{Content, Unread, NotBuilt}
-use Rattle.rgw_model.specs.declared.head.Framing.{Framing}
-use Rattle.rgw_model.specs.declared.head.Framing.TheVariants.{Empty, Length, Chunked}
-use Rattle.rgw_model.specs.declared.head.Head.{Head}
-use Rattle.rgw_model.specs.Forms.{content_length, is_sized, is_framed, is_put, is_get, object_limit, has_host, has_method_form, is_built, can_drop, plan_of, is_unread, closes, request_limit}
+use Rattle.http_model.specs.declared.head.BodyPlan.TheVariants.{Content, Unread, NotBuilt}
+use Rattle.http_model.specs.declared.head.Framing.{Framing}
+use Rattle.http_model.specs.declared.head.Framing.TheVariants.{Empty, Length, Chunked}
+use Rattle.http_model.specs.declared.head.Head.{Head}
+use Rattle.http_model.specs.Forms.{content_length, is_sized, is_framed, is_put, is_get, object_limit, has_host, has_method_form, is_built, can_drop, plan_of, is_unread, closes, request_limit}
 use Rattle.http_intake.specs.Intake.{is_in_chunks}
 
 by_length : (most : ℕ) (framing : Framing) → is_sized most framing ≡ true → is_in_chunks framing ≡ false

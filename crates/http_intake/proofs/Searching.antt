@@ -3,8 +3,8 @@ use Rattle.std.proofs.Common.{◌≡◌, ℕ, ◌<◌, ◌≤◌, min, List, [],
 use Rattle.std.proofs.lemmas.List.{append-nil, length-append, length-take, nil_from_length, take_all}
 use Rattle.std.proofs.KnownBytes.{Consumes-nil, Consumes-trans}
 use Rattle.std.specs.declared.option.Option.{Option}
-use Rattle.rgw_model.specs.Heads.{head_limit, HasNoHeadText}
-use Rattle.rgw_model.specs.Streams.{IsCutHead, IsOversized}
+use Rattle.http_model.specs.Heads.{head_limit, HasNoHeadText}
+use Rattle.http_model.specs.Streams.{IsCutHead, IsOversized}
 use Rattle.http_intake.specs.declared.scan.Place.{Place}
 use Rattle.http_intake.specs.declared.scan.Place.TheVariants.{Before}
 use Rattle.http_intake.specs.Reading.{Reads}

@@ -1,10 +1,10 @@
 -- The head at the front of bytes.
 use Rattle.std.proofs.Common.{◌≡◌, ℕ, ◌≤◌, List, [], ◌∷◌, ◌++◌, length, take, drop, None, refl, sym, arith, take-append-drop, length-take-le}
 use Rattle.httparse.specs.Grammar.{RequestHead}
-use Rattle.rgw_model.specs.declared.head.Head.{Head}
-use Rattle.rgw_model.specs.declared.reading.HeadFault.{HeadFault}
-use Rattle.rgw_model.specs.declared.reading.HeadFault.TheVariants as Read
-use Rattle.rgw_model.specs.Heads.{head_limit, IsHeadText, IsTree, SaysHead, framing_in, BeginsWithText, BeginsWith}
+use Rattle.http_model.specs.declared.head.Head.{Head}
+use Rattle.http_model.specs.declared.reading.HeadFault.{HeadFault}
+use Rattle.http_model.specs.declared.reading.HeadFault.TheVariants as Read
+use Rattle.http_model.specs.Heads.{head_limit, IsHeadText, IsTree, SaysHead, framing_in, BeginsWithText, BeginsWith}
 use Rattle.http_intake.specs.Faults.{fault_of_head}
 use Rattle.http_intake.specs.Reading.{HasNoNext}
 

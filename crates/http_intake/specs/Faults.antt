@@ -2,8 +2,8 @@
 use Rattle.std.specs.Prelude.{◌≡◌, ◌⊎◌, ℕ, ◌≤◌, List, Option, Some, Err, codes}
 use Rattle.std.specs.declared.result.Result.{Result}
 use Rattle.gw_io.specs.Outside.{Rose}
-use Rattle.rgw_model.specs.declared.reading.HeadFault.{HeadFault}
-use Rattle.rgw_model.specs.declared.reading.HeadFault.TheVariants as Head
+use Rattle.http_model.specs.declared.reading.HeadFault.{HeadFault}
+use Rattle.http_model.specs.declared.reading.HeadFault.TheVariants as Head
 use Rattle.http_intake.specs.declared.fault.IntakeFault.{IntakeFault}
 use Rattle.http_intake.specs.declared.fault.IntakeFault.TheVariants as Fault
 

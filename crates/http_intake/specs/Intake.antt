@@ -1,11 +1,11 @@
 -- What a reader of requests is at a moment, and what its calls do.
 use Rattle.std.specs.Prelude.{◌≡◌, ℕ, ◌+◌, ◌<◌, ◌≤◌, min, Bool, true, false, List, [], ◌++◌, length, take, Option, Some, None, Result, Ok, Err}
 use Rattle.std.specs.Io.KnownBytes.{Consumes, IsAtEnd}
-use Rattle.rgw_model.specs.declared.head.Framing.{Framing}
-use Rattle.rgw_model.specs.declared.head.Framing.TheVariants.{Empty, Length, Chunked}
-use Rattle.rgw_model.specs.declared.head.Head.{Head}
-use Rattle.rgw_model.specs.Forms.{content_length}
-use Rattle.rgw_model.specs.Heads.{BeginsWith}
+use Rattle.http_model.specs.declared.head.Framing.{Framing}
+use Rattle.http_model.specs.declared.head.Framing.TheVariants.{Empty, Length, Chunked}
+use Rattle.http_model.specs.declared.head.Head.{Head}
+use Rattle.http_model.specs.Forms.{content_length}
+use Rattle.http_model.specs.Heads.{BeginsWith}
 use Rattle.http_intake.specs.declared.fault.IntakeFault.{IntakeFault}
 use Rattle.http_intake.specs.declared.fault.IntakeFault.TheVariants.{OutOfMemory, ReadFault, Cut, BadHead, HeadTooLarge, BadFraming, BadChunk, BodyTooLarge}
 use Rattle.http_intake.specs.Reading.{HasNoNext}

@@ -1,9 +1,9 @@
 -- The next head of a connection and the next bytes of a body, in whatever pieces the bytes come.
 use Rattle.std.specs.Prelude.{◌≡◌, ◌≢◌, ℕ, ◌<◌, ◌≤◌, List, [], ◌++◌, length, take, Option, Some, None, Result, Ok, Err}
 use Rattle.std.specs.Io.KnownBytes.{Consumes, IsAtEnd}
-use Rattle.rgw_model.specs.declared.head.Head.{Head}
-use Rattle.rgw_model.specs.Heads.{head_limit, IsHeadText, BeginsWith}
-use Rattle.rgw_model.specs.Streams.{IsCutHead, IsNoHead, IsUnframed, IsOversized}
+use Rattle.http_model.specs.declared.head.Head.{Head}
+use Rattle.http_model.specs.Heads.{head_limit, IsHeadText, BeginsWith}
+use Rattle.http_model.specs.Streams.{IsCutHead, IsNoHead, IsUnframed, IsOversized}
 use Rattle.http_intake.specs.declared.fault.IntakeFault.{IntakeFault}
 use Rattle.http_intake.specs.declared.fault.IntakeFault.TheVariants.{OutOfMemory, ReadFault, Cut, BadHead, HeadTooLarge, BadFraming, BadChunk, BodyTooLarge}
 

@@ -1,7 +1,7 @@
 ghost use Rattle.std.specs.Prelude.{◌≡◌};
 
 use gw_io::Failed;
-use rgw_model::HeadFault;
+use http_model::HeadFault;
 use std::error::Error;
 use std::fmt;
 

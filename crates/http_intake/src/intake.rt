@@ -1,5 +1,5 @@
 ghost use Rattle.std.specs.Prelude.{◌≡◌, IfOk, Some, None, Err};
-ghost use Rattle.rgw_model.specs.Forms.{content_length};
+ghost use Rattle.http_model.specs.Forms.{content_length};
 ghost use Rattle.http_intake.specs.declared.fault.IntakeFault.{IntakeFault as Fault};
 
 use crate::buffer::Buffer;

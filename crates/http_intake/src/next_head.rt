@@ -7,7 +7,7 @@ use crate::IntakeFault;
 use crate::buffer::{Buffer, HEAD_LIMIT};
 use crate::scan::{Place, TextEnd, scan};
 use gw_io::Source;
-use rgw_model::{Head, read_head};
+use http_model::{Head, read_head};
 use std::alloc::Global;
 
 /// Reads on until the text of a head is there, and answers its length; none where the input ends

@@ -1,12 +1,13 @@
 ghost use Rattle.std.specs.Prelude.{◌≡◌, ◌+◌, ◌<◌, ◌++◌, ℕ, List, length, None, Some, Err, IfOk, IsTrue, MatchOption, MatchResult, false};
 ghost use Rattle.std.specs.Io.KnownBytes.{Consumes};
-ghost use Rattle.rgw_model.specs.Forms.{plan_of, is_unread};
-ghost use Rattle.rgw_model.specs.Streams.{TakesRequest, IsEnd, IsStream};
+ghost use Rattle.http_model.specs.Forms.{plan_of, is_unread};
+ghost use Rattle.http_model.specs.Streams.{TakesRequest, IsEnd, IsStream};
 ghost use Rattle.http_intake.specs.Intake.{IsBetween, IsUnchunked};
 
 use super::*;
 use gw_io::{SliceSource, Source};
-use rgw_model::{BadRequest, BodyPlan, Bytes, Request, Stream, StreamEnd, read_stream};
+use http_model::{BadRequest, BodyPlan, Request, Stream, StreamEnd, read_stream};
+use rgw_types::Bytes;
 use std::alloc::{AllocError, Global};
 use std::fmt::Write;
 use std::str;

@@ -2,8 +2,8 @@
 use Rattle.std.proofs.Common.{◌≡◌, ◌⊎◌, ℕ, ◌≤◌, List, [], All, Option, Some, None, IsSome, IsSomeAnd, Result, Ok, Err, IfOk, OnErr, inl, inr, refl, sym, ap, subst, ◌∙◌, arith}
 use Rattle.std.specs.Io.KnownBytes.{Appends}
 use Rattle.std.proofs.KnownBytes.{Consumes-nil, Appends-nil}
-use Rattle.rgw_model.specs.declared.reply.StreamEnd.{StreamEnd}
-use Rattle.rgw_model.specs.declared.reply.StreamEnd.TheVariants.{Clean, Closed, Cut, Refused, NotBuilt}
+use Rattle.http_model.specs.declared.reply.StreamEnd.{StreamEnd}
+use Rattle.http_model.specs.declared.reply.StreamEnd.TheVariants.{Clean, Closed, Cut, Refused, NotBuilt}
 use Rattle.rgw_model.specs.Buckets.{empty_bucket}
 use Rattle.gateway.specs.declared.serve.Served.{Served}
 use Rattle.gateway.specs.declared.serve.ConnEnd.TheVariants as Conn

@@ -2,12 +2,12 @@
 -- (OpenStack Object Storage API v1; RFC 9112).
 use Rattle.std.specs.Prelude.{◌≡◌, ℕ, List, ◌++◌, length, Option, None, Some, All, Result, Ok, Err}
 use Rattle.std.specs.Io.KnownBytes.{Consumes, Appends}
-use Rattle.rgw_model.specs.declared.head.Request.{Request}
-use Rattle.rgw_model.specs.declared.reply.StreamEnd.{StreamEnd}
-use Rattle.rgw_model.specs.declared.reply.StreamEnd.TheVariants.{Clean, Closed, Cut, Refused, NotBuilt}
-use Rattle.rgw_model.specs.Streams.{IsStream}
+use Rattle.http_model.specs.declared.head.Request.{Request}
+use Rattle.http_model.specs.declared.reply.StreamEnd.{StreamEnd}
+use Rattle.http_model.specs.declared.reply.StreamEnd.TheVariants.{Clean, Closed, Cut, Refused, NotBuilt}
+use Rattle.http_model.specs.Streams.{IsStream}
 use Rattle.rgw_model.specs.Buckets.{empty_bucket}
-use Rattle.rgw_model.specs.Connections.{connection_text, moments_told}
+use Rattle.swift_model.specs.Connections.{connection_text, moments_told}
 use Rattle.gateway.specs.declared.serve.ConnEnd.{ConnEnd}
 use Rattle.gateway.specs.declared.serve.ConnEnd.TheVariants as Conn
 use Rattle.gateway.specs.declared.serve.Served.{Served}

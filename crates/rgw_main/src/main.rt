@@ -10,7 +10,7 @@ mod run;
 mod words;
 
 use gw_io::{SystemClock, standard_input, standard_output};
-use rgw_model::Status;
+use crate::status::Status;
 use std::io::ErrorKind;
 use std::process::ExitCode;
 use std::rt::{Clock, Env};

@@ -7,7 +7,8 @@ ghost use Rattle.rgw_main.specs.Runs.{ServesOnce, StopsOnce, outcome_status};
 use crate::words::{Once, WordsFault, read_words};
 use gateway::{ConnEnd, PlainStore, ServeFault, Served, serve_connection};
 use gw_io::{Clock, Sink, Source, StepClock};
-use rgw_model::{Status, Text};
+use crate::status::Status;
+use rgw_types::Text;
 use std::alloc::Global;
 
 /// Does what the words ask, from the input to the output, and answers the status of the program:

@@ -4,7 +4,7 @@ ghost use Rattle.std.specs.List.{list_all};
 ghost use Rattle.std.specs.Char.{is_ascii_digit};
 ghost use Rattle.rgw_main.specs.Words.{begins_once, begins_with_dash, is_bucket, is_container_name, moment_of, once_of};
 
-use rgw_model::Text;
+use rgw_types::Text;
 use std::alloc::Global;
 
 /// The longest name of a container, in bytes.

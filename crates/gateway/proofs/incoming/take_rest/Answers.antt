@@ -1,9 +1,9 @@
 use Rattle.std.proofs.Common.{◌≡◌, inl, true, false, [], ◌++◌, refl, sym, ap, ◌∙◌, subst, append-nil}
 use Rattle.std.proofs.KnownBytes.{Consumes-nil}
-use Rattle.rgw_model.specs.declared.head.BodyPlan.{BodyPlan}
-use Rattle.rgw_model.specs.declared.head.BodyPlan.TheVariants as Plan
-use Rattle.rgw_model.specs.Forms.{plan_of, content_length}
-use Rattle.rgw_model.specs.Streams.{IsBody}
+use Rattle.http_model.specs.declared.head.BodyPlan.{BodyPlan}
+use Rattle.http_model.specs.declared.head.BodyPlan.TheVariants as Plan
+use Rattle.http_model.specs.Forms.{plan_of, content_length}
+use Rattle.http_model.specs.Streams.{IsBody}
 use Rattle.gateway.specs.declared.asked.Asked.TheVariants.{BadHost}
 use Rattle.gateway.proofs.Coming.{content_is, closes_unread, judged_hostless, asked_with_body}
 use Rattle.gateway.proofs.incoming.take_rest.Goals as goal

@@ -1,5 +1,6 @@
 use Rattle.std.proofs.Common.{ℕ, ◌+◌, List, [], ◌∷◌, ◌++◌, length, ◌∙◌, ap, arith, codes}
-use Rattle.rgw_model.specs.Replies.{crlf, field_line, content_length_field, content_type_field, refusal_kind, word_of, bad_request_line, head_text, reply_text}
+use Rattle.http_model.specs.Replies.{crlf, field_line, content_length_field, content_type_field, refusal_kind, word_of, bad_request_line, head_text}
+use Rattle.swift_model.specs.Replies.{reply_text}
 use Rattle.gateway.proofs.Texts.{broken}
 use Rattle.gateway.proofs.reply.push_bad_request.Goals as goal
 

@@ -1,6 +1,7 @@
 use Rattle.std.proofs.Common.{ℕ, ◌+◌, List, [], ◌∷◌, ◌++◌, length, ◌∙◌, sym, ap}
 use Rattle.std.proofs.lemmas.List.Concat.{flat_map-append}
-use Rattle.rgw_model.specs.Replies.{crlf, status_line, field_line, field_if, close_field, content_length_field, content_type_field, refusal_kind, challenge_of, code_of, line_of, head_text, reply_text}
+use Rattle.http_model.specs.Replies.{crlf, status_line, field_line, field_if, close_field, content_length_field, content_type_field, refusal_kind, head_text}
+use Rattle.swift_model.specs.Replies.{challenge_of, code_of, line_of, reply_text}
 use Rattle.gateway.proofs.Texts.{refused}
 use Rattle.gateway.proofs.reply.push_refusal.Goals as goal
 

@@ -1,5 +1,5 @@
 use Rattle.std.proofs.Common.{ℕ, List, ◌++◌, ◌∙◌, ap}
-use Rattle.rgw_model.specs.Replies.{field_line, content_length_field, content_type_field, head_text}
+use Rattle.http_model.specs.Replies.{field_line, content_length_field, content_type_field, head_text}
 use Rattle.gateway.proofs.Texts.{shown}
 use Rattle.gateway.proofs.reply.push_shown_head.Goals as goal
 

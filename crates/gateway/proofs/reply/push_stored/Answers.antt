@@ -1,4 +1,5 @@
-use Rattle.rgw_model.specs.Replies.{head_text, reply_text}
+use Rattle.http_model.specs.Replies.{head_text}
+use Rattle.swift_model.specs.Replies.{reply_text}
 use Rattle.gateway.proofs.Texts.{stored}
 use Rattle.gateway.proofs.reply.push_stored.Goals as goal
 

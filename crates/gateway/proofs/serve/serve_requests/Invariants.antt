@@ -1,5 +1,5 @@
 use Rattle.std.proofs.Common.{◌≡◌, ◌≤◌, ◌<◌, ◌-◌, length}
-use Rattle.rgw_model.specs.Forms.{request_limit}
+use Rattle.http_model.specs.Forms.{request_limit}
 use Rattle.gateway.specs.Incoming.{IsReady}
 use Rattle.gateway.proofs.Connection.{HasServed}
 use Rattle.gateway.proofs.serve.serve_requests.Given as goal

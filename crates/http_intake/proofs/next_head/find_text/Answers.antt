@@ -1,5 +1,5 @@
 use Rattle.std.proofs.Common.{◌≢◌, [], length, sym, ap, ◌∙◌, subst, Ok, arith, length-take}
-use Rattle.rgw_model.specs.Streams.{IsCutHead, IsOversized}
+use Rattle.http_model.specs.Streams.{IsCutHead, IsOversized}
 use Rattle.http_intake.proofs.Searching.{searches_start, reads_on, nothing_more, too_many, all_scanned}
 use Rattle.http_intake.proofs.next_head.find_text.Goals as goal
 

@@ -1,5 +1,5 @@
 use Rattle.std.proofs.Common.{◌+◌, ◌-◌, length}
-use Rattle.rgw_model.specs.Heads.{head_limit}
+use Rattle.http_model.specs.Heads.{head_limit}
 use Rattle.http_intake.proofs.Searching.{Searches}
 use Rattle.http_intake.proofs.next_head.find_text.Given as goal
 

@@ -1,7 +1,7 @@
 use Rattle.std.proofs.Common.{Err, take, refl, sym, ap, subst}
 use Rattle.std.proofs.lemmas.Result.{err_from_is_err_and}
 use Rattle.std.specs.Io.KnownBytes.{IsAtEnd}
-use Rattle.rgw_model.specs.Heads.{SaysHead, BeginsWith}
+use Rattle.http_model.specs.Heads.{SaysHead, BeginsWith}
 use Rattle.http_intake.specs.Reading.{HasNoNext}
 use Rattle.http_intake.proofs.Taking.{head_there, no_head_there}
 use Rattle.http_intake.proofs.next_head.take_head.Goals as goal
