@@ -67,7 +67,8 @@ impl Intake {
         })
     }
 
-    /// The next head; none where the input ends between two requests (RFC 9112, sections 2.2 and 3).
+    /// The next head; none where the input ends between two requests, also behind empty lines
+    /// (RFC 9112, sections 2.2 and 3). Nothing is read once the head is there.
     /// Want of memory is answered like any other fault.
     pub fn next<S: Source>(
         &mut self,

@@ -21,7 +21,7 @@ returns-in_err-head-in-Some-clause-head g c =
     let found = rw c.in-Some.is at c.in_ok-find_text.ensures.found in
     let refused = c.in_err-head-in-Some.ensures in
     let none = no_head_there c.find_text.new.buffer c.in-Some.len ended c.in_err-head-in-Some.field-0.0 found
-    (λ is. rw (← c.as_slice.ensures) (refused.bad_head (ap Err is))) (λ is. rw (← c.as_slice.ensures) (refused.bad_framing (ap Err is))) in
+    (λ is. rw (← c.as_slice.ensures) (refused.bad_head (ap Err is))) (λ b is. rw (← c.as_slice.ensures) (refused.bad_framing b (ap Err is))) in
     (read.0, read.1, rw (p.1, ← read.2) (refl, subst (HasNoNext c.find_text.new.buffer ended) (sym p.2) none))
 
 pub returns-in_ok-head-in-Some-clause-head : goal.returns-in_ok-head-in-Some-clause-head
