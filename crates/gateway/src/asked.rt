@@ -6,10 +6,8 @@ ghost use Rattle.http_model.specs.Forms.{is_kind, has_host, is_built};
 ghost use Rattle.swift_model.specs.Connections.{is_user, kind_of, judged};
 ghost use Rattle.gateway.specs.Asking.{IsJudged};
 
-use http_model::Head;
-
+use http_model::{Head, field_value};
 use rgw_model::Refusal;
-
 use rgw_types::{Bytes, Text};
 use std::alloc::{AllocError, Global};
 
@@ -61,7 +59,7 @@ impl Asked {
 fn is_user(head: &Head) -> bool
     ensures { result ≡ is_user head.now }
 {
-    match head.fields.value_of(b"x-auth-token") {
+    match field_value(head.fields.as_slice(), b"x-auth-token") {
         Some(token) => token == USER_TOKEN,
         None => false,
     }
@@ -73,7 +71,7 @@ fn kind_of(alloc: Global, head: &Head) -> Result<Option<Text>, AllocError>
     requires { list_all is_kind (values_of (codes "content-type") head.now.fields) ≡ true }
     ensures { IfOk result (λ kind. kind ≡ kind_of head.now) }
 {
-    match head.fields.value_of(b"content-type") {
+    match field_value(head.fields.as_slice(), b"content-type") {
         Some(value) if !value.is_empty() => Ok(Some(Text::from_utf8(alloc, value)?)),
         _ => Ok(None),
     }

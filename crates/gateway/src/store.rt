@@ -2,7 +2,6 @@ ghost use Rattle.std.specs.Prelude.{◌≡◌, IfOk, OnOk, OnErr, option_copied,
 ghost use Rattle.rgw_model.specs.Buckets.{empty_bucket, slot_at, with_slot};
 
 use rgw_model::Slot;
-
 use rgw_types::Text;
 use std::alloc::{AllocError, Global};
 use std::collections::BTreeMap;
