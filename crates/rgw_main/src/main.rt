@@ -7,6 +7,7 @@ ghost use Rattle.std.specs.Prelude.{◌≡◌, ◌≢◌};
 ghost use Rattle.std.specs.IoError.{error_kind};
 
 mod run;
+mod status;
 mod words;
 
 use gw_io::{SystemClock, standard_input, standard_output};
@@ -57,5 +58,5 @@ fn main(rt: HostRuntime) -> ExitCode {
         // Where standard error is closed, the status still tells.
         let _ = eprintln!(rt; "rgw: status {}", status.number);
     }
-    ExitCode::from(status.number)
+    status.exit_code()
 }
