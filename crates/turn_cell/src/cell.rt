@@ -200,8 +200,11 @@ impl<M: Machine> Turn<M> {
         requires cell { seat.old.table_id ≡ self.now.id }
         requires changed { IsChanged M.history M.fixed M.by M.lawful seat.old.me }
         ensures same { seat.new.table_id ≡ seat.old.table_id }
-        ensures seen { (m : M) → seat.old.me.1 ≡ (0, m) ∷ [] → seat.new.me ≡
-            (resting seat.old.me.0.number seat.old.me.0.room (M.history m) seat.old.me.0.found seat.old.me.0.fixed, []) }
+        ensures seen { (m : M) → seat.old.me.1 ≡ (0, m) ∷ [] → seat.new.me ≡ (
+          resting seat.old.me.0.number seat.old.me.0.room
+              (M.history m) seat.old.me.0.found seat.old.me.0.fixed,
+          [],
+        ) }
     {
         self.table.shared.fetch_add::<GiveNext<M>>(seat, 0, 1);
         self.sleepers.wake_one();
@@ -212,8 +215,11 @@ impl<M: Machine> Turn<M> {
         requires cell { seat.old.table_id ≡ self.now.id }
         requires unchanged { IsUnchanged M.history M.fixed M.lawful seat.old.me }
         ensures same { seat.new.table_id ≡ seat.old.table_id }
-        ensures seen { seat.new.me ≡
-            (resting seat.old.me.0.number seat.old.me.0.room seat.old.me.0.seen seat.old.me.0.found seat.old.me.0.fixed, []) }
+        ensures seen { seat.new.me ≡ (
+          resting seat.old.me.0.number seat.old.me.0.room
+              seat.old.me.0.seen seat.old.me.0.found seat.old.me.0.fixed,
+          [],
+        ) }
     {
         self.table.shared.fetch_sub::<GiveSame<M>>(seat, 0, 1);
         self.sleepers.wake_one();
