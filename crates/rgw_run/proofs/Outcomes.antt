@@ -1,8 +1,7 @@
 -- What a connection came to, as what a run came to.
-use Rattle.std.proofs.Common.{◌≡◌, ◌≢◌, ◌⊎◌, ◌↔◌, ℕ, ◌≤◌, List, [], ◌∷◌, All, None, Some, IsSome, IsSomeAnd, Result, Ok, Err, IfOk, inl, inr, refl, sym, ap, subst, ◌∙◌, arith}
+use Rattle.std.proofs.Common.{◌≡◌, ◌≢◌, ◌⊎◌, ℕ, ◌≤◌, List, [], ◌∷◌, All, None, Some, IsSome, Result, Ok, Err, inl, inr, refl, sym, ap, subst, arith}
 use Rattle.std.specs.declared.option.Option.{Option}
 use Rattle.std.specs.Io.KnownBytes.{Appends}
-use Rattle.std.proofs.KnownBytes.{Consumes-nil, Appends-nil}
 use Rattle.gw_io.specs.Ends.{EndsState}
 use Rattle.gateway.specs.declared.serve.Served.{Served}
 use Rattle.gateway.specs.declared.serve.ConnEnd.{ConnEnd}
@@ -12,10 +11,10 @@ use Rattle.gateway.specs.declared.fault.ServeFault.TheVariants as Fault
 use Rattle.gateway.specs.Store.{StoreState}
 use Rattle.http_model.specs.declared.head.Request.{Request}
 use Rattle.http_model.specs.declared.reply.StreamEnd.{StreamEnd}
-use Rattle.gateway.specs.Serving.{RepliesTo, ServesFrom, FailsReading, StopsFrom, LeavesAt, Serves, Stops, HasServeCause, ServesConnection}
+use Rattle.gateway.specs.Serving.{RepliesTo, FailsReading, StopsFrom, Serves, Stops, HasServeCause, ServesConnection}
 use Rattle.gateway.proofs.Connection.{nothing_served}
 use Rattle.rgw_run.specs.declared.words.Once.{Once}
-use Rattle.rgw_run.specs.Runs.{new_store, AreMoments, moments_before, end_status, fault_status, outcome_status, ServesOnce, StopsOnce, HasRunCause, RunsOnce, Runs}
+use Rattle.rgw_run.specs.Runs.{new_store, end_status, fault_status, outcome_status, StopsOnce, HasRunCause, RunsOnce, Runs}
 
 -- the words that leave the moments to the clock
 abbrev by_clock : List ℕ → Once

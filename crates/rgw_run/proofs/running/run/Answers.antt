@@ -1,5 +1,5 @@
 use Rattle.std.proofs.Common.{Err, ap}
-use Rattle.rgw_run.proofs.Outcomes.{runs_for_words, runs_unread}
+use Rattle.rgw_run.proofs.Outcomes.{runs_unread}
 use Rattle.rgw_run.proofs.running.run.Goals as goal
 
 pub returns-in-Err-OutOfMemory-clause-runs : goal.returns-in-Err-OutOfMemory-clause-runs
