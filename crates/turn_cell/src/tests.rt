@@ -241,15 +241,10 @@ fn a_stopped_step_hands_its_operation_back_and_changes_nothing(
     };
     let (cell, mut pass) = cell_after(alloc, 0)?;
     assert!(rt; deposit(&rt, alloc, &cell, &mut pass, paid) == Ok((5, 1)));
-    assert!(rt;
-        deposit(&rt, alloc, &cell, &mut pass, starved)
-            == Err(Stopped {
-                fault: DoorFault::OutOfMemory,
-                op: Some(starved)
-            })
-    );
+    assert!(rt; deposit(&rt, alloc, &cell, &mut pass, starved) == Err(out_of_memory(starved)));
     assert!(rt; deposit(&rt, alloc, &cell, &mut pass, paid) == Ok((10, 2)));
-    let (full, mut pass) = cell_after(alloc, 1 << 62)?;
+    let (full, mut pass) = cell_after(alloc, (1 << 62) - 1)?;
+    assert!(rt; deposit(&rt, alloc, &full, &mut pass, paid) == Ok((5, 4611686018427387904)));
     assert!(rt;
         deposit(&rt, alloc, &full, &mut pass, paid)
             == Err(Stopped {
