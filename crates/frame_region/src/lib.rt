@@ -1,6 +1,8 @@
 //! Frames of one size in a fixed block, which are taken and given back in runs.
 #![tactic(auto)]
 
+mod access;
+mod block;
 mod cells;
 mod region;
 mod run;
