@@ -109,15 +109,12 @@ module _ (frame count : ℕ) (block : List ℕ) (whole : length block ≡ count 
           (λ k below apart. ap (λ b. drop 4 (content (frame + 4) b k)) at ∙ ap (drop 4) (other (4 + offset) written (omega arith) k apart))
 
       pub links_kept : links_of frame later count ≡ links_of frame block count
+      unfolding link_of
       links_kept =
           ap (λ b. links_of frame b count) at
           ∙ links_after (4 + offset) written (omega arith) (get_or (links_of frame block count) cell 0)
-          (ap (from_le_bytes w32) (take-overwritten_behind 4 (content (frame + 4) block cell) offset written (omega (arith, long))) ∙ kept)
+          (ap (from_le_bytes w32) (take-overwritten_behind 4 (content (frame + 4) block cell) offset written (omega (arith, long))) ∙ sym (link_at frame block count cell 0 here))
           ∙ set-get_or (links_of frame block count) cell 0
-        where
-          kept : from_le_bytes w32 (take 4 (content (frame + 4) block cell)) ≡ get_or (links_of frame block count) cell 0
-          unfolding link_of
-          kept = sym (link_at frame block count cell 0 here)
 
     -- a write of the link
     module _ (next : ℕ) (small : next < 2 ^ 32) where
