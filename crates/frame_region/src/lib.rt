@@ -7,6 +7,8 @@ mod cells;
 mod region;
 mod run;
 #[cfg(test)]
+mod slices;
+#[cfg(test)]
 mod tests;
 mod walks;
 
