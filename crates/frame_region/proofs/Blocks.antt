@@ -1,12 +1,12 @@
 -- The links and the bytes of a block of cells, after a read and after a write of one of them.
-use Rattle.std.proofs.Common.{◌≡◌, ◌≢◌, ℕ, ◌+◌, ◌-◌, ◌*◌, ◌^◌, ◌≤◌, ◌<◌, List, ◌++◌, length, take, drop, set, get_or, replicate, arith, rules, inl, inr, refl, sym, ◌∙◌, ap, length-drop, length-set}
+use Rattle.std.proofs.Common.{◌≡◌, ◌≢◌, ℕ, ◌+◌, ◌-◌, ◌*◌, ◌^◌, ◌≤◌, ◌<◌, List, length, take, drop, set, get_or, replicate, arith, rules, inl, inr, refl, sym, ◌∙◌, ap, length-drop, length-set}
 use Rattle.std.proofs.lemmas.List.{same_lists, places, drop-drop, drop-replicate, take-replicate, get_or-set_same, get_or-set_other, set-get_or}
 use Rattle.std.proofs.lemmas.List.FromFn.{get_or-map-range_with_len, length-map-range_with_len}
 use Rattle.std.proofs.lemmas.Nat.{row_fits, from_le_bytes-to_le_bytes_4}
 use Rattle.std.proofs.lemmas.Bool.{cases_eq}
 use Rattle.std.specs.Int.{w32, from_le_bytes, to_le_bytes}
 use Rattle.frame_region.specs.Region.{overwritten}
-use Rattle.frame_region.specs.Cells.{content, joined}
+use Rattle.frame_region.specs.Cells.{content}
 use Rattle.frame_region.specs.Held.{link_of, frame_of, links_of, frames_of}
 use Rattle.frame_region.proofs.Overwrites.{drop-overwritten_behind}
 use Rattle.frame_region.proofs.Contents.{length-content, content-overwritten_same, content-overwritten_other, take-drop-content}

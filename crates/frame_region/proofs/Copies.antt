@@ -1,5 +1,5 @@
 -- Bytes that are copied in pieces, and one by one.
-use Rattle.std.proofs.Common.{◌≡◌, ◌≢◌, ℕ, ◌+◌, ◌-◌, ◌≤◌, ◌<◌, List, ◌++◌, length, take, drop, set, get_or, arith, rules, inl, inr, sym, ap, ◌∙◌, length-drop, length-set}
+use Rattle.std.proofs.Common.{◌≡◌, ℕ, ◌+◌, ◌≤◌, ◌<◌, List, length, take, drop, set, get_or, arith, rules, inl, inr, sym, ◌∙◌, length-set}
 use Rattle.std.proofs.lemmas.List.{same_lists, places, length-take-le, get_or-set_same, get_or-set_other}
 use Rattle.std.proofs.lemmas.Bool.{cases_eq}
 use Rattle.frame_region.specs.Region.{overwritten}

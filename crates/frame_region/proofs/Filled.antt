@@ -1,5 +1,5 @@
 -- The lists that cells show belong together.
-use Rattle.std.proofs.Common.{◌≡◌, ℕ, ◌+◌, ◌<◌, ◌≤◌, List, ◌*◌, length, ap, sym, ◌∙◌}
+use Rattle.std.proofs.Common.{◌≡◌, ℕ, List, ◌*◌, length, ap, sym, ◌∙◌}
 use Rattle.frame_region.specs.declared.cells.Cells.{Cells}
 use Rattle.frame_region.specs.Held.{links_in, bytes_in}
 use Rattle.frame_region.proofs.Blocks.{length-links_of, length-frames_of}

@@ -1,5 +1,5 @@
 -- The region after bytes were written into a run.
-use Rattle.std.proofs.Common.{◌≡◌, ℕ, ◌*◌, ◌<◌, List, length, set, Option, Some, sym, subst, ◌∙◌, ap, ap₂, refl, ◌+◌, replicate}
+use Rattle.std.proofs.Common.{◌≡◌, ℕ, ◌*◌, ◌<◌, List, length, set, Option, Some, sym, subst, ◌∙◌, ap, ap₂, refl}
 use Rattle.frame_region.proofs.Filled.{at_cells}
 use Rattle.frame_region.specs.Held.{links_in, bytes_in}
 use Rattle.frame_region.proofs.Filled.{filled_in}

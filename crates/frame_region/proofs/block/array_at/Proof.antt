@@ -1,5 +1,5 @@
 -- `array_at` meets its contract: a walk of its MIR by hand. The array is taken out of the row of `block`, read whole and put back.
-use Rattle.std.proofs.Common.{◌≡◌, ℕ, ◌+◌, ◌*◌, ◌^◌, ◌<◌, ◌≤◌, List, [], ◌∷◌, length, take, drop, sym, refl, arith, w8, w64}
+use Rattle.std.proofs.Common.{ℕ, ◌+◌, ◌*◌, ◌^◌, ◌<◌, ◌≤◌, List, [], ◌∷◌, length, take, drop, sym, refl, w8, w64}
 use seplogic.Ra.Ura.{Ura}
 use mir.Syntax.{Args, Body, Fn, named, a_number, ty_array, ty_int, seq, assign, place, rv_opd, copy, return}
 use mir.MapTy.{inst_fn}
@@ -16,7 +16,7 @@ use contract.Lifetimes.{AllOutlive}
 use contract.Monad.{Fun}
 use contract.Running.{tables, tables_of}
 use sound.WpLaws.{WpFn-mono}
-use types.Kit.{‵, ◌⊛◌, ⋆, raw, some, given, at_ret, ◌$◌, ◌∵◌, !, qed, by, move, keep, use1, use2, drop as let_go, split, split3, join, learn, pick, fsplit, fjoin, feq_i, rewrite, suffices, frame, done}
+use types.Kit.{‵, ◌⊛◌, ⋆, raw, some, given, at_ret, ◌$◌, ◌∵◌, !, qed, by, move, keep, use1, use2, drop as let_go, split, split3, join, learn, pick, fsplit, fjoin, rewrite, suffices, frame, done}
 use types.Part.{whole, sub}
 use types.Run.{look, stop, fld, load, addr, hop, from, of_opd, bin, first, blocks, exec, returns, enter, well_typed}
 use types.ByLocal.{alloc_all, pass_all, free_all, look_at, look_in_at, get, through, sets, sets_last, env}
@@ -24,7 +24,7 @@ use denote.Array.{Array, array_copy}
 use denote.Builtin.{u8, usize, SliceRefOf}
 use denote.Copied.{uint_Copied}
 use denote.Exit.{yes}
-use denote.Index.{row, looks_slice, shuts_slice}
+use denote.Index.{looks_slice, shuts_slice}
 use denote.Memory.{part_at}
 use denote.Param.{number, layouts}
 use denote.Plain.{uint_copy, uint_vals, uint_Tells}
@@ -37,7 +37,7 @@ use denote.Triple.Clauses.{Clauses, Ended, closing}
 use denote.Triple.Entry.{on_entry}
 use denote.Triple.Spec.{Meets, triple_of}
 use denote.Triple.Table.{entered}
-use denote.Triple.Walked.{says, needs, Stays, stay_dropped, walk_of, ends_at, walked, Goes-dropped, walk_Meets}
+use denote.Triple.Walked.{says, Stays, stay_dropped, walk_of, ends_at, walked, Goes-dropped, walk_Meets}
 use borrow.Table.Elements.{at_byte}
 use borrow.Table.OneValue.{part_out, part_in}
 use borrow.Rule.Slice.Shared.{Sh, parts-cells}

@@ -1,4 +1,4 @@
-use Rattle.std.proofs.Common.{◌≡◌, ℕ, ◌+◌, ◌-◌, ◌≤◌, List, length, take, drop, ap, ap₂, ◌∙◌, arith}
+use Rattle.std.proofs.Common.{◌≡◌, ℕ, ◌+◌, ◌-◌, List, take, drop, ap, ap₂, ◌∙◌, arith}
 use Rattle.frame_region.specs.Region.{overwritten}
 use Rattle.frame_region.proofs.Copies.{piece_more}
 use Rattle.frame_region.proofs.block.copy_bytes.Goals as goal

@@ -1,4 +1,4 @@
-use Rattle.std.proofs.Common.{◌≡◌, ℕ, ◌+◌, ◌-◌, ◌≤◌, ◌<◌, List, length, take, drop, set, get_or, ap, ap₂, sym, ◌∙◌, arith, length-drop}
+use Rattle.std.proofs.Common.{◌≡◌, ℕ, ◌+◌, ◌-◌, take, drop, set, get_or, ap, ap₂, sym, ◌∙◌, arith, length-drop}
 use Rattle.std.proofs.lemmas.List.{get_or-drop}
 use Rattle.frame_region.specs.Region.{overwritten}
 use Rattle.frame_region.proofs.Copies.{byte_more}

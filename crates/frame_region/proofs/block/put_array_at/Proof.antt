@@ -9,7 +9,7 @@ use mir.Syntax.{Args, Body, Fn, named, a_number, ty_array, ty_int, opd_unit, seq
 use mir.MapTy.{inst_fn}
 use mir.Val.{Val, WT, has_ty, vint, vunit}
 use base.Logic.{SProp, ent, wand, apply∗}
-use base.Fml.{Fml, Lft, GName, Share, ftrue, fat, flft, fobs, fbor}
+use base.Fml.{Lft, GName, Share, ftrue, fat, flft, fobs, fbor}
 use prog.Memory.{Memory}
 use prog.Routine.{Routine}
 use prog.Wp.{Env, Calls, Loops, WpFn, Tables}
@@ -22,7 +22,7 @@ use contract.Running.{tables, tables_of}
 use sound.WpLaws.{WpFn-mono}
 use types.Kit.{‵, ◌⊛◌, ⋆, raw, some, given, at_ret, ◌$◌, ◌∵◌, !, qed, by, move, keep, use1, use2, drop as let_go, split, split3, join, learn, pick, fsplit, fsplit3, fjoin, feq_i, rewrite, suffices, frame, done}
 use types.Part.{whole, sub}
-use types.Run.{look, store, stop, fld, addr, hop, from, of_opd, unit_lit, bin, assigns_last, first, blocks, exec, returns, enter}
+use types.Run.{store, stop, fld, addr, hop, from, of_opd, unit_lit, bin, assigns_last, first, blocks, exec, returns, enter}
 use types.ByLocal.{alloc_all, pass_all, free_all, look_at, look_in_at, get, through, sets, env}
 use denote.Array.{Array, array_vals, Array-Tells, Array-Typed}
 use denote.Builtin.{u8, usize}

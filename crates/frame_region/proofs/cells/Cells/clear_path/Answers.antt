@@ -1,4 +1,4 @@
-use Rattle.std.proofs.Common.{◌≡◌, ◌*◌, length, replicate, slice_index, ap, ◌∙◌, arith, ap₂, List, ℕ, refl, ◌+◌}
+use Rattle.std.proofs.Common.{◌≡◌, ◌*◌, length, replicate, slice_index, ap, ◌∙◌, arith, ap₂, List, ℕ}
 use Rattle.frame_region.specs.Held.{links_in, bytes_in}
 use Rattle.frame_region.proofs.Filled.{filled_in}
 use Rattle.frame_region.specs.Region.{overwritten}

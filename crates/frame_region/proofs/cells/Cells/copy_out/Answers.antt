@@ -1,4 +1,4 @@
-use Rattle.std.proofs.Common.{◌≡◌, ◌+◌, ◌*◌, ◌<◌, length, take, drop, ap, ◌∙◌, arith}
+use Rattle.std.proofs.Common.{◌+◌, ◌*◌, ◌<◌, length, take, drop, ap, ◌∙◌, arith}
 use Rattle.frame_region.specs.Held.{bytes_in}
 use Rattle.frame_region.proofs.Blocks.{place_fits, bytes_read}
 use Rattle.frame_region.proofs.Filled.{length-links_in}

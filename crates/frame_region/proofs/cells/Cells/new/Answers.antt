@@ -1,4 +1,4 @@
-use Rattle.std.proofs.Common.{◌≡◌, ℕ, ◌+◌, ◌*◌, ◌<◌, length, replicate, ap, ◌∙◌, refl, arith}
+use Rattle.std.proofs.Common.{ap, ◌∙◌, refl, arith}
 use Rattle.frame_region.specs.Held.{frames_of}
 use Rattle.frame_region.specs.Held.{bytes_in}
 use Rattle.frame_region.proofs.Blocks.{frames_of_zeros}
