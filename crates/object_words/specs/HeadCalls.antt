@@ -1,0 +1,82 @@
+-- What each call does to a head: why it is refused, and what it leaves, which is the head as it was where it is refused.
+use Rattle.std.specs.Prelude.{ℕ, ◌==◌, ◌||◌, not, Bool, true, false, nat_lt, nat_le, List, bytes_eq, Option, Some, None, unwrap_or, if◌then◌else◌}
+use Rattle.std.specs.List.{list_any}
+use Rattle.hex.specs.Hex.{encode_lower}
+use Rattle.rgw_model.specs.declared.stamp.Stamp.{Stamp}
+use Rattle.rgw_model.specs.Stamps.{stamp_above}
+use Rattle.object_words.specs.declared.entry.Guard.{Guard}
+use Rattle.object_words.specs.declared.head.NewHead.{NewHead}
+use Rattle.object_words.specs.declared.head.HeadSeen.{HeadSeen}
+use Rattle.object_words.specs.declared.head.Changed.{Changed}
+use Rattle.object_words.specs.declared.head.Conditions.{Conditions}
+use Rattle.object_words.specs.declared.head.EtagRule.{EtagRule}
+use Rattle.object_words.specs.declared.head.EtagRule.TheVariants.{Any, OneOf}
+use Rattle.object_words.specs.declared.head.SeenSlot.{SeenSlot}
+use Rattle.object_words.specs.declared.head.SeenSlot.TheVariants.{Nothing, Live, Mark}
+use Rattle.object_words.specs.declared.why.Why.{Why}
+use Rattle.object_words.specs.declared.why.Why.TheVariants.{Expired, NotMet, NoSpace}
+use Rattle.object_words.specs.Rows.{no_row}
+use Rattle.object_words.specs.Heads.{Head, seen_stamp, row_of, manifest_of, with_tails, frames_for}
+use Rattle.object_words.specs.Refusals.{first_refusal, unless_refused}
+
+-- ---- read
+
+-- a head that was never changed is shown with the number of the read
+abbrev pub version_seen : Head → ℕ → ℕ
+version_seen head number = if head.version == 0 then number else head.version
+
+abbrev pub seen : Head → ℕ → HeadSeen
+seen head number = record { version = version_seen head number; slot = head.slot }
+
+-- ---- what refuses a change
+
+-- the tag's life is over
+abbrev pub guard_refusal : Guard → ℕ → Option Why
+guard_refusal guard clock = if nat_le guard.deadline clock then Some (Expired guard.deadline clock) else None
+
+-- an object is there, and its ETag is among these
+abbrev pub meets : EtagRule → SeenSlot → Bool
+meets Any (Live new stamp) = true
+meets (OneOf etags) (Live new stamp) = list_any (bytes_eq (encode_lower new.etag)) etags
+meets rule slot = false
+
+abbrev pub fails_match : Option EtagRule → SeenSlot → Bool
+fails_match None slot = false
+fails_match (Some rule) slot = not (meets rule slot)
+
+abbrev pub fails_none : Option EtagRule → SeenSlot → Bool
+fails_none None slot = false
+fails_none (Some rule) slot = meets rule slot
+
+-- If-Match or If-None-Match fails (RFC 9110, sections 13.1.1 and 13.1.2)
+abbrev pub condition_refusal : Conditions → SeenSlot → Option Why
+condition_refusal when slot = if fails_match when.matches slot || fails_none when.none slot then Some (NotMet (seen_stamp slot)) else None
+
+-- fewer frames are free than the bytes take
+abbrev pub space_refusal : ℕ → ℕ → Option Why
+space_refusal free needed = if nat_lt free needed then Some (NoSpace free needed) else None
+
+-- ---- write
+
+abbrev pub write_refusal : Head → Guard → NewHead → Conditions → ℕ → ℕ → ℕ → Option Why
+write_refusal head guard new when clock free frame =
+    first_refusal (guard_refusal guard clock)
+    (first_refusal (condition_refusal when head.slot) (space_refusal free (frames_for frame new.first)))
+
+-- the stamp of a change in a zone
+abbrev pub stamp_next : Head → ℕ → ℕ → Stamp
+stamp_next head zone clock = stamp_above (seen_stamp head.slot) clock zone
+
+abbrev pub written : Head → Guard → NewHead → Conditions → ℕ → ℕ → ℕ → ℕ → ℕ → Head
+written head guard new when zone number clock free frame =
+    unless_refused (write_refusal head guard new when clock free frame) head
+    (record { version = number; slot = Live new (stamp_next head zone clock) })
+
+-- what a change answers, from the head before and after it
+abbrev pub change_of : Head → Head → Changed
+change_of old new = record {
+  version = new.version;
+  stamp = unwrap_or (seen_stamp new.slot) (no_row).stamp;
+  row = row_of new.slot;
+  old = with_tails (manifest_of old.slot);
+}

@@ -1,0 +1,17 @@
+pub mod Limits
+pub mod Keys
+pub mod Names
+pub mod Numbers
+pub mod Hashes
+pub mod Rows
+pub mod Tags
+pub mod Entries
+pub mod Logs
+pub mod Shards
+pub mod Refusals
+pub mod ShardCalls
+pub mod Heads
+pub mod HeadCalls
+pub mod Roots
+pub mod Tails
+pub mod Answers

@@ -1,0 +1,24 @@
+//! The objects of a zone: their types, and what one call does to one object, as a refusal and a result.
+#![tactic(auto)]
+
+mod bucket;
+mod entry;
+mod head;
+mod items;
+mod limits;
+mod lists;
+mod log;
+mod shard;
+mod shard_key;
+mod why;
+
+pub use bucket::{Bucket, Busy, ShardCount};
+pub use entry::{Entry, EntryPage, EntryRow, Guard, Tag};
+pub use head::{Changed, Conditions, EtagRule, HeadSeen, NewHead, SeenSlot};
+pub use items::Items;
+pub use limits::{BucketName, MediaType, ObjectName};
+pub use lists::{Entries, LogRows, Tags, Texts};
+pub use log::{LogPage, LogRow, LogWhat};
+pub use shard::{Fate, Hold, ShardStats};
+pub use shard_key::ShardKey;
+pub use why::{ClassFault, Why};
