@@ -1,13 +1,13 @@
-// A library with one function.
+//! The realm in definitions: the objects of its zones, operations on them as events, what each event
+//! answers and leaves, what an actor may do next, and which histories are legal.
 #![tactic(auto)]
 
-ghost use Rattle.std.specs.Prelude.{◌≡◌};
-ghost use Rattle.realm_model.specs.Echo.{echo_of};
+mod actor;
+mod event;
+mod op;
+mod settings;
 
-// The `ensures` clause is the contract: what `echo` returns is `echo_of` of its argument, a definition
-// in `specs/Echo.antt`, which a caller's clause can cite too.
-pub fn echo(x: usize) -> usize
-    ensures { result ≡ echo_of x }
-{
-    x
-}
+pub use actor::Actor;
+pub use event::{Event, Reply};
+pub use op::Op;
+pub use settings::Settings;
