@@ -4,10 +4,15 @@
 
 mod actor;
 mod event;
+mod known;
 mod op;
 mod settings;
 
 pub use actor::Actor;
 pub use event::{Event, Reply};
+pub use known::{
+    expired_tag_is_prepared_again, late_suggestion_is_refused, no_space, older_completion_loses,
+    stopped_writer_is_repaired,
+};
 pub use op::Op;
 pub use settings::Settings;
