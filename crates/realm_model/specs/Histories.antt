@@ -1,5 +1,5 @@
 -- What a history leaves, what it answers, and which histories are legal.
-use Rattle.std.specs.Prelude.{◌≡◌, ℕ, ◌+◌, ◌&&◌, Bool, true, List, [], ◌∷◌, if◌then◌else◌}
+use Rattle.std.specs.Prelude.{◌≡◌, ℕ, ◌+◌, ◌-◌, ◌&&◌, Bool, true, List, [], ◌∷◌, take, if◌then◌else◌}
 use Rattle.realm_model.specs.Settings.{SettingsView}
 use Rattle.realm_model.specs.States.{State, at_moment}
 use Rattle.realm_model.specs.Steps.{reply_of}
@@ -86,3 +86,8 @@ refused_from settings w (e ∷ es) number =
 -- the number of the first event that its actor may not make; 0 where there is none
 abbrev pub first_refused : SettingsView → List Event → ℕ
 first_refused settings history = refused_from settings (start settings) history 1
+
+-- the history is legal up to its event of this number, which its actor may not make
+pub record IsRefusedAt (settings : SettingsView) (history : List Event) (number : ℕ) : Type 0 where
+  pub refused : first_refused settings history ≡ number
+  pub answered : with_answers settings (take (number - 1) history) ≡ take (number - 1) history

@@ -1,5 +1,5 @@
 -- Words of the known histories.
-use Rattle.std.specs.Prelude.{codes, ℕ, ◌+◌, ◌*◌, true, List, [], ◌∷◌, ◌++◌, take, map, replicate, unwrap_or, Option, Some, None}
+use Rattle.std.specs.Prelude.{codes, ℕ, ◌+◌, ◌*◌, true, List, [], ◌∷◌, ◌++◌, take, map, min, replicate, unwrap_or, Option, Some, None}
 use Rattle.std.specs.List.{range_with_len}
 use Rattle.hex.specs.Hex.{hex_digit_value}
 use Rattle.rgw_model.specs.declared.pool_key.Key.{Key}
@@ -153,3 +153,14 @@ shows version new micros = record { version = version; slot = Live new (stamp mi
 -- a head that shows nothing, by the number of the read
 abbrev pub shows_nothing : ℕ → HeadSeen
 shows_nothing number = record { version = number; slot = Nothing }
+
+-- so many letters x, put in stripes of so many bytes. Its ETag stands for the digest, which no event looks at
+abbrev pub xs : ℕ → ℕ → ℕ → NewHead
+xs write stripe size = content write stripe size (letters (min stripe size)) (replicate 16 120)
+
+abbrev pub xs_row : ℕ → ℕ → RowView
+xs_row size micros = row size micros (replicate 16 120)
+
+-- a page that shows no entry
+abbrev pub no_entries : ℕ → EntryPage
+no_entries clock = record { rows = []; end = true; clock = clock }

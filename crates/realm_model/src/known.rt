@@ -9,6 +9,7 @@ ghost use Rattle.realm_model.specs.ExpiredTagIsPreparedAgain as expired;
 ghost use Rattle.realm_model.specs.OlderCompletionLoses as older;
 ghost use Rattle.realm_model.specs.LateSuggestionIsRefused as late;
 ghost use Rattle.realm_model.specs.NoSpace as no_space;
+ghost use Rattle.realm_model.specs.TailsAreRead as tails;
 
 /// What a writer left that stopped before its end is put right by a check.
 pub fn stopped_writer_is_repaired()
@@ -40,4 +41,10 @@ pub fn no_space()
     ensures head_allowed { all_allowed (words.small 1) no_space.at_the_head ≡ true }
     ensures next_answers { with_answers (words.small 2) no_space.at_the_next ≡ no_space.at_the_next }
     ensures next_allowed { all_allowed (words.small 2) no_space.at_the_next ≡ true }
+{}
+
+/// A range of an object is read from its tail, and a condition on a change is tested.
+pub fn tails_are_read()
+    ensures answers { with_answers (words.small 16) tails.history ≡ tails.history }
+    ensures allowed { all_allowed (words.small 16) tails.history ≡ true }
 {}

@@ -6,13 +6,15 @@ mod actor;
 mod event;
 mod known;
 mod op;
+mod refused;
 mod settings;
 
 pub use actor::Actor;
 pub use event::{Event, Reply};
 pub use known::{
     expired_tag_is_prepared_again, late_suggestion_is_refused, no_space, older_completion_loses,
-    stopped_writer_is_repaired,
+    stopped_writer_is_repaired, tails_are_read,
 };
 pub use op::Op;
+pub use refused::{these_changes_are_refused, these_steps_are_refused, these_tails_are_refused};
 pub use settings::Settings;
