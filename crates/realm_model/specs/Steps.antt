@@ -51,6 +51,7 @@ row_reply (Some row) = Row row
 abbrev pub new_tag : SettingsView → State → Tag
 new_tag settings st = tag_of (number_next st) st.clock settings.tag_life
 
+-- an event that suggests is refused for a reason of its own besides
 abbrev pub suggest_event_refusal : Shard → List ℕ → ℕ → ℕ → Option Why
 suggest_event_refusal s name revision seen = first_refusal (untimely_refusal s name revision seen) (suggest_refusal s name revision)
 
@@ -95,7 +96,7 @@ touch_of settings st (Cancel zone key name tag) =
 touch_of settings st (Page zone key after limit) = nothing
 touch_of settings st (Suggest zone key name revision moment version row) =
     at_shard zone key (change_at (st.shards zone key) (λ s.
-      unless_refused (untimely_refusal s name revision moment) s (suggested s name revision moment version row)))
+      unless_refused (suggest_event_refusal s name revision moment) s (suggested s name revision moment version row)))
 touch_of settings st (stats_op zone key) = nothing
 touch_of settings st (HeadRead zone container name) = nothing
 touch_of settings st (HeadWrite zone container name guard new when) =

@@ -5,6 +5,7 @@
 mod actor;
 mod event;
 mod known;
+mod laws;
 mod op;
 mod refused;
 mod settings;
@@ -14,6 +15,10 @@ pub use event::{Event, Reply};
 pub use known::{
     expired_tag_is_prepared_again, late_suggestion_is_refused, no_space, older_completion_loses,
     stopped_writer_is_repaired, tails_are_read,
+};
+pub use laws::{
+    an_event_touches_one_object, computed_histories_are_legal, events_are_numbered,
+    events_follow_from_the_history, others_change_no_phase,
 };
 pub use op::Op;
 pub use refused::{these_changes_are_refused, these_steps_are_refused, these_tails_are_refused};

@@ -1,0 +1,4 @@
+pub mod Runs
+pub mod Computing
+pub mod Others
+pub mod TouchLemmas

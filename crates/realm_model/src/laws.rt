@@ -1,0 +1,70 @@
+//! Laws of the definitions: the functions here do nothing.
+ghost use Rattle.std.specs.Prelude.{◌≡◌, ◌++◌, ◌∷◌, [], List, length, true};
+ghost use Rattle.object_words.specs.declared.why.Why.{Why as WhyOf};
+ghost use Rattle.realm_model.specs.Settings.{SettingsView};
+ghost use Rattle.realm_model.specs.States.{State, Touch, at_moment, touched};
+ghost use Rattle.realm_model.specs.Steps.{reply_of, touch_of, after};
+ghost use Rattle.realm_model.specs.Phases.{ActorId, fresh};
+ghost use Rattle.realm_model.specs.Allowed.{allowed};
+ghost use Rattle.realm_model.specs.Histories.{world_of, state_of, phase_of, account_of, answer_after, IsNext, Legal, with_answers, all_allowed};
+ghost use Rattle.realm_model.specs.Owns.{clock_after, own_events, learnt_from, NoneBy};
+ghost use Rattle.realm_model.specs.Touches.{KeepsOthers, is_read};
+ghost use Rattle.realm_model.specs.declared.op.Op.{Op as OpOf};
+ghost use Rattle.realm_model.specs.declared.event.Event.{Event as EventOf};
+ghost use Rattle.realm_model.specs.declared.event.Reply.TheVariants.{No};
+
+/// What an event is answered and what it leaves follow from the history before it; a front of a legal
+/// history is legal.
+pub fn events_follow_from_the_history()
+    ensures answer { (settings : SettingsView) (history : List EventOf) (e : EventOf)
+        → Legal settings (history ++ e ∷ []) → e.reply ≡ answer_after settings history e.op e.moment }
+    ensures state { (settings : SettingsView) (history : List EventOf) (e : EventOf)
+        → state_of settings (history ++ e ∷ [])
+        ≡ after settings (at_moment (state_of settings history) e.moment) e.op }
+    ensures front { (settings : SettingsView) (front back : List EventOf)
+        → Legal settings (front ++ back) → Legal settings front }
+    ensures next { (settings : SettingsView) (history : List EventOf) (e : EventOf)
+        → Legal settings history → IsNext settings (world_of settings history) e
+        → Legal settings (history ++ e ∷ []) }
+{}
+
+/// Events are numbered in their order, and the clock is the greatest moment so far.
+pub fn events_are_numbered()
+    ensures count { (settings : SettingsView) (history : List EventOf)
+        → (state_of settings history).count ≡ length history }
+    ensures clock { (settings : SettingsView) (history : List EventOf)
+        → (state_of settings history).clock ≡ clock_after 0 history }
+{}
+
+/// A history whose answers and permissions compute is legal.
+pub fn computed_histories_are_legal()
+    ensures { (settings : SettingsView) (history : List EventOf)
+        → with_answers settings history ≡ history → all_allowed settings history ≡ true
+        → Legal settings history }
+{}
+
+/// What an actor knows and may do next follows from its own events alone.
+pub fn others_change_no_phase()
+    ensures phase { (settings : SettingsView) (history between : List EventOf) (actor : ActorId)
+        → NoneBy actor between
+        → phase_of settings (history ++ between) actor ≡ phase_of settings history actor }
+    ensures account { (settings : SettingsView) (history between : List EventOf) (actor : ActorId)
+        → NoneBy actor between
+        → account_of settings (history ++ between) actor ≡ account_of settings history actor }
+    ensures allowed { (settings : SettingsView) (history between : List EventOf) (actor : ActorId) (op : OpOf)
+        → NoneBy actor between
+        → allowed settings (phase_of settings (history ++ between) actor) op
+        ≡ allowed settings (phase_of settings history actor) op }
+    ensures own { (settings : SettingsView) (history : List EventOf) (actor : ActorId)
+        → phase_of settings history actor ≡ learnt_from fresh (own_events history actor) }
+{}
+
+/// An event touches at most one object. A refused one, and a read, touch none.
+pub fn an_event_touches_one_object()
+    ensures others { (settings : SettingsView) (st : State) (touch : Touch)
+        → KeepsOthers touch st (touched settings st touch) }
+    ensures refused { (settings : SettingsView) (st : State) (op : OpOf) (why : WhyOf)
+        → reply_of settings st op ≡ No why → touched settings st (touch_of settings st op) ≡ st }
+    ensures read { (settings : SettingsView) (st : State) (op : OpOf)
+        → is_read op ≡ true → touched settings st (touch_of settings st op) ≡ st }
+{}
