@@ -19,10 +19,10 @@ both_equal Less b here = cc
 both_equal Equal b here = (refl, here)
 both_equal Greater b here = cc
 
-same_number : (a b : ℕ) → is_eq (nat_cmp a b) ≡ true → a ≡ b
+pub same_number : (a b : ℕ) → is_eq (nat_cmp a b) ≡ true → a ≡ b
 same_number a b here = exact_unsigned a b ((Equal-is (nat_cmp a b)).0 here)
 
-same_text : (a b : List ℕ) → is_eq (slice_cmp nat_cmp a b) ≡ true → a ≡ b
+pub same_text : (a b : List ℕ) → is_eq (slice_cmp nat_cmp a b) ≡ true → a ≡ b
 same_text a b here = (bytes_eq-Decides a b).0 (sym (is_eq-slice_cmp a b) ∙ here)
 
 pub same_key : (k q : Key) → is_key k q ≡ true → k ≡ q

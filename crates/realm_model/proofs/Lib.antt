@@ -2,3 +2,5 @@ pub mod Runs
 pub mod Computing
 pub mod Others
 pub mod TouchLemmas
+pub mod ObjectLemmas
+pub mod EntryLemmas
