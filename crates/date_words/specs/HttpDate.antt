@@ -5,6 +5,7 @@ use Rattle.httpdate.specs.declared.date.HttpDate.{HttpDate}
 use Rattle.httpdate.specs.Calendar.{weekday}
 use Rattle.httpdate.specs.Date.{unix_secs, date_text}
 use Rattle.httpdate.specs.Text.{imf_fixdate}
+use Rattle.date_words.specs.declared.TheConstants.{LATEST_MOMENT}
 use Rattle.date_words.specs.Civil.{civil_of}
 
 -- the text is that of some date with these seconds
@@ -29,10 +30,6 @@ parts_of seconds =
 unfoldable pub http_date : ℕ → List ℕ
 http_date seconds = imf_fixdate (parts_of seconds)
 
--- the last microsecond of the year 9999, since 1970
-abbrev pub greatest_moment : ℕ
-greatest_moment = 253_402_300_799_999_999
-
--- the text of a moment in microseconds since 1970, where a later one than the greatest is taken as that
+-- the text of a moment in microseconds since 1970, where a later one than the latest is taken as that
 abbrev pub date_of_micros : ℕ → List ℕ
-date_of_micros micros = http_date (min micros greatest_moment / 1_000_000)
+date_of_micros micros = http_date (min micros LATEST_MOMENT / 1_000_000)

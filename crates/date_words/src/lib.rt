@@ -8,8 +8,8 @@ ghost use Rattle.date_words.specs.HttpDate.{IsDateOfSecond, http_date, date_of_m
 
 use httpdate::HttpDate;
 
-// The last microsecond of the year 9999, since 1970.
-const GREATEST_MOMENT: u64 = 253_402_300_799_999_999;
+/// The latest moment that counts, in microseconds since 1970: the last microsecond of the year 9999.
+pub const LATEST_MOMENT: u64 = 253_402_300_799_999_999;
 
 const MICROS_PER_SECOND: u64 = 1_000_000;
 
@@ -31,7 +31,7 @@ pub fn http_date_text(seconds: u64) -> Option<[u8; 29]>
 pub fn date_text_of_micros(micros: u64) -> [u8; 29]
     ensures { result ≡ date_of_micros micros }
 {
-    let moment = micros.min(GREATEST_MOMENT);
+    let moment = micros.min(LATEST_MOMENT);
     http_date_text(moment / MICROS_PER_SECOND).unwrap()
 }
 

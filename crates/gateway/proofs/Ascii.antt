@@ -4,9 +4,9 @@ use Rattle.std.specs.Prelude.{is_some}
 use Rattle.std.proofs.lemmas.Bool.Decides.{nat_tests}
 use Rattle.std.specs.List.{list_all, list_any, before_first, after_first}
 use Rattle.std.specs.Str.{IsAscii}
-use Rattle.rgw_model.specs.Forms.{is_name_byte, is_plain_name, is_kind_byte, is_kind, account_path, place_in, place_of, is_later_field, has_method_form, is_built}
-use Rattle.rgw_model.specs.Framings.{values_of, last_of}
-use Rattle.rgw_model.specs.declared.head.Head.{Head}
+use Rattle.http_model.specs.Forms.{is_name_byte, is_plain_name, is_kind_byte, is_kind, account_path, place_in, place_of, is_later_field, has_method_form, is_built}
+use Rattle.http_model.specs.Framings.{values_of, last_of}
+use Rattle.http_model.specs.declared.head.Head.{Head}
 
 and_left : (a b : Bool) → (a && b) ≡ true → a ≡ true
 and_left true b e = refl

@@ -1,29 +1,33 @@
 -- A request from its head and its body.
-use Rattle.std.proofs.Common.{◌≡◌, ◌⊎◌, inl, inr, ℕ, ◌<◌, Bool, true, false, cond, ◌&&◌, ◌||◌, Result, Ok, Err, List, [], ◌++◌, length, Option, refl, sym, ap, ◌∙◌, subst, append_assoc}
-use Rattle.std.specs.Prelude.{if◌then◌else◌, IfOk, OnErr}
+use Rattle.std.proofs.Common.{◌≡◌, ◌⊎◌, inl, inr, ℕ, ◌<◌, Bool, true, false, cond, ◌&&◌, ◌||◌, Result, Ok, Err, List, [], ◌∷◌, ◌++◌, length, Option, refl, sym, ap, ◌∙◌, subst, append_assoc}
+use Rattle.std.specs.Prelude.{if◌then◌else◌, IfOk, IfErr}
 use Rattle.std.proofs.KnownBytes.{Consumes-trans}
 use Rattle.std.specs.Io.KnownBytes.{Consumes, IsAtEnd}
 use Rattle.http_intake.specs.Intake.{IntakeState, is_in_chunks, GivesHead}
-use Rattle.rgw_model.specs.declared.head.Framing.{Framing}
-use Rattle.rgw_model.specs.declared.head.Framing.TheVariants as Frame
-use Rattle.rgw_model.specs.declared.head.Head.{Head}
-use Rattle.rgw_model.specs.declared.head.BodyPlan.TheVariants as Plan
-use Rattle.rgw_model.specs.declared.reply.StreamEnd.TheVariants as Stream
-use Rattle.rgw_model.specs.Forms.{is_put, is_get, is_framed, is_sized, object_limit, drop_limit, content_length, has_host, is_built, has_method_form, can_drop, plan_of, closes}
-use Rattle.rgw_model.specs.Streams.{IsBody, TakesRequest, IsEnd}
+use Rattle.http_model.specs.declared.head.Framing.{Framing}
+use Rattle.http_model.specs.declared.head.Framing.TheVariants as Frame
+use Rattle.http_model.specs.declared.head.Head.{Head}
+use Rattle.http_model.specs.declared.head.BodyPlan.TheVariants as Plan
+use Rattle.http_model.specs.declared.reply.StreamEnd.TheVariants as Stream
+use Rattle.http_model.specs.Forms.{is_put, is_get, is_framed, is_sized, content_length, has_host, is_built, has_method_form, can_drop, plan_of, is_bodiless, closes}
+use Rattle.http_model.specs.declared.head.TheConstants.{OBJECT_LIMIT, DROP_LIMIT}
+use Rattle.http_model.specs.Heads.{skip_breaks}
+use Rattle.http_model.specs.Streams.{IsBody, TakesRequest, IsCutHead, IsEnd}
 use Rattle.rgw_model.specs.Answers.{put, get}
-use Rattle.rgw_model.specs.Connections.{judged, kind_of, command_of}
-use Rattle.rgw_model.proofs.StreamLaws.{more_head, some_bytes}
+use Rattle.swift_model.specs.Connections.{judged, kind_of, command_of}
+use Rattle.http_model.proofs.PlainLemmas.{begun_not_blank}
+use Rattle.http_model.proofs.StreamLaws.{more_head}
 use Rattle.http_intake.specs.Reading.{HasNoNext}
 use Rattle.http_intake.specs.declared.fault.IntakeFault.{IntakeFault}
 use Rattle.http_intake.specs.declared.fault.IntakeFault.TheVariants as Fault
-use Rattle.rgw_model.specs.declared.reply.StreamEnd.{StreamEnd}
-use Rattle.rgw_model.specs.declared.reply.BadRequest.TheVariants as Word
+use Rattle.http_model.specs.declared.reply.StreamEnd.{StreamEnd}
+use Rattle.http_model.specs.declared.reply.BadRequest.TheVariants as Word
 use Rattle.gateway.specs.declared.incoming.Incoming.{Incoming}
 use Rattle.gateway.specs.declared.incoming.Incoming.TheVariants as Came
-use Rattle.gateway.specs.Incoming.{FindsRest, FindsIncoming, ReadsSome, EndsHeads, end_for}
+use Rattle.gateway.specs.Incoming.{FindsRest, FindsIncoming, LeavesBody, LeavesRest, LeavesIncoming, EndsHeads, end_for}
 use Rattle.gateway.specs.declared.fault.ServeFault.{ServeFault}
-use Rattle.gateway.specs.Serving.{ReadsOut}
+use Rattle.gateway.specs.declared.fault.ServeFault.TheVariants as Serve
+use Rattle.gateway.specs.Serving.{IsOpen, ReadsOut}
 use Rattle.gateway.specs.declared.asked.Asked.{Asked}
 use Rattle.gateway.specs.declared.asked.Asked.TheVariants.{BadHost, Refused, Put, Get}
 use Rattle.gateway.specs.Asking.{IsJudged, IsAsked, is_put_in, with_body_in}
@@ -98,7 +102,7 @@ form_plain : (head : Head) → has_method_form head ≡ true → is_in_chunks he
 unfolding has_method_form
 form_plain head e =
     elim (or_either _ (is_get head && is_sized 0 head.framing) e) [
-      | inl p ↦ sized_plain object_limit head.framing (and_right (is_framed head.framing) _ (and_right (is_put head) _ p))
+      | inl p ↦ sized_plain OBJECT_LIMIT head.framing (and_right (is_framed head.framing) _ (and_right (is_put head) _ p))
       | inr p ↦ sized_plain 0 head.framing (and_right (is_get head) _ p)
     ]
 
@@ -108,7 +112,7 @@ built_plain head e = form_plain head (and_left (has_method_form head) _ e)
 
 drop_plain : (head : Head) → can_drop head ≡ true → is_in_chunks head.framing ≡ false
 unfolding can_drop
-drop_plain head e = sized_plain drop_limit head.framing (and_left (is_sized drop_limit head.framing) _ e)
+drop_plain head e = sized_plain DROP_LIMIT head.framing (and_left (is_sized DROP_LIMIT head.framing) _ e)
 
 content_cases : (h b d : Bool) (m n : ℕ) → cond h (cond b (Plan.Content m) Plan.NotBuilt) (cond d (Plan.Content m) Plan.Unread) ≡ Plan.Content n → (n ≡ m) × ((b ≡ true) ⊎ (d ≡ true))
 content_cases true true d m n e = (cc, inl refl)
@@ -139,15 +143,15 @@ joined_request container all more body left old new mid head x y =
 joined_cut : (all more : List ℕ) (old mid : IntakeState) (head : Head) (n : ℕ) → GivesHead all old mid head → plan_of head ≡ Plan.Content n → length (mid.buffer ++ more) < n → IsEnd (all ++ more) Stream.Cut
 joined_cut all more old mid head n x plan short =
     let begins = more_head all head mid.buffer more x.begins in
-    (some_bytes (all ++ more) begins.0 (mid.buffer ++ more) begins.1, inr (head, mid.buffer ++ more, n, begins, plan, short))
+    (begun_not_blank (all ++ more) begins.0 (mid.buffer ++ more) begins.1, inr (head, mid.buffer ++ more, n, begins, plan, short))
 
-joined_later : (all more : List ℕ) (old mid : IntakeState) (head : Head) → GivesHead all old mid head → plan_of head ≡ Plan.NotBuilt → IsEnd (all ++ more) Stream.NotBuilt
-joined_later all more old mid head x plan = (head, mid.buffer ++ more, more_head all head mid.buffer more x.begins, plan)
+joined_later : (all more : List ℕ) (old mid : IntakeState) (head : Head) → GivesHead all old mid head → plan_of head ≡ Plan.NotBuilt → IsEnd (all ++ more) (Stream.NotBuilt (is_bodiless head.method))
+joined_later all more old mid head x plan = (head, mid.buffer ++ more, more_head all head mid.buffer more x.begins, plan, refl)
 
 -- a head, and what comes behind it, is what comes next
 pub joined : (k : ℕ) (container more : List ℕ) (old mid new : IntakeState) (a b c : Option (List ℕ)) (head : Head) (incoming : Incoming)
     → Consumes a b more → GivesHead (old.buffer ++ more) old mid head → FindsRest k container head mid new b c incoming → FindsIncoming k container old new a c incoming
-joined k container more old mid new a b c head (Came.Request asked close) read x (later, read', body, is_body, closing, is_asked, ready) = (
+joined k container more old mid new a b c head (Came.Request asked form) read x (later, read', body, is_body, closing, is_asked, ready) = (
   more ++ later,
   Consumes-trans a b c more later read read',
   record { head = head; body = body },
@@ -168,7 +172,7 @@ joined k container more old mid new a b c head (Came.End e) read x (later, read'
   more ++ later,
   Consumes-trans a b c more later read read',
   subst (IsEnd (old.buffer ++ (more ++ later))) (sym is)
-      (subst (λ l. IsEnd l Stream.NotBuilt) (append_assoc old.buffer more later) (joined_later (old.buffer ++ more) later old mid head x plan)),
+      (subst (λ l. IsEnd l (Stream.NotBuilt (is_bodiless head.method))) (append_assoc old.buffer more later) (joined_later (old.buffer ++ more) later old mid head x plan)),
   subst (λ f. ReadsOut f c) (sym is) tt,
 )
 
@@ -180,7 +184,7 @@ heads_end all ended Fault.ReadFault x = tt
 heads_end all ended Fault.Cut x = tt
 heads_end all ended Fault.BadHead x = tt
 heads_end all ended Fault.HeadTooLarge x = tt
-heads_end all ended Fault.BadFraming x = tt
+heads_end all ended (Fault.BadFraming b) x = tt
 heads_end all ended Fault.BadChunk x = x
 heads_end all ended Fault.BodyTooLarge x = x
 
@@ -189,9 +193,9 @@ pub end_comes : (all : List ℕ) (after : Option (List ℕ)) (fault : IntakeFaul
 end_comes all after Fault.OutOfMemory e x is = absurd (cc)
 end_comes all after Fault.ReadFault e x is = absurd (cc)
 end_comes all after Fault.Cut e x is = let same : Stream.Cut ≡ e = cc in subst (λ f. IsEnd all f × ReadsOut f after) same ((x.0, inl x.1), x.2)
-end_comes all after Fault.BadHead e x is = let same : Stream.Refused Word.Head ≡ e = cc in subst (λ f. IsEnd all f × ReadsOut f after) same (x, tt)
-end_comes all after Fault.HeadTooLarge e x is = let same : Stream.Refused Word.Size ≡ e = cc in subst (λ f. IsEnd all f × ReadsOut f after) same (x, tt)
-end_comes all after Fault.BadFraming e x is = let same : Stream.Refused Word.Framing ≡ e = cc in subst (λ f. IsEnd all f × ReadsOut f after) same (x, tt)
+end_comes all after Fault.BadHead e x is = let same : Stream.Refused Word.Head false ≡ e = cc in subst (λ f. IsEnd all f × ReadsOut f after) same ((x, refl), tt)
+end_comes all after Fault.HeadTooLarge e x is = let same : Stream.Refused Word.Size false ≡ e = cc in subst (λ f. IsEnd all f × ReadsOut f after) same ((x, refl), tt)
+end_comes all after (Fault.BadFraming b) e x is = let same : Stream.Refused Word.Framing b ≡ e = cc in subst (λ f. IsEnd all f × ReadsOut f after) same (x, tt)
 end_comes all after Fault.BadChunk e x is = absurd x
 end_comes all after Fault.BodyTooLarge e x is = absurd x
 
@@ -202,6 +206,47 @@ pub joined_ok : (k : ℕ) (container more : List ℕ) (old mid new : IntakeState
 joined_ok k container more old mid new a b c head (Ok incoming) read x y = joined k container more old mid new a b c head incoming read x y
 joined_ok k container more old mid new a b c head (Err fault) read x y = tt
 
-pub joined_err : (more : List ℕ) (a b c : Option (List ℕ)) (result : Result Incoming ServeFault) → Consumes a b more → OnErr result (ReadsSome b c) → OnErr result (ReadsSome a c)
-joined_err more a b c (Ok incoming) read x = tt
-joined_err more a b c (Err fault) read x = (more ++ x.0, Consumes-trans a b c more x.0 read x.1)
+-- a fault inside the body that a head tells
+pub left_rest : (head : Head) (buffer : List ℕ) (a b : Option (List ℕ)) (fault : ServeFault) → plan_of head ≡ Plan.Content (content_length head.framing)
+    → LeavesBody buffer (content_length head.framing) a b fault → LeavesRest head buffer a b fault
+left_rest head buffer a b Serve.OutOfMemory plan x = x
+left_rest head buffer a b Serve.WriteFault plan x = x
+left_rest head buffer a b Serve.ReadFault plan (more, read, short) = (more, read, content_length head.framing, plan, short)
+
+-- bytes of a cut head are those of an input that may end there
+open_blank : (bytes blank : List ℕ) → skip_breaks bytes ≡ blank → IsCutHead bytes → (e : StreamEnd) × IsOpen e × IsEnd bytes e
+open_blank bytes [] is cut = (Stream.Clean, tt, (cut.0, is))
+open_blank bytes (b ∷ rest) is cut = (Stream.Cut, tt, (λ none. let clash : ◌∷◌ b rest ≡ [] = sym is ∙ none in absurd (cc), inl cut))
+
+open_head : (bytes : List ℕ) → IsCutHead bytes → (e : StreamEnd) × IsOpen e × IsEnd bytes e
+open_head bytes cut = open_blank bytes (skip_breaks bytes) refl cut
+
+-- a fault where the next head was not read
+pub left_head : (buffer more : List ℕ) (a b : Option (List ℕ)) (fault : IntakeFault) (e : ServeFault) → Consumes a b more → HasNoNext (buffer ++ more) (IsAtEnd b) fault → Err e ≡ end_for fault
+    → LeavesIncoming buffer a b e
+left_head buffer more a b Fault.OutOfMemory e read x is = let same : Serve.OutOfMemory ≡ e = cc in subst (LeavesIncoming buffer a b) same (more, read)
+left_head buffer more a b Fault.ReadFault e read x is = let same : Serve.ReadFault ≡ e = cc in let o = open_head (buffer ++ more) x in subst (LeavesIncoming buffer a b) same (more, read, o.0, o.1, o.2)
+left_head buffer more a b Fault.Cut e read x is = absurd (cc)
+left_head buffer more a b Fault.BadHead e read x is = absurd (cc)
+left_head buffer more a b Fault.HeadTooLarge e read x is = absurd (cc)
+left_head buffer more a b (Fault.BadFraming f) e read x is = absurd (cc)
+left_head buffer more a b Fault.BadChunk e read x is = absurd x
+left_head buffer more a b Fault.BodyTooLarge e read x is = absurd x
+
+-- a fault behind a head
+joined_left : (more : List ℕ) (old mid : IntakeState) (a b c : Option (List ℕ)) (head : Head) (fault : ServeFault) → Consumes a b more → GivesHead (old.buffer ++ more) old mid head
+    → LeavesRest head mid.buffer b c fault → LeavesIncoming old.buffer a c fault
+joined_left more old mid a b c head Serve.OutOfMemory read x (later, read') = (more ++ later, Consumes-trans a b c more later read read')
+joined_left more old mid a b c head Serve.WriteFault read x y = y
+joined_left more old mid a b c head Serve.ReadFault read x (later, read', n, plan, short) = (
+  more ++ later,
+  Consumes-trans a b c more later read read',
+  Stream.Cut,
+  tt,
+  subst (λ l. IsEnd l Stream.Cut) (append_assoc old.buffer more later) (joined_cut (old.buffer ++ more) later old mid head n x plan short),
+)
+
+pub joined_err : (more : List ℕ) (old mid : IntakeState) (a b c : Option (List ℕ)) (head : Head) (result : Result Incoming ServeFault) → Consumes a b more
+    → GivesHead (old.buffer ++ more) old mid head → IfErr result (LeavesRest head mid.buffer b c) → IfErr result (LeavesIncoming old.buffer a c)
+joined_err more old mid a b c head (Ok incoming) read x y = tt
+joined_err more old mid a b c head (Err fault) read x y = joined_left more old mid a b c head fault read x y

@@ -6,3 +6,4 @@ pub mod Fronts
 pub mod Passing
 pub mod Texts
 pub mod TurnLaws
+pub mod Causes

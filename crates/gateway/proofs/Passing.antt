@@ -3,7 +3,7 @@ use Rattle.std.proofs.Common.{◌≡◌, ℕ, ◌<◌, Bool, true, false, List, 
 use Rattle.std.specs.Prelude.{if◌then◌else◌}
 use Rattle.std.proofs.lemmas.List.{length-take-le, append-nil}
 use Rattle.std.proofs.KnownBytes.{Consumes-trans}
-use Rattle.std.specs.Io.KnownBytes.{Consumes, IsAtEnd}
+use Rattle.std.specs.Io.KnownBytes.{Consumes}
 use Rattle.http_intake.specs.Intake.{IntakeState, GivesBytes}
 use Rattle.gateway.specs.Incoming.{HasGiven, ReadsSome}
 
@@ -29,18 +29,17 @@ module _ (start now next : IntakeState) (a b c : Option (List ℕ)) (given out :
   pub read_some : HasGiven start now a b given → (more : List ℕ) → Consumes b c more → ReadsSome a c
   read_some x more read = (x.more ++ more, Consumes-trans a b c x.more more x.read read)
 
-  -- the input ended before the whole body
-  pub given_short : HasGiven start now a b given → now.buffer ≡ [] → 0 < now.body_left → Consumes b c [] → IsAtEnd c
-      → (more : List ℕ) × Consumes a c more × (length (start.buffer ++ more) < start.body_left) × IsAtEnd c
-  given_short x none due read end = (
-    x.more ++ [],
-    Consumes-trans a b c x.more [] x.read read,
-    subst (λ l. length (start.buffer ++ l) < start.body_left) (sym (append-nil x.more))
-        (omega (arith, ap length x.bytes, length-append given now.buffer, ap length none, x.due, due)),
-    end,
-  )
-
 -- what is kept of the pieces so far, and of one more
 pub keep_more : (keep : Bool) (old given piece new : List ℕ) → new ≡ (if keep then (if keep then old ++ given else old) ++ piece else (if keep then old ++ given else old)) → new ≡ (if keep then old ++ (given ++ piece) else old)
 keep_more true old given piece new e = e ∙ append_assoc old given piece
 keep_more false old given piece new e = e
+
+-- reading failed before the whole body
+pub given_failed : (start now : IntakeState) (a b c : Option (List ℕ)) (given : List ℕ) → HasGiven start now a b given → now.buffer ≡ [] → 0 < now.body_left → Consumes b c []
+    → (more : List ℕ) × Consumes a c more × (length (start.buffer ++ more) < start.body_left)
+given_failed start now a b c given x none due read = (
+  x.more ++ [],
+  Consumes-trans a b c x.more [] x.read read,
+  subst (λ l. length (start.buffer ++ l) < start.body_left) (sym (append-nil x.more))
+      (omega (arith, ap length x.bytes, length-append given now.buffer, ap length none, x.due, due)),
+)

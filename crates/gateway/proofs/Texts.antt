@@ -1,5 +1,7 @@
 -- Pieces that were added one after another, as the text of a reply.
-use Rattle.std.proofs.Common.{◌≡◌, ℕ, List, [], ◌++◌, ap, ◌∙◌, append_assoc, append-nil}
+use Rattle.std.proofs.Common.{◌≡◌, ℕ, Bool, true, false, cond, List, [], ◌++◌, refl, ap, ◌∙◌, append_assoc, append-nil}
+use Rattle.http_model.specs.declared.reply.ReplyForm.{ReplyForm}
+use Rattle.http_model.specs.Replies.{written_body}
 
 -- a piece more
 more : (a b o t p : List ℕ) → b ≡ a ++ p → a ≡ o ++ t → b ≡ o ++ (t ++ p)
@@ -25,24 +27,30 @@ shown o o₁ o₂ o₃ o₄ o₅ o₆ o₇ o₈ s a b c d f g e e₁ e₂ e₃ e
     (more o₄ o₅ o (((s ++ a) ++ b) ++ c) d e₅ (more o₃ o₄ o ((s ++ a) ++ b) c e₄ (more o₂ o₃ o (s ++ a) b e₃ (more o₁ o₂ o s a e₂ e₁))))))
     ∙ simp append_assoc
 
--- a status line, two fields, two groups of fields, the empty line, and a line of a body
-pub refused : (o o₁ o₂ o₃ o₄ o₅ o₆ o₇ s a b g k e l n : List ℕ)
-    → o₁ ≡ o ++ s → o₂ ≡ o₁ ++ a ++ b → o₃ ≡ o₂ ++ g → o₄ ≡ o₃ ++ k → o₅ ≡ o₄ ++ e → o₆ ≡ o₅ ++ l → o₇ ≡ o₆ ++ n
-    → o₇ ≡ o ++ ((s ++ (a ++ (b ++ (g ++ k))) ++ e) ++ (l ++ n))
-refused o o₁ o₂ o₃ o₄ o₅ o₆ o₇ s a b g k e l n e₁ e₂ e₃ e₄ e₅ e₆ e₇ =
-    more o₆ o₇ o (((((s ++ (a ++ b)) ++ g) ++ k) ++ e) ++ l) n e₇
-    (more o₅ o₆ o ((((s ++ (a ++ b)) ++ g) ++ k) ++ e) l e₆
+-- a status line, two fields, two groups of fields, the empty line, and a body
+pub refused : (o o₁ o₂ o₃ o₄ o₅ o₆ s a b g k e t : List ℕ)
+    → o₁ ≡ o ++ s → o₂ ≡ o₁ ++ a ++ b → o₃ ≡ o₂ ++ g → o₄ ≡ o₃ ++ k → o₅ ≡ o₄ ++ e → o₆ ≡ o₅ ++ t
+    → o₆ ≡ o ++ ((s ++ (a ++ (b ++ (g ++ k))) ++ e) ++ t)
+refused o o₁ o₂ o₃ o₄ o₅ o₆ s a b g k e t e₁ e₂ e₃ e₄ e₅ e₆ =
+    more o₅ o₆ o ((((s ++ (a ++ b)) ++ g) ++ k) ++ e) t e₆
     (more o₄ o₅ o (((s ++ (a ++ b)) ++ g) ++ k) e e₅ (more o₃ o₄ o ((s ++ (a ++ b)) ++ g) k e₄ (more o₂ o₃ o (s ++ (a ++ b)) g e₃
-    (more o₁ o₂ o s (a ++ b) (e₂ ∙ append_assoc o₁ a b) e₁)))))
-    ∙ simp append_assoc
-
--- the same without a challenge, with the first part of the line behind the empty line
-pub broken : (o o₁ o₂ o₃ o₄ o₅ o₆ s a b k e w l n : List ℕ)
-    → o₁ ≡ o ++ s → o₂ ≡ o₁ ++ a ++ b → o₃ ≡ o₂ ++ k → o₄ ≡ o₃ ++ (e ++ w) → o₅ ≡ o₄ ++ l → o₆ ≡ o₅ ++ n
-    → o₆ ≡ o ++ ((s ++ (a ++ (b ++ k)) ++ e) ++ ((w ++ l) ++ n))
-broken o o₁ o₂ o₃ o₄ o₅ o₆ s a b k e w l n e₁ e₂ e₃ e₄ e₅ e₆ =
-    more o₅ o₆ o ((((s ++ (a ++ b)) ++ k) ++ (e ++ w)) ++ l) n e₆
-    (more o₄ o₅ o (((s ++ (a ++ b)) ++ k) ++ (e ++ w)) l e₅
-    (more o₃ o₄ o ((s ++ (a ++ b)) ++ k) (e ++ w) e₄ (more o₂ o₃ o (s ++ (a ++ b)) k e₃
     (more o₁ o₂ o s (a ++ b) (e₂ ∙ append_assoc o₁ a b) e₁))))
     ∙ simp append_assoc
+
+-- the same without a challenge
+pub broken : (o o₁ o₂ o₃ o₄ o₅ s a b k e t : List ℕ)
+    → o₁ ≡ o ++ s → o₂ ≡ o₁ ++ a ++ b → o₃ ≡ o₂ ++ k → o₄ ≡ o₃ ++ e → o₅ ≡ o₄ ++ t
+    → o₅ ≡ o ++ ((s ++ (a ++ (b ++ k)) ++ e) ++ t)
+broken o o₁ o₂ o₃ o₄ o₅ s a b k e t e₁ e₂ e₃ e₄ e₅ =
+    more o₄ o₅ o (((s ++ (a ++ b)) ++ k) ++ e) t e₅
+    (more o₃ o₄ o ((s ++ (a ++ b)) ++ k) e e₄ (more o₂ o₃ o (s ++ (a ++ b)) k e₃
+    (more o₁ o₂ o s (a ++ b) (e₂ ∙ append_assoc o₁ a b) e₁)))
+    ∙ simp append_assoc
+
+nothing : (bodiless : Bool) (none : List ℕ) → none ≡ [] → cond bodiless [] none ≡ []
+nothing true none e = refl
+nothing false none e = e
+
+-- no body is written as none
+pub written_nothing : (form : ReplyForm) → written_body form [] ≡ []
+written_nothing form = nothing form.bodiless [] refl

@@ -1,25 +1,29 @@
 -- Turns of a connection, joined.
-use Rattle.std.proofs.Common.{◌≡◌, ◌⊎◌, inl, inr, ℕ, suc, ◌+◌, Bool, true, false, cond, List, [], ◌∷◌, ◌++◌, length, take, filter, refl, sym, ap, ◌∙◌, subst, append_assoc, append-nil, length-append, arith}
+use Rattle.std.proofs.Common.{◌≡◌, ◌≢◌, ◌⊎◌, inl, inr, ℕ, suc, ◌+◌, Bool, true, false, cond, List, [], ◌∷◌, ◌++◌, length, take, filter, refl, sym, ap, ◌∙◌, subst, append_assoc, append-nil, length-append, arith}
 use Rattle.std.specs.Prelude.{MatchBool, if◌then◌else◌}
 use Rattle.std.proofs.KnownBytes.{Consumes-trans, Appends-trans}
 use Rattle.std.specs.Io.KnownBytes.{Consumes, Appends}
-use Rattle.rgw_model.specs.declared.head.Request.{Request}
-use Rattle.rgw_model.specs.declared.reply.StreamEnd.{StreamEnd}
-use Rattle.rgw_model.specs.declared.reply.StreamEnd.TheVariants as Stream
-use Rattle.rgw_model.specs.Forms.{closes}
-use Rattle.rgw_model.specs.Streams.{TakesRequest, IsEnd, IsStreamFrom}
-use Rattle.rgw_model.specs.Replies.{reply_text, end_text}
+use Rattle.http_model.specs.declared.head.Request.{Request}
+use Rattle.http_model.specs.declared.reply.StreamEnd.{StreamEnd}
+use Rattle.http_model.specs.declared.reply.StreamEnd.TheVariants as Stream
+use Rattle.http_model.specs.Forms.{closes, form_of}
+use Rattle.http_model.specs.Streams.{TakesRequest, IsEnd, IsStreamFrom}
+use Rattle.swift_model.specs.Replies.{reply_text, end_text}
 use Rattle.rgw_model.specs.Answers.{Command}
 use Rattle.rgw_model.specs.Buckets.{BucketMap}
-use Rattle.rgw_model.specs.Connections.{Verdict, refused, reaches, judged, is_reaching, Served, served, served_verdict, command_of, next_moment, moments_after, replies_from, bucket_from, moments_told, end_replies}
-use Rattle.rgw_model.proofs.StreamLaws.{more_request, stream_after, stream_of_end, more_broken, IsFinal}
+use Rattle.swift_model.specs.Connections.{Verdict, refused, reaches, judged, is_reaching, Served, served, served_verdict, command_of, next_moment, moments_after, replies_from, bucket_from, moments_told, end_replies}
+use Rattle.http_model.proofs.StreamLaws.{more_request, stream_after, stream_of_end, more_broken, IsFinal}
 use Rattle.gateway.specs.declared.serve.ConnEnd.{ConnEnd}
 use Rattle.gateway.specs.declared.asked.Asked.{Asked}
+use Rattle.gateway.specs.declared.fault.ServeFault.{ServeFault}
+use Rattle.gateway.specs.declared.fault.ServeFault.TheVariants as Fault
+use Rattle.gateway.specs.Incoming.{LeavesIncoming}
 use Rattle.gateway.specs.Store.{StoreState}
 use Rattle.gateway.specs.Asking.{verdict_in, command_in, IsAsked, served_for, told_for}
 use Rattle.gateway.specs.Answering.{AppendsFront, Answers, AnswersInPart, text_for, store_after}
-use Rattle.gateway.specs.Serving.{Outside, ReadsOut, connection_end}
-use Rattle.gateway.specs.Turns.{ServesFrom, StopsFrom, GoesOn}
+use Rattle.gw_io.specs.Ends.{EndsState}
+use Rattle.gateway.specs.Serving.{ReadsOut, IsOpen, connection_end, RepliesTo, ServesFrom, FailsReading, StopsFrom, LeavesAt}
+use Rattle.gateway.specs.Turns.{GoesOn}
 
 -- ---- one request among the moments
 
@@ -45,11 +49,11 @@ module _ (container : List ℕ) (bucket : BucketMap) (request : Request) (moment
 
   pub replies_step : (k : ℕ) (requests : List Request)
       → replies_from k container bucket (moments ++ more) (request ∷ requests)
-      ≡ (let now = served container bucket request (next_moment moments) in reply_text now.reply now.shown (closes k request.head))
+      ≡ (let now = served container bucket request (next_moment moments) in reply_text (form_of k request.head) now.reply now.shown)
       ++ replies_from (suc k) container ((served container bucket request (next_moment moments)).bucket) more requests
   unfolding replies_from
   replies_step k requests =
-      λ i. reply_text ((served_now i).reply) ((served_now i).shown) (closes k request.head)
+      λ i. reply_text (form_of k request.head) ((served_now i).reply) ((served_now i).shown)
       ++ replies_from (suc k) container ((served_now i).bucket) (one_moment (judged container request.head) moments more each i) requests
 
   pub bucket_step : (requests : List Request)
@@ -69,7 +73,7 @@ told_step container request requests =
 
 -- ---- a turn and what follows it
 
-module _ (k : ℕ) (store mid after : StoreState) (buffer left : List ℕ) (old now new : Outside) where
+module _ (k : ℕ) (store mid after : StoreState) (buffer left : List ℕ) (old now new : EndsState) where
   goes_stream : (g : GoesOn k store mid buffer left old now) (more : List ℕ) (requests : List Request) (e : StreamEnd)
       → IsStreamFrom (suc k) (left ++ more) requests e → IsStreamFrom k (buffer ++ (g.read ++ more)) (g.request ∷ requests) e
   goes_stream g more requests e x = (
@@ -79,14 +83,13 @@ module _ (k : ℕ) (store mid after : StoreState) (buffer left : List ℕ) (old 
   )
 
   goes_text : (g : GoesOn k store mid buffer left old now) (moments : List ℕ) (requests : List Request) (tail : List ℕ)
-      → (let n = served store.container store.bucket g.request (next_moment g.moments) in reply_text n.reply n.shown false)
+      → (let n = served store.container store.bucket g.request (next_moment g.moments) in reply_text (form_of k g.request.head) n.reply n.shown)
       ++ (replies_from (suc k) mid.container mid.bucket moments requests ++ tail)
       ≡ replies_from k store.container store.bucket (g.moments ++ moments) (g.request ∷ requests) ++ tail
   goes_text g moments requests tail =
       let n = served store.container store.bucket g.request (next_moment g.moments) in
-      sym (append_assoc (reply_text n.reply n.shown false) (replies_from (suc k) mid.container mid.bucket moments requests) tail)
-      ∙ ap (λ (b : Bool). (reply_text n.reply n.shown b ++ replies_from (suc k) mid.container mid.bucket moments requests) ++ tail) (sym g.stays_open)
-      ∙ ap (λ (t : StoreState). (reply_text n.reply n.shown (closes k g.request.head) ++ replies_from (suc k) t.container t.bucket moments requests) ++ tail) g.stored
+      sym (append_assoc (reply_text (form_of k g.request.head) n.reply n.shown) (replies_from (suc k) mid.container mid.bucket moments requests) tail)
+      ∙ ap (λ (t : StoreState). (reply_text (form_of k g.request.head) n.reply n.shown ++ replies_from (suc k) t.container t.bucket moments requests) ++ tail) g.stored
       ∙ ap (λ l. l ++ tail) (sym (replies_step store.container store.bucket g.request g.moments moments g.each k requests))
 
   goes_bucket : (g : GoesOn k store mid buffer left old now) (moments : List ℕ) (requests : List Request)
@@ -104,27 +107,41 @@ module _ (k : ℕ) (store mid after : StoreState) (buffer left : List ℕ) (old 
   goes_store g moments requests x =
       x ∙ (λ i. record { container = goes_container g i; bucket = goes_bucket g moments requests i })
 
-  pub goes_serves : (replies : ℕ) (ended_so : ConnEnd) → GoesOn k store mid buffer left old now → ServesFrom (suc k) mid after left now new replies ended_so
-      → ServesFrom k store after buffer old new (suc replies) ended_so
-  goes_serves replies ended_so g s = record {
+  goes_replies : (requests : List Request) (e : StreamEnd) (g : GoesOn k store mid buffer left old now) → RepliesTo (suc k) mid after left now new requests e
+      → RepliesTo k store after buffer old new (g.request ∷ requests) e
+  goes_replies requests e g s = record {
     read = g.read ++ s.read;
     consumed = Consumes-trans old.left now.left new.left g.read s.read g.consumed s.consumed;
     moments = g.moments ++ s.moments;
     asked = Appends-trans old.told now.told new.told g.moments s.moments g.asked s.asked;
-    requests = g.request ∷ s.requests;
-    stream_end = s.stream_end;
-    stream = goes_stream g s.read s.requests s.stream_end s.stream;
-    read_out = s.read_out;
+    stream = goes_stream g s.read requests e s.stream;
     each_asked_once =
         length-append g.moments s.moments ∙ (λ i. g.each i + s.each_asked_once i)
-        ∙ ap (λ c. (if is_reaching (judged store.container g.request.head) then 1 else 0) + moments_told c s.requests) (goes_container g)
-        ∙ sym (told_step store.container g.request s.requests);
+        ∙ ap (λ c. (if is_reaching (judged store.container g.request.head) then 1 else 0) + moments_told c requests) (goes_container g)
+        ∙ sym (told_step store.container g.request requests);
     written =
-        subst (Appends old.taken new.taken) (goes_text g s.moments s.requests (end_text s.stream_end))
+        subst (Appends old.taken new.taken) (goes_text g s.moments requests (end_text e))
         (Appends-trans old.taken now.taken new.taken _ _ g.written s.written);
-    stored = goes_store g s.moments s.requests s.stored;
+    stored = goes_store g s.moments requests s.stored;
+  }
+
+  pub goes_serves : (replies : ℕ) (ended_so : ConnEnd) → GoesOn k store mid buffer left old now → ServesFrom (suc k) mid after left now new replies ended_so
+      → ServesFrom k store after buffer old new (suc replies) ended_so
+  goes_serves replies ended_so g s = record {
+    requests = g.request ∷ s.requests;
+    stream_end = s.stream_end;
+    replied = goes_replies s.requests s.stream_end g s.replied;
+    read_out = s.read_out;
     counted = omega (arith, s.counted);
     ended = s.ended;
+  }
+
+  goes_fails : GoesOn k store mid buffer left old now → FailsReading (suc k) mid after left now new → FailsReading k store after buffer old new
+  goes_fails g s = record {
+    requests = g.request ∷ s.requests;
+    stream_end = s.stream_end;
+    replied = goes_replies s.requests s.stream_end g s.replied;
+    waits = s.waits;
   }
 
   -- a stream of all the bytes goes on behind the request
@@ -140,19 +157,19 @@ module _ (k : ℕ) (store mid after : StoreState) (buffer left : List ℕ) (old 
         subst (λ b. MatchBool b ((back.0 ≡ []) × (e ≡ Stream.Closed)) (IsStreamFrom (suc k) ((left ++ more) ++ later) back.0 e)) g.stays_open back.2,
       )
 
-  pub goes_stops : GoesOn k store mid buffer left old now → StopsFrom (suc k) mid after left now new → StopsFrom k store after buffer old new
+  goes_stops : GoesOn k store mid buffer left old now → StopsFrom (suc k) mid after left now new → StopsFrom k store after buffer old new
   goes_stops g s = record {
     read = g.read ++ s.read;
     consumed = Consumes-trans old.left now.left new.left g.read s.read g.consumed s.consumed;
     moments = g.moments ++ s.moments;
     asked = Appends-trans old.told now.told new.told g.moments s.moments g.asked s.asked;
-    text = (let n = served store.container store.bucket g.request (next_moment g.moments) in reply_text n.reply n.shown false) ++ s.text;
+    text = (let n = served store.container store.bucket g.request (next_moment g.moments) in reply_text (form_of k g.request.head) n.reply n.shown) ++ s.text;
     written = Appends-trans old.taken now.taken new.taken _ s.text g.written s.written;
     front = λ later more requests e x.
         let back = goes_back g s.read later requests e x in
         let further = s.front later more back.0 e back.2 in
         let n = served store.container store.bucket g.request (next_moment g.moments) in
-        let first = reply_text n.reply n.shown false in (
+        let first = reply_text (form_of k g.request.head) n.reply n.shown in (
           further.0,
           ap (λ rs. replies_from k store.container store.bucket ((g.moments ++ s.moments) ++ more) rs ++ end_text e) back.1
               ∙ ap (λ ms. replies_from k store.container store.bucket ms (g.request ∷ back.0) ++ end_text e) (append_assoc g.moments s.moments more)
@@ -171,6 +188,11 @@ module _ (k : ℕ) (store mid after : StoreState) (buffer left : List ℕ) (old 
               }),
         );
   }
+
+  pub goes_leaves : (fault : ServeFault) → GoesOn k store mid buffer left old now → LeavesAt fault (suc k) mid after left now new → LeavesAt fault k store after buffer old new
+  goes_leaves Fault.OutOfMemory g s = goes_stops g s
+  goes_leaves Fault.ReadFault g s = goes_fails g s
+  goes_leaves Fault.WriteFault g s = goes_stops g s
 
 -- ---- what was asked, answered
 
@@ -191,7 +213,7 @@ module _ (container : List ℕ) (request : Request) (asked : Asked) (x : IsAsked
 -- ---- turns
 
 -- nothing was written or stored, whatever was read and told
-pub stops_quietly : (k : ℕ) (store : StoreState) (buffer read : List ℕ) (old new : Outside) → Consumes old.left new.left read → Appends old.taken new.taken [] → Appends old.told new.told []
+stops_quietly : (k : ℕ) (store : StoreState) (buffer read : List ℕ) (old new : EndsState) → Consumes old.left new.left read → Appends old.taken new.taken [] → Appends old.told new.told []
     → StopsFrom k store store buffer old new
 unfolding bucket_from
 stops_quietly k store buffer read old new consumed written asked = record {
@@ -205,9 +227,9 @@ stops_quietly k store buffer read old new consumed written asked = record {
   stored = λ later more requests e stream. (0, refl);
 }
 
-module _ (k : ℕ) (store after : StoreState) (buffer read left : List ℕ) (old new : Outside) (consumed : Consumes old.left new.left read)
+module _ (k : ℕ) (store after : StoreState) (buffer read left : List ℕ) (old new : EndsState) (consumed : Consumes old.left new.left read)
     (request : Request) (asked : Asked) (is_asked : IsAsked store.container request asked) (takes : TakesRequest (buffer ++ read) request left) where
-  pub answered_open : Answers asked false store after old.taken new.taken old.told new.told → closes k request.head ≡ false → GoesOn k store after buffer left old new
+  pub answered_open : Answers asked (form_of k request.head) store after old.taken new.taken old.told new.told → closes k request.head ≡ false → GoesOn k store after buffer left old new
   answered_open a stays = record {
     read = read;
     consumed = consumed;
@@ -219,7 +241,7 @@ module _ (k : ℕ) (store after : StoreState) (buffer read left : List ℕ) (old
     each = told_as_asked store.container request asked is_asked a.moments a.each;
     written =
         subst (Appends old.taken new.taken)
-        (ap (λ (s : Served). reply_text s.reply s.shown false) (sym (served_as_asked store.container request asked is_asked store.bucket (next_moment a.moments)))) a.written;
+        (ap (λ (s : Served). reply_text (form_of k request.head) s.reply s.shown) (sym (served_as_asked store.container request asked is_asked store.bucket (next_moment a.moments)))) a.written;
     stored =
         a.stored ∙ ap (λ (s : Served). let t : StoreState = record { container = store.container; bucket = s.bucket } in t)
         (sym (served_as_asked store.container request asked is_asked store.bucket (next_moment a.moments)));
@@ -228,11 +250,11 @@ module _ (k : ℕ) (store after : StoreState) (buffer read left : List ℕ) (old
   -- the text of the answer, as that of the request among others
   answer_text : (moments more : List ℕ) (requests : List Request) → length moments ≡ told_for asked
       → replies_from k store.container store.bucket (moments ++ more) (request ∷ requests)
-      ≡ text_for asked store (next_moment moments) (closes k request.head)
+      ≡ text_for asked store (next_moment moments) (form_of k request.head)
       ++ replies_from (suc k) store.container ((served store.container store.bucket request (next_moment moments)).bucket) more requests
   answer_text moments more requests each =
       replies_step store.container store.bucket request moments more (told_as_asked store.container request asked is_asked moments each) k requests
-      ∙ ap (λ (s : Served). reply_text s.reply s.shown (closes k request.head)
+      ∙ ap (λ (s : Served). reply_text (form_of k request.head) s.reply s.shown
       ++ replies_from (suc k) store.container ((served store.container store.bucket request (next_moment moments)).bucket) more requests)
       (served_as_asked store.container request asked is_asked store.bucket (next_moment moments))
 
@@ -247,29 +269,34 @@ module _ (k : ℕ) (store after : StoreState) (buffer read left : List ℕ) (old
       → after ≡ record { container = store.container; bucket = bucket_from store.container store.bucket (moments ++ more) (request ∷ []) }
   answer_store moments more each x = x ∙ (λ i. record { container = store.container; bucket = sym (answer_bucket moments more each) i })
 
-  pub answered_closed : Answers asked true store after old.taken new.taken old.told new.told → closes k request.head ≡ true
-      → ServesFrom k store after buffer old new 1 (connection_end Stream.Closed)
+  closed_replies : Answers asked (form_of k request.head) store after old.taken new.taken old.told new.told → closes k request.head ≡ true
+      → RepliesTo k store after buffer old new (request ∷ []) Stream.Closed
   unfolding replies_from
-  answered_closed a closed = record {
+  closed_replies a closed = record {
     read = read;
     consumed = consumed;
     moments = a.moments;
     asked = a.asked_clock;
-    requests = request ∷ [];
-    stream_end = Stream.Closed;
     stream = (left, takes, subst (λ b. MatchBool b ((◌≡◌ {A = List Request} [] []) × (Stream.Closed ≡ Stream.Closed)) (IsStreamFrom (suc k) left [] Stream.Closed)) (sym closed) (refl, refl));
-    read_out = tt;
     each_asked_once = told_as_asked store.container request asked is_asked a.moments a.each ∙ omega arith ∙ sym (told_step store.container request []);
     written =
         subst (Appends old.taken new.taken)
-        (ap (λ b. text_for asked store (next_moment a.moments) b) (sym closed)
-        ∙ sym (append-nil (text_for asked store (next_moment a.moments) (closes k request.head)))
+        (sym (append-nil (text_for asked store (next_moment a.moments) (form_of k request.head)))
         ∙ sym (answer_text a.moments [] [] a.each)
         ∙ ap (λ ms. replies_from k store.container store.bucket ms (request ∷ [])) (append-nil a.moments)
         ∙ sym (append-nil (replies_from k store.container store.bucket a.moments (request ∷ [])))) a.written;
     stored =
         answer_store a.moments [] a.each a.stored
         ∙ ap (λ ms. let t : StoreState = record { container = store.container; bucket = bucket_from store.container store.bucket ms (request ∷ []) } in t) (append-nil a.moments);
+  }
+
+  pub answered_closed : Answers asked (form_of k request.head) store after old.taken new.taken old.told new.told → closes k request.head ≡ true
+      → ServesFrom k store after buffer old new 1 (connection_end Stream.Closed)
+  answered_closed a closed = record {
+    requests = request ∷ [];
+    stream_end = Stream.Closed;
+    replied = closed_replies a closed;
+    read_out = tt;
     counted = refl;
     ended = refl;
   }
@@ -285,7 +312,7 @@ module _ (k : ℕ) (store after : StoreState) (buffer read left : List ℕ) (old
         ∙ ap (λ (rs : List Request). let t : StoreState = record { container = store.container; bucket = bucket_from store.container store.bucket (moments ++ more) (take 1 rs) } in t) (sym e),
   )
 
-  pub stops_answering : AnswersInPart asked (closes k request.head) store after old.taken new.taken old.told new.told → StopsFrom k store after buffer old new
+  pub stops_answering : AnswersInPart asked (form_of k request.head) store after old.taken new.taken old.told new.told → StopsFrom k store after buffer old new
   stops_answering a = record {
     read = read;
     consumed = consumed;
@@ -317,27 +344,48 @@ waits_or_final : (e : StreamEnd) → (end_text e ≡ []) ⊎ IsFinal e
 waits_or_final Stream.Clean = inl refl
 waits_or_final Stream.Closed = inl refl
 waits_or_final Stream.Cut = inl refl
-waits_or_final (Stream.Refused word) = inr tt
-waits_or_final Stream.NotBuilt = inr tt
+waits_or_final (Stream.Refused word bodiless) = inr tt
+waits_or_final (Stream.NotBuilt bodiless) = inr tt
 
-module _ (k : ℕ) (store : StoreState) (buffer read : List ℕ) (old new : Outside) (e : StreamEnd) (consumed : Consumes old.left new.left read)
+module _ (k : ℕ) (store : StoreState) (buffer read : List ℕ) (old new : EndsState) (e : StreamEnd) (consumed : Consumes old.left new.left read)
     (ends : IsEnd (buffer ++ read) e) (asked : Appends old.told new.told []) where
-  pub ended_so : ReadsOut e new.left → Appends old.taken new.taken (end_text e) → ServesFrom k store store buffer old new (end_replies e) (connection_end e)
+  end_replies_so : Appends old.taken new.taken (end_text e) → RepliesTo k store store buffer old new [] e
   unfolding replies_from bucket_from
-  ended_so out written = record {
+  end_replies_so written = record {
     read = read;
     consumed = consumed;
     moments = [];
     asked = asked;
-    requests = [];
-    stream_end = e;
     stream = ends;
-    read_out = out;
     each_asked_once = refl;
     written = written;
     stored = refl;
+  }
+
+  pub ended_so : ReadsOut e new.left → Appends old.taken new.taken (end_text e) → ServesFrom k store store buffer old new (end_replies e) (connection_end e)
+  ended_so out written = record {
+    requests = [];
+    stream_end = e;
+    replied = end_replies_so written;
+    read_out = out;
     counted = omega arith;
     ended = refl;
+  }
+
+  -- an end that may come has no text
+  open_quiet : (f : StreamEnd) → IsOpen f → end_text f ≡ []
+  open_quiet Stream.Clean o = refl
+  open_quiet Stream.Closed o = absurd o
+  open_quiet Stream.Cut o = refl
+  open_quiet (Stream.Refused word bodiless) o = absurd o
+  open_quiet (Stream.NotBuilt bodiless) o = absurd o
+
+  pub failed_so : IsOpen e → Appends old.taken new.taken [] → FailsReading k store store buffer old new
+  failed_so may_end quiet = record {
+    requests = [];
+    stream_end = e;
+    replied = end_replies_so (subst (Appends old.taken new.taken) (sym (open_quiet e may_end)) quiet);
+    waits = may_end;
   }
 
   front_of_end : (w : AppendsFront old.taken new.taken (end_text e)) → (end_text e ≡ []) ⊎ IsFinal e → (later more : List ℕ) (requests : List Request) (f : StreamEnd)
@@ -363,3 +411,17 @@ module _ (k : ℕ) (store : StoreState) (buffer read : List ℕ) (old new : Outs
     front = λ later more requests f x. front_of_end w (waits_or_final e) later more requests f x;
     stored = λ later more requests f x. (0, refl);
   }
+
+-- a fault before the next request was read whole
+pub left_quietly : (k : ℕ) (store : StoreState) (buffer : List ℕ) (old new : EndsState) (fault : ServeFault) → LeavesIncoming buffer old.left new.left fault
+    → Appends old.taken new.taken [] → Appends old.told new.told [] → LeavesAt fault k store store buffer old new
+left_quietly k store buffer old new Fault.OutOfMemory (read, consumed) quiet asked = stops_quietly k store buffer read old new consumed quiet asked
+left_quietly k store buffer old new Fault.WriteFault none quiet asked = absurd none
+left_quietly k store buffer old new Fault.ReadFault (read, consumed, e, may_end, ends) quiet asked = failed_so k store buffer read old new e consumed ends asked may_end quiet
+
+-- a fault while an answer or the end was written: nothing was read then
+pub left_writing : (k : ℕ) (store after : StoreState) (buffer : List ℕ) (old new : EndsState) (fault : ServeFault) → fault ≢ Fault.ReadFault → StopsFrom k store after buffer old new
+    → LeavesAt fault k store after buffer old new
+left_writing k store after buffer old new Fault.OutOfMemory other s = s
+left_writing k store after buffer old new Fault.ReadFault other s = absurd (other refl)
+left_writing k store after buffer old new Fault.WriteFault other s = s

@@ -1,14 +1,14 @@
 -- What a request asks of the container (OpenStack Object Storage API v1).
 use Rattle.std.specs.Prelude.{◌≡◌, ℕ, List, Bool, true, false, if◌then◌else◌}
-use Rattle.rgw_model.specs.declared.head.Head.{Head}
-use Rattle.rgw_model.specs.declared.head.Request.{Request}
-use Rattle.rgw_model.specs.declared.reply.BadRequest.TheVariants.{Host}
+use Rattle.http_model.specs.declared.head.Head.{Head}
+use Rattle.http_model.specs.declared.head.Request.{Request}
+use Rattle.http_model.specs.declared.reply.BadRequest.TheVariants.{Host}
 use Rattle.rgw_model.specs.declared.reply.MapReply.TheVariants as Map
-use Rattle.rgw_model.specs.declared.reply.HttpReply.TheVariants as Reply
+use Rattle.swift_model.specs.declared.reply.HttpReply.TheVariants as Reply
 use Rattle.rgw_model.specs.Answers.{Command, put, get}
 use Rattle.rgw_model.specs.Buckets.{BucketMap}
-use Rattle.rgw_model.specs.Forms.{is_put}
-use Rattle.rgw_model.specs.Connections.{Verdict, refused, reaches, judged, kind_of, command_of, is_reaching, Served, served_verdict}
+use Rattle.http_model.specs.Forms.{is_put}
+use Rattle.swift_model.specs.Connections.{Verdict, refused, reaches, judged, kind_of, command_of, is_reaching, Served, served_verdict}
 use Rattle.gateway.specs.declared.asked.Asked.{Asked}
 use Rattle.gateway.specs.declared.asked.Asked.TheVariants.{BadHost, Refused, Put, Get}
 

@@ -5,4 +5,3 @@ pub mod Answering
 pub mod Serving
 pub mod Turns
 pub mod Incoming
-pub mod TurnTaking

@@ -1,12 +1,12 @@
 // The answer to a request: its reply is written, and the store is as the request leaves it.
 ghost use Rattle.std.specs.Prelude.{◌≡◌, ◌++◌, [], IfOk, OnOk, OnErr, unwrap_or, option_copied};
 ghost use Rattle.std.specs.Io.KnownBytes.{Appends};
-ghost use Rattle.rgw_model.specs.Replies.{reply_text};
-ghost use Rattle.rgw_model.specs.declared.reply.HttpReply.TheVariants.{Answered, BadRequest as Broken};
+ghost use Rattle.http_model.specs.Replies.{bad_request_text};
+ghost use Rattle.swift_model.specs.Replies.{map_reply_text};
 ghost use Rattle.rgw_model.specs.declared.reply.MapReply.TheVariants.{Refused, Stored};
 ghost use Rattle.rgw_model.specs.Answers.{shown_whole, default_kind, content_of};
 ghost use Rattle.rgw_model.specs.Buckets.{slot_at};
-ghost use Rattle.rgw_model.specs.Connections.{first_zone};
+ghost use Rattle.swift_model.specs.Connections.{first_zone};
 ghost use Rattle.rgw_model.specs.Stamps.{counted_moment, next_stamp};
 ghost use Rattle.gateway.specs.declared.asked.Asked.TheVariants.{Put, Get};
 ghost use Rattle.gateway.specs.Answering.{AppendsFront, WritesAtFault, IsStored, Answers, AnswersInPart, slot_text};
@@ -16,7 +16,9 @@ use crate::reply::{push_bad_request, push_refusal, push_shown_head, push_stored}
 use crate::{PlainStore, ServeFault};
 use gw_io::{Clock, Sink, write_all};
 use md5::{Digest, Md5};
-use rgw_model::{BadRequest, Bytes, Content, Pairs, Refusal, Slot, Stamp, Text, counted_moment};
+use http_model::{BadRequest, ReplyForm};
+use rgw_model::{Content, Refusal, Slot, Stamp, counted_moment};
+use rgw_types::{Bytes, Pairs, Text};
 use std::alloc::{AllocError, Global};
 
 /// The number of the one zone.
@@ -47,14 +49,14 @@ fn send_stored<K: Sink>(
     out: &mut Vec<u8>,
     etag: &[u8; 16],
     stamp: Stamp,
-    close: bool,
+    form: ReplyForm,
 ) -> Result<(), ServeFault>
-    ensures ok { OnOk result (Appends (K.taken sink.old) (K.taken sink.new) (reply_text (Answered (Stored etag.now stamp)) [] close)) }
-    ensures err { OnErr result (AppendsFront (K.taken sink.old) (K.taken sink.new) (reply_text (Answered (Stored etag.now stamp)) [] close)) }
+    ensures ok { OnOk result (Appends (K.taken sink.old) (K.taken sink.new) (map_reply_text form (Stored etag.now stamp) [])) }
+    ensures err { OnErr result (AppendsFront (K.taken sink.old) (K.taken sink.new) (map_reply_text form (Stored etag.now stamp) [])) }
     ensures cause { WritesAtFault (K.faults sink.old) (K.faults sink.new) result }
 {
     out.clear();
-    if push_stored(out, etag, stamp, close).is_err() {
+    if push_stored(out, etag, stamp, form).is_err() {
         return Err(ServeFault::OutOfMemory);
     }
     send(sink, out.as_slice())
@@ -65,14 +67,14 @@ pub(crate) fn send_refusal<K: Sink>(
     sink: &mut K,
     out: &mut Vec<u8>,
     refusal: Refusal,
-    close: bool,
+    form: ReplyForm,
 ) -> Result<(), ServeFault>
-    ensures ok { OnOk result (Appends (K.taken sink.old) (K.taken sink.new) (reply_text (Answered (Refused refusal)) [] close)) }
-    ensures err { OnErr result (AppendsFront (K.taken sink.old) (K.taken sink.new) (reply_text (Answered (Refused refusal)) [] close)) }
+    ensures ok { OnOk result (Appends (K.taken sink.old) (K.taken sink.new) (map_reply_text form (Refused refusal) [])) }
+    ensures err { OnErr result (AppendsFront (K.taken sink.old) (K.taken sink.new) (map_reply_text form (Refused refusal) [])) }
     ensures cause { WritesAtFault (K.faults sink.old) (K.faults sink.new) result }
 {
     out.clear();
-    if push_refusal(out, refusal, close).is_err() {
+    if push_refusal(out, refusal, form).is_err() {
         return Err(ServeFault::OutOfMemory);
     }
     send(sink, out.as_slice())
@@ -83,37 +85,40 @@ pub(crate) fn send_bad_request<K: Sink>(
     sink: &mut K,
     out: &mut Vec<u8>,
     fault: BadRequest,
-    close: bool,
+    form: ReplyForm,
 ) -> Result<(), ServeFault>
-    ensures ok { OnOk result (Appends (K.taken sink.old) (K.taken sink.new) (reply_text (Broken fault) [] close)) }
-    ensures err { OnErr result (AppendsFront (K.taken sink.old) (K.taken sink.new) (reply_text (Broken fault) [] close)) }
+    ensures ok { OnOk result (Appends (K.taken sink.old) (K.taken sink.new) (bad_request_text form fault)) }
+    ensures err { OnErr result (AppendsFront (K.taken sink.old) (K.taken sink.new) (bad_request_text form fault)) }
     ensures cause { WritesAtFault (K.faults sink.old) (K.faults sink.new) result }
 {
     out.clear();
-    if push_bad_request(out, fault, close).is_err() {
+    if push_bad_request(out, fault, form).is_err() {
         return Err(ServeFault::OutOfMemory);
     }
     send(sink, out.as_slice())
 }
 
 /// Writes the reply that shows an object whole. A large one is written straight from the store.
-#[tactic(auto, unfolding(rgw_model::specs::Replies::reply_text))]
+#[tactic(auto, unfolding(swift_model::specs::Replies::map_reply_text, http_model::specs::Replies::text_of))]
 fn send_shown<K: Sink>(
     sink: &mut K,
     out: &mut Vec<u8>,
     content: &Content,
     stamp: Stamp,
-    close: bool,
+    form: ReplyForm,
 ) -> Result<(), ServeFault>
     ensures ok { OnOk result (Appends (K.taken sink.old) (K.taken sink.new)
-        (reply_text (Answered (shown_whole content.now stamp)) content.now.bytes close)) }
+        (map_reply_text form (shown_whole content.now stamp) content.now.bytes)) }
     ensures err { OnErr result (AppendsFront (K.taken sink.old) (K.taken sink.new)
-        (reply_text (Answered (shown_whole content.now stamp)) content.now.bytes close)) }
+        (map_reply_text form (shown_whole content.now stamp) content.now.bytes)) }
     ensures cause { WritesAtFault (K.faults sink.old) (K.faults sink.new) result }
 {
     out.clear();
-    if push_shown_head(out, content, stamp, close).is_err() {
+    if push_shown_head(out, content, stamp, form).is_err() {
         return Err(ServeFault::OutOfMemory);
+    }
+    if form.bodiless {
+        return send(sink, out.as_slice());
     }
     if content.bytes.len() > SMALL {
         return send_both(sink, out.as_slice(), content.bytes.as_slice());
@@ -198,11 +203,11 @@ fn answer_put<K: Sink, C: Clock>(
     clock: &mut C,
     out: &mut Vec<u8>,
     upload: Upload,
-    close: bool,
+    form: ReplyForm,
 ) -> Result<(), ServeFault>
-    ensures ok { OnOk result (Answers (Put upload) close store.old store.new
+    ensures ok { OnOk result (Answers (Put upload) form store.old store.new
         (K.taken sink.old) (K.taken sink.new) (C.told clock.old) (C.told clock.new)) }
-    ensures err { OnErr result (AnswersInPart (Put upload) close store.old store.new
+    ensures err { OnErr result (AnswersInPart (Put upload) form store.old store.new
         (K.taken sink.old) (K.taken sink.new) (C.told clock.old) (C.told clock.new)) }
     ensures cause { WritesAtFault (K.faults sink.old) (K.faults sink.new) result }
     ensures plan { C.plan clock.new ≡ C.plan clock.old }
@@ -212,7 +217,7 @@ fn answer_put<K: Sink, C: Clock>(
     match store_object(alloc, store, name, kind, body, moment) {
         Ok(done) => {
             let etag = done.0;
-            send_stored(sink, out, &etag, done.1, close)
+            send_stored(sink, out, &etag, done.1, form)
         }
         Err(_) => Err(ServeFault::OutOfMemory),
     }
@@ -225,17 +230,17 @@ fn answer_get<K: Sink, C: Clock>(
     clock: &mut C,
     out: &mut Vec<u8>,
     name: &Text,
-    close: bool,
+    form: ReplyForm,
 ) -> Result<(), ServeFault>
-    ensures ok { OnOk result (Answers (Get name.now) close store.now store.now
+    ensures ok { OnOk result (Answers (Get name.now) form store.now store.now
         (K.taken sink.old) (K.taken sink.new) (C.told clock.old) (C.told clock.new)) }
-    ensures err { OnErr result (AnswersInPart (Get name.now) close store.now store.now
+    ensures err { OnErr result (AnswersInPart (Get name.now) form store.now store.now
         (K.taken sink.old) (K.taken sink.new) (C.told clock.old) (C.told clock.new)) }
     ensures cause { WritesAtFault (K.faults sink.old) (K.faults sink.new) result }
     ensures plan { C.plan clock.new ≡ C.plan clock.old }
 {
     let _moment = clock.now();
-    send_slot(sink, out, store.slot(name), close)
+    send_slot(sink, out, store.slot(name), form)
 }
 
 /// Writes what a GET of a slot is replied. No slot is nothing.
@@ -243,16 +248,16 @@ fn send_slot<K: Sink>(
     sink: &mut K,
     out: &mut Vec<u8>,
     slot: Option<&Slot>,
-    close: bool,
+    form: ReplyForm,
 ) -> Result<(), ServeFault>
-    ensures ok { OnOk result (Appends (K.taken sink.old) (K.taken sink.new) (slot_text (unwrap_or (option_copied slot.entry) Slot.Nothing) close)) }
-    ensures err { OnErr result (AppendsFront (K.taken sink.old) (K.taken sink.new) (slot_text (unwrap_or (option_copied slot.entry) Slot.Nothing) close)) }
+    ensures ok { OnOk result (Appends (K.taken sink.old) (K.taken sink.new) (slot_text (unwrap_or (option_copied slot.entry) Slot.Nothing) form)) }
+    ensures err { OnErr result (AppendsFront (K.taken sink.old) (K.taken sink.new) (slot_text (unwrap_or (option_copied slot.entry) Slot.Nothing) form)) }
     ensures cause { WritesAtFault (K.faults sink.old) (K.faults sink.new) result }
 {
     match slot {
-        Some(Slot::Live(content, stamp)) => send_shown(sink, out, content, *stamp, close),
+        Some(Slot::Live(content, stamp)) => send_shown(sink, out, content, *stamp, form),
         Some(Slot::Nothing) | Some(Slot::Mark(_)) | None => {
-            send_refusal(sink, out, Refusal::NoObject, close)
+            send_refusal(sink, out, Refusal::NoObject, form)
         }
     }
 }
@@ -266,19 +271,19 @@ pub(crate) fn answer<K: Sink, C: Clock>(
     clock: &mut C,
     out: &mut Vec<u8>,
     asked: Asked,
-    close: bool,
+    form: ReplyForm,
 ) -> Result<(), ServeFault>
-    ensures ok { OnOk result (Answers asked close store.old store.new
+    ensures ok { OnOk result (Answers asked form store.old store.new
         (K.taken sink.old) (K.taken sink.new) (C.told clock.old) (C.told clock.new)) }
-    ensures err { OnErr result (AnswersInPart asked close store.old store.new
+    ensures err { OnErr result (AnswersInPart asked form store.old store.new
         (K.taken sink.old) (K.taken sink.new) (C.told clock.old) (C.told clock.new)) }
     ensures cause { WritesAtFault (K.faults sink.old) (K.faults sink.new) result }
     ensures plan { C.plan clock.new ≡ C.plan clock.old }
 {
     match asked {
-        Asked::BadHost => send_bad_request(sink, out, BadRequest::Host, close),
-        Asked::Refused(refusal) => send_refusal(sink, out, refusal, close),
-        Asked::Put(upload) => answer_put(alloc, store, sink, clock, out, upload, close),
-        Asked::Get(name) => answer_get(store, sink, clock, out, &name, close),
+        Asked::BadHost => send_bad_request(sink, out, BadRequest::Host, form),
+        Asked::Refused(refusal) => send_refusal(sink, out, refusal, form),
+        Asked::Put(upload) => answer_put(alloc, store, sink, clock, out, upload, form),
+        Asked::Get(name) => answer_get(store, sink, clock, out, &name, form),
     }
 }

@@ -1,12 +1,14 @@
 // What a request asks of the container.
 ghost use Rattle.std.specs.Prelude.{◌≡◌, IfOk, true, codes};
 ghost use Rattle.std.specs.List.{list_all};
-ghost use Rattle.rgw_model.specs.Framings.{values_of};
-ghost use Rattle.rgw_model.specs.Forms.{is_kind, has_host, is_built};
-ghost use Rattle.rgw_model.specs.Connections.{is_user, kind_of, judged};
+ghost use Rattle.http_model.specs.Framings.{values_of};
+ghost use Rattle.http_model.specs.Forms.{is_kind, has_host, is_built};
+ghost use Rattle.swift_model.specs.Connections.{is_user, kind_of, judged};
 ghost use Rattle.gateway.specs.Asking.{IsJudged};
 
-use rgw_model::{Bytes, Head, Refusal, Text};
+use http_model::{Head, field_value};
+use rgw_model::Refusal;
+use rgw_types::{Bytes, Text};
 use std::alloc::{AllocError, Global};
 
 /// The token of the one user.
@@ -53,30 +55,30 @@ impl Asked {
 }
 
 /// Whether the token that counts is the user's.
-#[tactic(auto, unfolding(rgw_model::specs::Connections::is_user))]
+#[tactic(auto, unfolding(swift_model::specs::Connections::is_user))]
 fn is_user(head: &Head) -> bool
     ensures { result ≡ is_user head.now }
 {
-    match head.fields.value_of(b"x-auth-token") {
+    match field_value(head.fields.as_slice(), b"x-auth-token") {
         Some(token) => token == USER_TOKEN,
         None => false,
     }
 }
 
 /// The media type that was sent. An empty one counts as none.
-#[tactic(auto, unfolding(rgw_model::specs::Connections::kind_of))]
+#[tactic(auto, unfolding(swift_model::specs::Connections::kind_of))]
 fn kind_of(alloc: Global, head: &Head) -> Result<Option<Text>, AllocError>
     requires { list_all is_kind (values_of (codes "content-type") head.now.fields) ≡ true }
     ensures { IfOk result (λ kind. kind ≡ kind_of head.now) }
 {
-    match head.fields.value_of(b"content-type") {
+    match field_value(head.fields.as_slice(), b"content-type") {
         Some(value) if !value.is_empty() => Ok(Some(Text::from_utf8(alloc, value)?)),
         _ => Ok(None),
     }
 }
 
 /// What a request asks of the container, still without its body.
-#[tactic(auto, unfolding(rgw_model::specs::Connections::judged))]
+#[tactic(auto, unfolding(swift_model::specs::Connections::judged))]
 pub(crate) fn judge(alloc: Global, container: &Text, head: &Head) -> Result<Asked, AllocError>
     requires { has_host head.now ≡ true → is_built head.now ≡ true }
     ensures { IfOk result (IsJudged container.now head.now) }

@@ -1,23 +1,23 @@
 // What comes next on a connection: a request that was read whole, or the end.
-ghost use Rattle.std.specs.Prelude.{◌≡◌, ◌++◌, ◌<◌, ℕ, List, length, take, false, if◌then◌else◌, ◌≤◌, IfOk, OnOk, OnErr};
+ghost use Rattle.std.specs.Prelude.{◌≡◌, ◌++◌, ◌<◌, ℕ, List, length, take, false, if◌then◌else◌, ◌≤◌, IfOk, IfErr, OnOk};
 ghost use Rattle.http_intake.specs.Intake.{IsUnchunked, is_in_chunks};
-ghost use Rattle.rgw_model.specs.Forms.{plan_of, content_length};
-ghost use Rattle.rgw_model.specs.declared.head.BodyPlan.TheVariants as Plan;
-ghost use Rattle.gateway.specs.Incoming.{PassesPiece, PassesBody, ReadsSome, ReadsAtFault, EndsHeads, end_for, IsBehindHead, TakesBody, IsReady, FindsRest, FindsIncoming};
-ghost use Rattle.gw_io.specs.Outside.{Rose};
+ghost use Rattle.http_model.specs.Forms.{plan_of, content_length};
+ghost use Rattle.http_model.specs.declared.head.BodyPlan.TheVariants as Plan;
+ghost use Rattle.gateway.specs.Incoming.{PassesPiece, CountsPiece, PassesBody, LeavesBody, LeavesRest, LeavesIncoming, ReadsAtFault, EndsHeads, end_for, IsBehindHead, TakesBody, IsReady, FindsRest, FindsIncoming};
 
 use crate::ServeFault;
 use crate::asked::{Asked, judge};
 use gw_io::Source;
 use http_intake::{Intake, IntakeFault};
-use rgw_model::{BadRequest, BodyPlan, Bytes, Head, StreamEnd, Text};
+use http_model::{BadRequest, BodyPlan, Head, ReplyForm, StreamEnd};
+use rgw_types::{Bytes, Text};
 use std::alloc::{AllocError, Global};
 
 /// What comes next on a connection.
 #[derive(Debug, Drop)]
 pub(crate) enum Incoming {
-    /// What a request asks, and whether its reply closes the connection.
-    Request(Asked, bool),
+    /// What a request asks, and how its reply is written.
+    Request(Asked, ReplyForm),
     End(StreamEnd),
 }
 
@@ -47,8 +47,7 @@ fn pass_piece<S: Source>(intake: &mut Intake, source: &mut S, piece: &mut [u8]) 
     requires sound { intake.old.failed ≡ None }
     requires plain { IsUnchunked intake.old }
     ensures passed { PassesPiece (S.left source.old) (S.left source.new) intake.old intake.new piece.new result }
-    ensures faults { S.faults source.old ≤ S.faults source.new }
-    ensures cause { result ≡ Passed.Failed → Rose (S.faults source.old) (S.faults source.new) }
+    ensures cause { CountsPiece (S.faults source.old) (S.faults source.new) result }
 {
     match intake.body(source, piece) {
         Ok(0) => Passed::Whole,
@@ -73,7 +72,7 @@ fn read_body<S: Source>(
     ensures passed { IfOk result (λ whole. (given : List ℕ)
         × PassesBody intake.old intake.new (S.left source.old) (S.left source.new) given whole
         × (body.new ≡ (if keep then body.old ++ given else body.old))) }
-    ensures err { OnErr result (ReadsSome (S.left source.old) (S.left source.new)) }
+    ensures err { IfErr result (LeavesBody intake.old.buffer intake.old.body_left (S.left source.old) (S.left source.new)) }
     ensures cause { ReadsAtFault (S.faults source.old) (S.faults source.new) result }
     ensures kept { length piece.new ≡ length piece.old }
 {
@@ -90,6 +89,12 @@ fn read_body<S: Source>(
     }
 }
 
+fn refused(word: BadRequest, bodiless: bool) -> StreamEnd
+    ensures { result ≡ StreamEnd.Refused word bodiless }
+{
+    StreamEnd::Refused { word, bodiless }
+}
+
 /// How the requests end where the next head was not read for this cause.
 fn end_of(fault: IntakeFault) -> Result<StreamEnd, ServeFault>
     requires { EndsHeads fault }
@@ -99,9 +104,9 @@ fn end_of(fault: IntakeFault) -> Result<StreamEnd, ServeFault>
         IntakeFault::OutOfMemory => Err(ServeFault::OutOfMemory),
         IntakeFault::ReadFault => Err(ServeFault::ReadFault),
         IntakeFault::Cut => Ok(StreamEnd::Cut),
-        IntakeFault::BadHead => Ok(StreamEnd::Refused(BadRequest::Head)),
-        IntakeFault::HeadTooLarge => Ok(StreamEnd::Refused(BadRequest::Size)),
-        IntakeFault::BadFraming => Ok(StreamEnd::Refused(BadRequest::Framing)),
+        IntakeFault::BadHead => Ok(refused(BadRequest::Head, false)),
+        IntakeFault::HeadTooLarge => Ok(refused(BadRequest::Size, false)),
+        IntakeFault::BadFraming { bodiless } => Ok(refused(BadRequest::Framing, bodiless)),
         IntakeFault::BadChunk | IntakeFault::BodyTooLarge => unreachable!(),
     }
 }
@@ -121,7 +126,7 @@ fn take_body<S: Source>(
     requires plan { plan_of head.now ≡ Plan.Content (content_length head.now.framing) }
     requires plain { is_in_chunks head.now.framing ≡ false }
     ensures taken { IfOk result (TakesBody container.now head.now intake.old intake.new (S.left source.old) (S.left source.new)) }
-    ensures err { OnErr result (ReadsSome (S.left source.old) (S.left source.new)) }
+    ensures err { IfErr result (LeavesBody intake.old.buffer (content_length head.now.framing) (S.left source.old) (S.left source.new)) }
     ensures cause { ReadsAtFault (S.faults source.old) (S.faults source.new) result }
     ensures kept { length piece.new ≡ length piece.old }
 {
@@ -150,17 +155,20 @@ fn take_rest<S: Source>(
     requires room { 0 < length piece.old }
     requires behind { IsBehindHead intake.old head.now }
     ensures found { IfOk result (FindsRest k container.now head.now intake.old intake.new (S.left source.old) (S.left source.new)) }
-    ensures err { OnErr result (ReadsSome (S.left source.old) (S.left source.new)) }
+    ensures err { IfErr result (LeavesRest head.now intake.old.buffer (S.left source.old) (S.left source.new)) }
     ensures cause { ReadsAtFault (S.faults source.old) (S.faults source.new) result }
     ensures kept { length piece.new ≡ length piece.old }
 {
-    let close = head.closes(k);
+    let form = head.reply_form(k);
     match head.body_plan() {
-        BodyPlan::NotBuilt => Ok(Incoming::End(StreamEnd::NotBuilt)),
-        BodyPlan::Unread => Ok(Incoming::Request(Asked::BadHost, close)),
+        BodyPlan::NotBuilt => {
+            let bodiless = form.bodiless;
+            Ok(Incoming::End(StreamEnd::NotBuilt { bodiless }))
+        }
+        BodyPlan::Unread => Ok(Incoming::Request(Asked::BadHost, form)),
         BodyPlan::Content(_) => {
             match take_body(alloc, container, head, intake, source, piece) {
-                Ok(Some(asked)) => Ok(Incoming::Request(asked, close)),
+                Ok(Some(asked)) => Ok(Incoming::Request(asked, form)),
                 Ok(None) => Ok(Incoming::End(StreamEnd::Cut)),
                 Err(fault) => Err(fault),
             }
@@ -180,7 +188,7 @@ pub(crate) fn take_request<S: Source>(
     requires room { 0 < length piece.old }
     requires ready { IsReady intake.old }
     ensures found { IfOk result (FindsIncoming k container.now intake.old intake.new (S.left source.old) (S.left source.new)) }
-    ensures err { OnErr result (ReadsSome (S.left source.old) (S.left source.new)) }
+    ensures err { IfErr result (LeavesIncoming intake.old.buffer (S.left source.old) (S.left source.new)) }
     ensures cause { ReadsAtFault (S.faults source.old) (S.faults source.new) result }
     ensures kept { length piece.new ≡ length piece.old }
 {

@@ -1,18 +1,19 @@
 // The texts of replies, at the end of a buffer (RFC 9112, sections 4 and 5).
 ghost use Rattle.std.specs.Prelude.{◌≡◌, ◌+◌, ◌++◌, ◌<◌, [], length, IfOk, OnOk, decimal, flat_map, codes};
 ghost use Rattle.hex.specs.Hex.{encode_lower};
-ghost use Rattle.rgw_model.specs.Replies.{phrase_of, status_line, field_line, field_if, close_field, content_length_field, content_type_field, etag_field, last_modified_field, accept_ranges_field, code_of, line_of, word_of, challenge_of, crlf, refusal_kind, head_text, map_reply_head, reply_text};
-ghost use Rattle.rgw_model.specs.declared.reply.HttpReply.TheVariants.{Answered, BadRequest as Broken};
+ghost use Rattle.http_model.specs.Replies.{phrase_of, status_line, field_line, closing_fields, content_length_field, content_type_field, etag_field, last_modified_field, word_of, line_kind, line_body, written_body, head_text, bad_request_text};
+ghost use Rattle.swift_model.specs.Replies.{code_of, line_of, challenge_of, map_reply_head, map_reply_text};
 ghost use Rattle.rgw_model.specs.declared.reply.MapReply.TheVariants.{Refused, Stored};
 ghost use Rattle.rgw_model.specs.Answers.{shown_whole};
 
 use date_words::date_text_of_micros;
 use http::StatusCode;
-use rgw_model::{BadRequest, Content, Refusal, Stamp};
+use http_model::{BadRequest, ReplyForm};
+use rgw_model::{Content, Refusal, Stamp};
 use std::alloc::AllocError;
 
 /// The phrase of a status code.
-#[tactic(auto, unfolding(rgw_model::specs::Replies::phrase_of))]
+#[tactic(auto, unfolding(http_model::specs::Replies::phrase_of))]
 fn phrase(status: StatusCode) -> &'static str
     ensures { result.now ≡ phrase_of status }
 {
@@ -41,13 +42,25 @@ fn push_field(out: &mut Vec<u8>, name: &str, value: &[u8]) -> Result<(), AllocEr
 }
 
 /// Adds `Connection: close`, where the connection is closed.
-fn push_close(out: &mut Vec<u8>, close: bool) -> Result<(), AllocError>
-    ensures { OnOk result (out.new.items ≡ out.old.items ++ flat_map field_line (field_if close close_field)) }
+fn push_closing(out: &mut Vec<u8>, form: ReplyForm) -> Result<(), AllocError>
+    ensures { OnOk result (out.new.items ≡ out.old.items ++ flat_map field_line (closing_fields form)) }
 {
-    if close {
+    if form.close {
         return push_field(out, "Connection", b"close");
     }
     Ok(())
+}
+
+/// Adds a body that is one line, unless the reply has none.
+fn push_line(out: &mut Vec<u8>, form: ReplyForm, front: &str, line: &str) -> Result<(), AllocError>
+    ensures { OnOk result (out.new.items ≡ out.old.items ++ written_body form (line_body (front.now ++ line.now))) }
+{
+    if form.bodiless {
+        return Ok(());
+    }
+    out.extend_from_slice(front.as_bytes())?;
+    out.extend_from_slice(line.as_bytes())?;
+    out.extend_from_slice(b"\n")
 }
 
 /// The code of a refusal.
@@ -106,7 +119,7 @@ fn push_etag(out: &mut Vec<u8>, etag: &[u8; 16]) -> Result<(), AllocError>
 
 /// Adds `Last-Modified`: the whole second of a stamp.
 fn push_modified(out: &mut Vec<u8>, stamp: Stamp) -> Result<(), AllocError>
-    ensures { OnOk result (out.new.items ≡ out.old.items ++ field_line (last_modified_field stamp)) }
+    ensures { OnOk result (out.new.items ≡ out.old.items ++ field_line (last_modified_field stamp.micros)) }
 {
     push_field(out, "Last-Modified", &date_text_of_micros(stamp.micros))
 }
@@ -116,15 +129,15 @@ pub(crate) fn push_stored(
     out: &mut Vec<u8>,
     etag: &[u8; 16],
     stamp: Stamp,
-    close: bool,
+    form: ReplyForm,
 ) -> Result<(), AllocError>
-    ensures { OnOk result (out.new.items ≡ out.old.items ++ reply_text (Answered (Stored etag.now stamp)) [] close) }
+    ensures { OnOk result (out.new.items ≡ out.old.items ++ map_reply_text form (Stored etag.now stamp) []) }
 {
     push_status(out, StatusCode::CREATED)?;
     push_length(out, 0)?;
     push_etag(out, etag)?;
     push_modified(out, stamp)?;
-    push_close(out, close)?;
+    push_closing(out, form)?;
     out.extend_from_slice(b"\r\n")?;
     Ok(())
 }
@@ -135,9 +148,9 @@ pub(crate) fn push_shown_head(
     out: &mut Vec<u8>,
     content: &Content,
     stamp: Stamp,
-    close: bool,
+    form: ReplyForm,
 ) -> Result<(), AllocError>
-    ensures { OnOk result (out.new.items ≡ out.old.items ++ head_text (map_reply_head (shown_whole content.now stamp) close)) }
+    ensures { OnOk result (out.new.items ≡ out.old.items ++ head_text (map_reply_head form (shown_whole content.now stamp))) }
 {
     push_status(out, StatusCode::OK)?;
     push_length(out, content.bytes.len() as u64)?;
@@ -145,7 +158,7 @@ pub(crate) fn push_shown_head(
     push_etag(out, &content.etag)?;
     push_modified(out, stamp)?;
     push_field(out, "Accept-Ranges", b"bytes")?;
-    push_close(out, close)?;
+    push_closing(out, form)?;
     out.extend_from_slice(b"\r\n")?;
     Ok(())
 }
@@ -154,7 +167,7 @@ pub(crate) fn push_shown_head(
 fn push_line_fields(out: &mut Vec<u8>, len: usize) -> Result<(), AllocError>
     requires { len < 1000 }
     ensures { OnOk result (out.new.items ≡ out.old.items
-        ++ field_line (content_length_field (len + 1)) ++ field_line (content_type_field refusal_kind)) }
+        ++ field_line (content_length_field (len + 1)) ++ field_line (content_type_field line_kind)) }
 {
     push_length(out, len as u64 + 1)?;
     push_field(out, "Content-Type", b"text/plain; charset=utf-8")
@@ -174,18 +187,17 @@ fn push_challenge(out: &mut Vec<u8>, refusal: Refusal) -> Result<(), AllocError>
 pub(crate) fn push_refusal(
     out: &mut Vec<u8>,
     refusal: Refusal,
-    close: bool,
+    form: ReplyForm,
 ) -> Result<(), AllocError>
-    ensures { OnOk result (out.new.items ≡ out.old.items ++ reply_text (Answered (Refused refusal)) [] close) }
+    ensures { OnOk result (out.new.items ≡ out.old.items ++ map_reply_text form (Refused refusal) []) }
 {
     let line = line(refusal);
     push_status(out, status_of(refusal))?;
     push_line_fields(out, line.len())?;
     push_challenge(out, refusal)?;
-    push_close(out, close)?;
+    push_closing(out, form)?;
     out.extend_from_slice(b"\r\n")?;
-    out.extend_from_slice(line.as_bytes())?;
-    out.extend_from_slice(b"\n")?;
+    push_line(out, form, "", line)?;
     Ok(())
 }
 
@@ -193,16 +205,15 @@ pub(crate) fn push_refusal(
 pub(crate) fn push_bad_request(
     out: &mut Vec<u8>,
     fault: BadRequest,
-    close: bool,
+    form: ReplyForm,
 ) -> Result<(), AllocError>
-    ensures { OnOk result (out.new.items ≡ out.old.items ++ reply_text (Broken fault) [] close) }
+    ensures { OnOk result (out.new.items ≡ out.old.items ++ bad_request_text form fault) }
 {
     let word = word(fault);
     push_status(out, StatusCode::BAD_REQUEST)?;
     push_line_fields(out, 13 + word.len())?;
-    push_close(out, close)?;
-    out.extend_from_slice(b"\r\nBad request: ")?;
-    out.extend_from_slice(word.as_bytes())?;
-    out.extend_from_slice(b"\n")?;
+    push_closing(out, form)?;
+    out.extend_from_slice(b"\r\n")?;
+    push_line(out, form, "Bad request: ", word)?;
     Ok(())
 }

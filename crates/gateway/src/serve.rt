@@ -1,11 +1,10 @@
-ghost use Rattle.std.specs.Prelude.{◌≡◌, ◌≤◌, ◌<◌, [], length, IfOk, OnErr};
+ghost use Rattle.std.specs.Prelude.{◌≡◌, ◌<◌, [], length};
 ghost use Rattle.gateway.specs.Incoming.{IsReady};
-ghost use Rattle.gw_io.specs.Outside.{Rose};
-ghost use Rattle.gateway.specs.Serving.{Serves, Stops};
+ghost use Rattle.gateway.specs.Serving.{ServesConnection};
 
 use crate::turn::{Turn, take_turn};
 use crate::{PlainStore, ServeFault};
-use gw_io::{Clock, Sink, Source};
+use gw_io::{Clock, Ends, Sink, Source};
 use http_intake::Intake;
 use std::alloc::Global;
 
@@ -42,18 +41,9 @@ pub fn serve_connection<S: Source, K: Sink, C: Clock>(
     sink: &mut K,
     clock: &mut C,
 ) -> Result<Served, ServeFault>
-    ensures served { IfOk result (Serves store.old store.new
-        (record { left = S.left source.old; taken = K.taken sink.old; told = C.told clock.old })
-        (record { left = S.left source.new; taken = K.taken sink.new; told = C.told clock.new })) }
-    ensures stopped { OnErr result (Stops store.old store.new
-        (record { left = S.left source.old; taken = K.taken sink.old; told = C.told clock.old })
-        (record { left = S.left source.new; taken = K.taken sink.new; told = C.told clock.new })) }
-
-    ensures read_fault { result ≡ Err ServeFault.ReadFault → Rose (S.faults source.old) (S.faults source.new) }
-    ensures write_fault { result ≡ Err ServeFault.WriteFault → Rose (K.faults sink.old) (K.faults sink.new) }
-    ensures source_faults { S.faults source.old ≤ S.faults source.new }
-    ensures sink_faults { K.faults sink.old ≤ K.faults sink.new }
-    ensures plan { C.plan clock.new ≡ C.plan clock.old }
+    ensures { ServesConnection store.old store.new
+        (⟦<(S, K, C) as Ends>⟧.ends (source.old, sink.old, clock.old))
+        (⟦<(S, K, C) as Ends>⟧.ends (source.new, sink.new, clock.new)) result }
 {
     let mut intake = match Intake::new(alloc, u64::MAX) {
         Ok(intake) => intake,
@@ -79,18 +69,9 @@ fn serve_requests<S: Source, K: Sink, C: Clock>(
     requires room { 0 < length piece.old }
     requires ready { IsReady intake.old }
     requires unread { intake.old.buffer ≡ [] }
-    ensures served { IfOk result (Serves store.old store.new
-        (record { left = S.left source.old; taken = K.taken sink.old; told = C.told clock.old })
-        (record { left = S.left source.new; taken = K.taken sink.new; told = C.told clock.new })) }
-    ensures stopped { OnErr result (Stops store.old store.new
-        (record { left = S.left source.old; taken = K.taken sink.old; told = C.told clock.old })
-        (record { left = S.left source.new; taken = K.taken sink.new; told = C.told clock.new })) }
-
-    ensures read_fault { result ≡ Err ServeFault.ReadFault → Rose (S.faults source.old) (S.faults source.new) }
-    ensures write_fault { result ≡ Err ServeFault.WriteFault → Rose (K.faults sink.old) (K.faults sink.new) }
-    ensures source_faults { S.faults source.old ≤ S.faults source.new }
-    ensures sink_faults { K.faults sink.old ≤ K.faults sink.new }
-    ensures plan { C.plan clock.new ≡ C.plan clock.old }
+    ensures { ServesConnection store.old store.new
+        (⟦<(S, K, C) as Ends>⟧.ends (source.old, sink.old, clock.old))
+        (⟦<(S, K, C) as Ends>⟧.ends (source.new, sink.new, clock.new)) result }
 {
     let mut out = Vec::new(alloc);
     let mut done: u64 = 0;

@@ -1,7 +1,8 @@
 ghost use Rattle.std.specs.Prelude.{◌≡◌, IfOk, OnOk, OnErr, option_copied, unwrap_or};
 ghost use Rattle.rgw_model.specs.Buckets.{empty_bucket, slot_at, with_slot};
 
-use rgw_model::{Slot, Text};
+use rgw_model::Slot;
+use rgw_types::Text;
 use std::alloc::{AllocError, Global};
 use std::collections::BTreeMap;
 use std::marker::Model;

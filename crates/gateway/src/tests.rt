@@ -6,7 +6,7 @@ mod limits;
 
 use super::*;
 use gw_io::{SliceSource, StepClock, VecSink};
-use rgw_model::Text;
+use rgw_types::Text;
 use std::alloc::{AllocError, Global};
 use std::test::Fail;
 

@@ -1,20 +1,20 @@
 // One turn of a connection: the next request is read and answered.
-ghost use Rattle.std.specs.Prelude.{◌≡◌, ◌≤◌, ◌<◌, [], length, IfOk, OnOk, OnErr};
+ghost use Rattle.std.specs.Prelude.{◌≡◌, ◌≤◌, ◌<◌, true, length, OnOk, OnErr};
 ghost use Rattle.std.specs.Io.KnownBytes.{Appends};
-ghost use Rattle.gw_io.specs.Outside.{Rose};
-ghost use Rattle.rgw_model.specs.Replies.{end_text};
-ghost use Rattle.rgw_model.specs.Connections.{end_replies};
+ghost use Rattle.swift_model.specs.Replies.{end_text};
+ghost use Rattle.swift_model.specs.Connections.{end_replies};
 ghost use Rattle.gateway.specs.Answering.{AppendsFront, WritesAtFault};
 ghost use Rattle.gateway.specs.Incoming.{IsReady};
 ghost use Rattle.gateway.specs.Serving.{connection_end};
-ghost use Rattle.gateway.specs.TurnTaking.{TakesTurn, WritesFew};
+ghost use Rattle.gateway.specs.Turns.{TakesTurn};
 
 use crate::answer::{answer, send_bad_request, send_refusal};
 use crate::incoming::{Incoming, take_request};
 use crate::{ConnEnd, PlainStore, ServeFault};
-use gw_io::{Clock, Sink, Source};
+use gw_io::{Clock, Ends, Sink, Source};
 use http_intake::Intake;
-use rgw_model::{Refusal, StreamEnd};
+use http_model::{ReplyForm, StreamEnd};
+use rgw_model::Refusal;
 use std::alloc::Global;
 
 /// What a turn of a connection comes to.
@@ -26,6 +26,16 @@ pub(crate) enum Turn {
     Over(u64, ConnEnd),
 }
 
+/// The form of the last reply of a connection.
+fn closing(bodiless: bool) -> ReplyForm
+    ensures { result ≡ record { bodiless = bodiless; close = true } }
+{
+    ReplyForm {
+        bodiless,
+        close: true,
+    }
+}
+
 /// Writes what is written where the requests end so: a refusal, or nothing.
 fn send_end<K: Sink>(sink: &mut K, out: &mut Vec<u8>, end: StreamEnd) -> Result<(), ServeFault>
     ensures ok { OnOk result (Appends (K.taken sink.old) (K.taken sink.new) (end_text end)) }
@@ -34,8 +44,12 @@ fn send_end<K: Sink>(sink: &mut K, out: &mut Vec<u8>, end: StreamEnd) -> Result<
 {
     match end {
         StreamEnd::Clean | StreamEnd::Closed | StreamEnd::Cut => Ok(()),
-        StreamEnd::Refused(fault) => send_bad_request(sink, out, fault, true),
-        StreamEnd::NotBuilt => send_refusal(sink, out, Refusal::NotBuilt, true),
+        StreamEnd::Refused { word, bodiless } => {
+            send_bad_request(sink, out, word, closing(bodiless))
+        }
+        StreamEnd::NotBuilt { bodiless } => {
+            send_refusal(sink, out, Refusal::NotBuilt, closing(bodiless))
+        }
     }
 }
 
@@ -46,7 +60,7 @@ fn end_replies(end: StreamEnd) -> u64
 {
     match end {
         StreamEnd::Clean | StreamEnd::Closed | StreamEnd::Cut => 0,
-        StreamEnd::Refused(_) | StreamEnd::NotBuilt => 1,
+        StreamEnd::Refused { .. } | StreamEnd::NotBuilt { .. } => 1,
     }
 }
 
@@ -58,7 +72,7 @@ fn connection_end(end: StreamEnd) -> ConnEnd
         StreamEnd::Clean => ConnEnd::Clean,
         StreamEnd::Closed => ConnEnd::Closed,
         StreamEnd::Cut => ConnEnd::Cut,
-        StreamEnd::Refused(_) | StreamEnd::NotBuilt => ConnEnd::Refused,
+        StreamEnd::Refused { .. } | StreamEnd::NotBuilt { .. } => ConnEnd::Refused,
     }
 }
 
@@ -77,15 +91,9 @@ pub(crate) fn take_turn<S: Source, K: Sink, C: Clock>(
     requires room { 0 < length piece.old }
     requires ready { IsReady intake.old }
     ensures turn { TakesTurn k store.old store.new intake.old intake.new
-        (record { left = S.left source.old; taken = K.taken sink.old; told = C.told clock.old })
-        (record { left = S.left source.new; taken = K.taken sink.new; told = C.told clock.new }) result }
-    ensures read_fault { result ≡ Err ServeFault.ReadFault → Rose (S.faults source.old) (S.faults source.new) }
-    ensures write_fault { result ≡ Err ServeFault.WriteFault → Rose (K.faults sink.old) (K.faults sink.new) }
-    ensures source_faults { S.faults source.old ≤ S.faults source.new }
-    ensures sink_faults { K.faults sink.old ≤ K.faults sink.new }
-    ensures plan { C.plan clock.new ≡ C.plan clock.old }
+        (⟦<(S, K, C) as Ends>⟧.ends (source.old, sink.old, clock.old))
+        (⟦<(S, K, C) as Ends>⟧.ends (source.new, sink.new, clock.new)) result }
     ensures kept { length piece.new ≡ length piece.old }
-    ensures few { IfOk result WritesFew }
 {
     match take_request(alloc, k, store.container(), intake, source, piece) {
         Err(fault) => Err(fault),
@@ -93,11 +101,11 @@ pub(crate) fn take_turn<S: Source, K: Sink, C: Clock>(
             Ok(()) => Ok(Turn::Over(end_replies(end), connection_end(end))),
             Err(fault) => Err(fault),
         },
-        Ok(Incoming::Request(asked, close)) => {
-            match answer(alloc, store, sink, clock, out, asked, close) {
+        Ok(Incoming::Request(asked, form)) => {
+            match answer(alloc, store, sink, clock, out, asked, form) {
                 Err(fault) => Err(fault),
                 Ok(()) => {
-                    if close {
+                    if form.close {
                         return Ok(Turn::Over(1, ConnEnd::Closed));
                     }
                     Ok(Turn::Further)

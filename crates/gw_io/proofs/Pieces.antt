@@ -1,16 +1,16 @@
 -- A piece that a sink takes part by part.
-use Rattle.std.proofs.Common.{ℕ, ◌+◌, ◌-◌, ◌≤◌, List, length, take, drop, subst, sym}
+use Rattle.std.proofs.Common.{◌≡◌, ℕ, ◌+◌, ◌-◌, ◌≤◌, List, length, take, drop, subst, sym}
 use Rattle.std.proofs.Math.Seq.{take-add}
 use Rattle.std.proofs.lemmas.List.{take_rest}
 use Rattle.std.specs.declared.option.Option.{Option}
 use Rattle.std.specs.Io.KnownBytes.{Appends}
 use Rattle.std.proofs.KnownBytes.{Appends-trans}
 
--- the sink took the first `done` bytes of a piece, and its count of faults has not fallen
+-- the sink took the first `done` bytes of a piece, and its count of faults stayed
 pub record HasTaken (old new : Option (List ℕ)) (bytes : List ℕ) (done before now : ℕ) : Type 0 where
   pub within : done ≤ length bytes
   pub taken : Appends old new (take done bytes)
-  pub later : before ≤ now
+  pub kept : now ≡ before
 
 -- after the first m bytes, the next n
 pub Appends-take-add : (old mid new : Option (List ℕ)) (bytes : List ℕ) (m n : ℕ)

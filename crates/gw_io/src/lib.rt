@@ -8,6 +8,7 @@
 
 mod adapters;
 mod clock;
+mod ends;
 mod outside;
 mod sink;
 mod source;
@@ -16,6 +17,7 @@ mod writing;
 
 pub use adapters::{ReaderSource, SystemClock, WriterSink, standard_input, standard_output};
 pub use clock::StepClock;
+pub use ends::Ends;
 pub use outside::{Clock, Failed, Sink, Source};
 pub use sink::{CountingSink, VecSink};
 pub use source::{SliceSource, WholeSource};

@@ -4,18 +4,17 @@ use Rattle.std.specs.Prelude.{◌≢◌, MatchBool}
 use Rattle.std.proofs.lemmas.List.{append-nil, length-append, length-take-le}
 use Rattle.std.proofs.KnownBytes.{Consumes-nil, Consumes-trans}
 use Rattle.std.specs.Io.KnownBytes.{Consumes}
-use Rattle.rgw_model.specs.declared.head.BodyPlan.TheVariants.{Content, Unread}
-use Rattle.rgw_model.specs.declared.head.Head.{Head}
-use Rattle.rgw_model.specs.declared.head.Request.{Request}
-use Rattle.rgw_model.specs.declared.reply.StreamEnd.{StreamEnd}
-use Rattle.rgw_model.specs.declared.reply.StreamEnd.TheVariants.{Closed, Cut}
-use Rattle.rgw_model.specs.Forms.{plan_of, closes}
-use Rattle.rgw_model.specs.Heads.{EndsHead, BeginsWith}
-use Rattle.rgw_model.specs.Streams.{TakesRequest, IsEnd, IsStreamFrom, IsStream}
+use Rattle.http_model.specs.declared.head.BodyPlan.TheVariants.{Content, Unread}
+use Rattle.http_model.specs.declared.head.Head.{Head}
+use Rattle.http_model.specs.declared.head.Request.{Request}
+use Rattle.http_model.specs.declared.reply.StreamEnd.{StreamEnd}
+use Rattle.http_model.specs.declared.reply.StreamEnd.TheVariants.{Closed, Cut}
+use Rattle.http_model.specs.Forms.{plan_of, closes}
+use Rattle.http_model.specs.Heads.{EndsHead, BeginsWith}
+use Rattle.http_model.specs.Streams.{TakesRequest, IsEnd, IsStreamFrom, IsStream}
 use Rattle.http_intake.specs.Intake.{IntakeState, GivesHead, GivesBytes}
 use Rattle.http_intake.proofs.Planned.{content_is}
-use Rattle.http_intake.proofs.ScanSteps.{no_head}
-use Rattle.http_intake.proofs.Taking.{no_front}
+use Rattle.http_model.proofs.PlainLemmas.{begun_not_blank}
 
 -- ---- a body
 
@@ -74,11 +73,6 @@ begins_more all later head rest begins =
     let text = begins.1 in
     (begins.0, record { is_text = text.is_text; fits = text.fits; whole = ap (λ l. l ++ later) text.whole ∙ append_assoc begins.0 rest later }, begins.2)
 
-has_bytes : (all : List ℕ) (head : Head) (rest : List ℕ) → BeginsWith all head rest → all ≢ []
-has_bytes all head rest begins none =
-    let text : begins.0 ≡ [] = no_front begins.0 rest (sym begins.1.whole ∙ none) in
-    no_head (subst EndsHead text begins.1.is_text.ends)
-
 -- a head, what was read behind it, and the body that this begins with
 pub takes_content : (before more next : List ℕ) (head : Head) (after body left : List ℕ) (n : ℕ) → BeginsWith (before ++ more) head after → plan_of head ≡ Content n
     → length body ≡ n → after ++ next ≡ body ++ left
@@ -127,7 +121,7 @@ cut_content before mid now old intake head n more next read gives plan then shor
     let begins = subst (λ l. BeginsWith l head (intake.buffer ++ next)) joined (begins_more (old.buffer ++ more) next head intake.buffer gives.begins) in (
       more ++ next,
       Consumes-trans before mid now more next read then,
-      (has_bytes _ head (intake.buffer ++ next) begins, inr (head, intake.buffer ++ next, n, begins, plan, omega (arith, short, gives.body_left, (content_is head n plan).0))),
+      (begun_not_blank _ begins.0 (intake.buffer ++ next) begins.1, inr (head, intake.buffer ++ next, n, begins, plan, omega (arith, short, gives.body_left, (content_is head n plan).0))),
     )
 
 -- ---- all of them

@@ -2,11 +2,12 @@
 use Rattle.std.proofs.Common.{◌≡◌, ℕ, ◌<◌, leb, ◌==◌, Bool, true, false, cond, refl, ⊎_elim, inl, inr}
 use Rattle.std.specs.Prelude.{◌&&◌, ◌⊎◌}
 use Rattle.std.proofs.lemmas.Bool.{and_parts, or_cases, or_parts, leb-false}
-use Rattle.rgw_model.specs.declared.head.BodyPlan.TheVariants.{Content, Unread, NotBuilt}
-use Rattle.rgw_model.specs.declared.head.Framing.{Framing}
-use Rattle.rgw_model.specs.declared.head.Framing.TheVariants.{Empty, Length, Chunked}
-use Rattle.rgw_model.specs.declared.head.Head.{Head}
-use Rattle.rgw_model.specs.Forms.{content_length, is_sized, is_framed, is_put, is_get, object_limit, has_host, has_method_form, is_built, can_drop, plan_of, is_unread, closes, request_limit}
+use Rattle.http_model.specs.declared.head.BodyPlan.TheVariants.{Content, Unread, NotBuilt}
+use Rattle.http_model.specs.declared.head.Framing.{Framing}
+use Rattle.http_model.specs.declared.head.Framing.TheVariants.{Empty, Length, Chunked}
+use Rattle.http_model.specs.declared.head.Head.{Head}
+use Rattle.http_model.specs.declared.head.TheConstants.{OBJECT_LIMIT, REQUEST_LIMIT}
+use Rattle.http_model.specs.Forms.{content_length, is_sized, is_framed, is_put, is_get, has_host, has_method_form, is_built, can_drop, plan_of, is_unread, closes}
 use Rattle.http_intake.specs.Intake.{is_in_chunks}
 
 by_length : (most : ℕ) (framing : Framing) → is_sized most framing ≡ true → is_in_chunks framing ≡ false
@@ -17,9 +18,9 @@ by_length most Chunked sized = cc
 built : (head : Head) → is_built head ≡ true → is_in_chunks head.framing ≡ false
 unfolding is_built has_method_form
 built head is =
-    ⊎_elim (λ put. by_length object_limit head.framing (and_parts (is_framed head.framing) _ (and_parts (is_put head) _ put).1).1)
+    ⊎_elim (λ put. by_length OBJECT_LIMIT head.framing (and_parts (is_framed head.framing) _ (and_parts (is_put head) _ put).1).1)
     (λ get. by_length 0 head.framing (and_parts (is_get head) _ get).1)
-    (or_cases (is_put head && (is_framed head.framing && is_sized object_limit head.framing)) (is_get head && is_sized 0 head.framing) (and_parts (has_method_form head) _ is).0)
+    (or_cases (is_put head && (is_framed head.framing && is_sized OBJECT_LIMIT head.framing)) (is_get head && is_sized 0 head.framing) (and_parts (has_method_form head) _ is).0)
 
 dropped : (head : Head) → can_drop head ≡ true → is_in_chunks head.framing ≡ false
 unfolding can_drop
@@ -45,9 +46,9 @@ unfolding closes
 reads_body k head goes = (or_parts (is_unread (plan_of head)) _ goes).0
 
 -- and not the last of them
-pub goes_below : (k : ℕ) (head : Head) → closes k head ≡ false → k < request_limit
+pub goes_below : (k : ℕ) (head : Head) → closes k head ≡ false → k < REQUEST_LIMIT
 unfolding closes
 goes_below k head goes =
     let version = (or_parts (is_unread (plan_of head)) _ goes).1 in
     let listed = (or_parts (head.minor == 0) _ version).1 in
-    leb-false request_limit k (or_parts _ (leb request_limit k) listed).1
+    leb-false REQUEST_LIMIT k (or_parts _ (leb REQUEST_LIMIT k) listed).1

@@ -3,7 +3,7 @@ use Rattle.std.proofs.Common.{◌≡◌, ◌≢◌, ℕ, ◌+◌, ◌<◌, ◌�
 use Rattle.std.proofs.lemmas.List.{take-append-le, take_all, take_more, take_rest, get_or-drop, length-drop, same_from_push}
 use Rattle.std.proofs.lemmas.Bool.{cases_lt, eqb-true, eqb-false, or_parts}
 use Rattle.std.specs.Prelude.{◌||◌, ◌==◌}
-use Rattle.rgw_model.specs.Heads.{skip_breaks, EndsIn, EndsHead, HasNoHeadText, IsHeadText}
+use Rattle.http_model.specs.Heads.{skip_breaks, EndsIn, EndsHead, HasNoHeadText, IsHeadText}
 use Rattle.http_intake.specs.declared.scan.Place.{Place}
 use Rattle.http_intake.specs.declared.scan.Place.TheVariants.{Before, Inside, Fresh, Return}
 use Rattle.http_intake.specs.Scan.{after_byte, IsBehind, Scanned}

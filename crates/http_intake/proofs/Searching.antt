@@ -1,23 +1,24 @@
 -- A search for the end of a head in bytes that come in pieces.
-use Rattle.std.proofs.Common.{◌≡◌, ℕ, ◌<◌, ◌≤◌, min, List, [], ◌++◌, length, take, sym, ap, ◌∙◌, subst, append_assoc, arith}
+use Rattle.std.proofs.Common.{◌≡◌, ◌≢◌, ◌⊎◌, inl, inr, ◌∷◌, ℕ, ◌<◌, ◌≤◌, min, List, [], ◌++◌, length, take, sym, ap, ◌∙◌, refl, subst, append_assoc, arith}
 use Rattle.std.proofs.lemmas.List.{append-nil, length-append, length-take, nil_from_length, take_all}
 use Rattle.std.proofs.KnownBytes.{Consumes-nil, Consumes-trans}
 use Rattle.std.specs.declared.option.Option.{Option}
-use Rattle.rgw_model.specs.Heads.{head_limit, HasNoHeadText}
-use Rattle.rgw_model.specs.Streams.{IsCutHead, IsOversized}
+use Rattle.http_model.specs.declared.reading.TheConstants.{HEAD_LIMIT}
+use Rattle.http_model.specs.Heads.{skip_breaks, HasNoHeadText}
+use Rattle.http_model.specs.Streams.{IsBlank, IsCutHead, IsOversized}
 use Rattle.http_intake.specs.declared.scan.Place.{Place}
-use Rattle.http_intake.specs.declared.scan.Place.TheVariants.{Before}
+use Rattle.http_intake.specs.declared.scan.Place.TheVariants.{Before, Inside, Fresh, Return}
 use Rattle.http_intake.specs.Reading.{Reads}
-use Rattle.http_intake.specs.Scan.{Scanned}
+use Rattle.http_intake.specs.Scan.{IsBehind, Scanned}
 use Rattle.http_intake.proofs.ScanSteps.{scanned_none}
 
 -- the bytes so far, of which the first were scanned
 pub record Searches (old new : Option (List ℕ)) (before bytes : List ℕ) (seen : ℕ) (place : Place) (first now : ℕ) : Type 0 where
   pub read : Reads old new before bytes
   pub within : seen ≤ length bytes
-  pub few : seen ≤ head_limit
+  pub few : seen ≤ HEAD_LIMIT
   pub scanned : Scanned (take seen bytes) place
-  pub later : first ≤ now
+  pub kept : now ≡ first
 
 pub searches_start : (source : Option (List ℕ)) (bytes : List ℕ) (faults : ℕ) → Searches source source bytes bytes 0 Before faults faults
 searches_start source bytes faults = record {
@@ -25,7 +26,7 @@ searches_start source bytes faults = record {
   within = omega arith;
   few = omega arith;
   scanned = scanned_none;
-  later = omega arith;
+  kept = refl;
 }
 
 -- one read, and then another
@@ -40,13 +41,41 @@ nothing_more old new bytes next read same =
     read.2 ∙ ap (λ l. bytes ++ l) none ∙ append-nil bytes
 
 -- all that a head may have was scanned, and more is there
-pub too_many : (bytes : List ℕ) (n : ℕ) (place : Place) → n ≡ min (length bytes) head_limit → length (take n bytes) < length bytes → Scanned (take n bytes) place → IsOversized bytes
+pub too_many : (bytes : List ℕ) (n : ℕ) (place : Place) → n ≡ min (length bytes) HEAD_LIMIT → length (take n bytes) < length bytes → Scanned (take n bytes) place → IsOversized bytes
 too_many bytes n place is more scanned =
-    let all : n ≡ head_limit = omega (arith, is, more, length-take n bytes) in
+    let all : n ≡ HEAD_LIMIT = omega (arith, is, more, length-take n bytes) in
     (omega (arith, is, more, length-take n bytes), subst (λ m. HasNoHeadText (take m bytes)) all scanned.open_so_far)
 
 -- all that is there was scanned
-pub all_scanned : (bytes : List ℕ) (n : ℕ) (place : Place) → n ≡ min (length bytes) head_limit → length bytes ≤ length (take n bytes) → Scanned (take n bytes) place → IsCutHead bytes
+pub all_scanned : (bytes : List ℕ) (n : ℕ) (place : Place) → n ≡ min (length bytes) HEAD_LIMIT → length bytes ≤ length (take n bytes) → Scanned (take n bytes) place → IsCutHead bytes
 all_scanned bytes n place is all scanned =
     let few : length bytes ≤ n = omega (arith, all, length-take n bytes) in
     (omega (arith, is, few), subst HasNoHeadText (take_all n bytes few) scanned.open_so_far)
+
+-- only empty lines came
+pub blank_so_far : (bytes : List ℕ) (n : ℕ) → n ≡ min (length bytes) HEAD_LIMIT → length bytes ≤ length (take n bytes) → Scanned (take n bytes) Before → IsBlank bytes
+blank_so_far bytes n is all scanned =
+    let few : length bytes ≤ n = omega (arith, all, length-take n bytes) in
+    (omega (arith, is, few), ap skip_breaks (sym (take_all n bytes few)) ∙ scanned.behind)
+
+ends_in_some : (bytes front last : List ℕ) → bytes ≡ front ++ last → 0 < length last → bytes ≢ []
+ends_in_some bytes front last is some none = omega (arith, some, ap length (sym is ∙ none), length-append front last)
+
+some_text : (text : List ℕ) (place : Place) → IsBehind text place → place ≢ Before → text ≢ []
+some_text text Before behind other = absurd (other refl)
+some_text text Inside behind other = behind.0
+some_text text Fresh behind other = ends_in_some text behind.0 (10 ∷ []) behind.1 (omega arith)
+some_text text Return behind other = ends_in_some text behind.0 (10 ∷ 13 ∷ []) behind.1 (omega arith)
+
+-- more than empty lines came
+pub begun_so_far : (bytes : List ℕ) (n : ℕ) (place : Place) → n ≡ min (length bytes) HEAD_LIMIT → length bytes ≤ length (take n bytes) → Scanned (take n bytes) place → place ≢ Before
+    → (skip_breaks bytes ≢ []) × IsCutHead bytes
+begun_so_far bytes n place is all scanned other =
+    let few : length bytes ≤ n = omega (arith, all, length-take n bytes) in
+    let some = some_text (skip_breaks (take n bytes)) place scanned.behind other in
+    (subst (λ (l : List ℕ). skip_breaks l ≢ []) (take_all n bytes few) some, all_scanned bytes n place is all scanned)
+
+pub not_before : (place : Place) → ((place ≡ Inside) ⊎ ((place ≡ Fresh) ⊎ (place ≡ Return))) → place ≢ Before
+not_before place (inl is) before = cc
+not_before place (inr (inl is)) before = cc
+not_before place (inr (inr is)) before = cc

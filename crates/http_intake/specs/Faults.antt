@@ -1,16 +1,16 @@
 -- Why reading stops.
-use Rattle.std.specs.Prelude.{◌≡◌, ◌⊎◌, ℕ, ◌≤◌, List, Option, Some, Err, codes}
+use Rattle.std.specs.Prelude.{◌≡◌, ◌≢◌, ℕ, List, Option, None, Some, Err, codes}
 use Rattle.std.specs.declared.result.Result.{Result}
 use Rattle.gw_io.specs.Outside.{Rose}
-use Rattle.rgw_model.specs.declared.reading.HeadFault.{HeadFault}
-use Rattle.rgw_model.specs.declared.reading.HeadFault.TheVariants as Head
+use Rattle.http_model.specs.declared.reading.HeadFault.{HeadFault}
+use Rattle.http_model.specs.declared.reading.HeadFault.TheVariants as Head
 use Rattle.http_intake.specs.declared.fault.IntakeFault.{IntakeFault}
 use Rattle.http_intake.specs.declared.fault.IntakeFault.TheVariants as Fault
 
 abbrev pub fault_of_head : HeadFault → IntakeFault
 fault_of_head Head.OutOfMemory = Fault.OutOfMemory
 fault_of_head Head.BadHead = Fault.BadHead
-fault_of_head Head.BadFraming = Fault.BadFraming
+fault_of_head (Head.BadFraming bodiless) = Fault.BadFraming bodiless
 
 -- how a fault is printed
 abbrev pub fault_text : IntakeFault → List ℕ
@@ -19,16 +19,16 @@ fault_text Fault.ReadFault = codes "reading failed"
 fault_text Fault.Cut = codes "the input ended inside a request"
 fault_text Fault.BadHead = codes "no head of a request"
 fault_text Fault.HeadTooLarge = codes "the head is too large"
-fault_text Fault.BadFraming = codes "the body is not framed"
+fault_text (Fault.BadFraming bodiless) = codes "the body is not framed"
 fault_text Fault.BadChunk = codes "no chunk of a body"
 fault_text Fault.BodyTooLarge = codes "the body is too large"
 
--- A source's count of faults does not fall, and reading fails only where it rose.
+-- A source's count of faults rose where reading failed, and stayed at every other end.
 pub record CountsFaults {T : Type 0} (before now : ℕ) (result : Result T IntakeFault) : Type 0 where
-  pub later : before ≤ now
-  pub cause : result ≡ Err Fault.ReadFault → Rose before now
+  pub rose : result ≡ Err Fault.ReadFault → Rose before now
+  pub kept : result ≢ Err Fault.ReadFault → now ≡ before
 
--- The same of an intake that may have failed before: then it answers that fault again.
-pub record HasFaultCause {T : Type 0} (failed : Option IntakeFault) (before now : ℕ) (result : Result T IntakeFault) : Type 0 where
-  pub later : before ≤ now
-  pub cause : result ≡ Err Fault.ReadFault → (failed ≡ Some Fault.ReadFault) ⊎ Rose before now
+-- The same of an intake, unless it had failed before: then it answers that fault again, and the count stays.
+abbrev pub HasFaultCause : {T : Type 0} → Option IntakeFault → ℕ → ℕ → Result T IntakeFault → Type 0
+HasFaultCause None before now result = CountsFaults before now result
+HasFaultCause (Some fault) before now result = now ≡ before

@@ -1,11 +1,12 @@
 -- What a reader of requests is at a moment, and what its calls do.
 use Rattle.std.specs.Prelude.{◌≡◌, ℕ, ◌+◌, ◌<◌, ◌≤◌, min, Bool, true, false, List, [], ◌++◌, length, take, Option, Some, None, Result, Ok, Err}
 use Rattle.std.specs.Io.KnownBytes.{Consumes, IsAtEnd}
-use Rattle.rgw_model.specs.declared.head.Framing.{Framing}
-use Rattle.rgw_model.specs.declared.head.Framing.TheVariants.{Empty, Length, Chunked}
-use Rattle.rgw_model.specs.declared.head.Head.{Head}
-use Rattle.rgw_model.specs.Forms.{content_length}
-use Rattle.rgw_model.specs.Heads.{BeginsWith}
+use Rattle.http_model.specs.declared.head.Framing.{Framing}
+use Rattle.http_model.specs.declared.head.Framing.TheVariants.{Empty, Length, Chunked}
+use Rattle.http_model.specs.declared.head.Head.{Head}
+use Rattle.http_model.specs.Forms.{content_length}
+use Rattle.http_model.specs.Heads.{BeginsWith}
+use Rattle.http_model.specs.Streams.{IsBlank}
 use Rattle.http_intake.specs.declared.fault.IntakeFault.{IntakeFault}
 use Rattle.http_intake.specs.declared.fault.IntakeFault.TheVariants.{OutOfMemory, ReadFault, Cut, BadHead, HeadTooLarge, BadFraming, BadChunk, BodyTooLarge}
 use Rattle.http_intake.specs.Reading.{HasNoNext}
@@ -49,7 +50,7 @@ pub record GivesHead (all : List ℕ) (old new : IntakeState) (head : Head) : Ty
 -- the head at the front of all the bytes, the end of the input, or why neither is there
 abbrev pub FindsNext : List ℕ → Type 0 → IntakeState → IntakeState → Result (Option Head) IntakeFault → Type 0
 FindsNext all ended old new (Ok (Some head)) = GivesHead all old new head
-FindsNext all ended old new (Ok None) = (all ≡ []) × ended × (new ≡ old)
+FindsNext all ended old new (Ok None) = IsBlank all × ended × (new ≡ record old { buffer = all })
 FindsNext all ended old new (Err fault) =
     HasNoNext all ended fault × (new ≡ record old { buffer = all; failed = Some fault })
 
@@ -73,15 +74,16 @@ pub record GivesBytes (before after : Option (List ℕ)) (old new : IntakeState)
   pub failed : new.failed ≡ None
   pub largest : new.largest ≡ old.largest
 
--- the next bytes of the body, or why there are none: the input ended inside it, or reading failed
+-- the next bytes of the body, or why there are none: no byte waits and more are due, and the input ended or reading failed
 abbrev pub GivesBody : Option (List ℕ) → Option (List ℕ) → IntakeState → IntakeState → List ℕ → Result ℕ IntakeFault → Type 0
 GivesBody before after old new out (Ok n) = GivesBytes before after old new out n
 GivesBody before after old new out (Err Cut) =
     (old.buffer ≡ []) × (0 < old.body_left) × Consumes before after [] × IsAtEnd after × (new ≡ record old { failed = Some Cut })
-GivesBody before after old new out (Err ReadFault) = Consumes before after [] × (new ≡ record old { failed = Some ReadFault })
+GivesBody before after old new out (Err ReadFault) =
+    (old.buffer ≡ []) × (0 < old.body_left) × Consumes before after [] × (new ≡ record old { failed = Some ReadFault })
 GivesBody before after old new out (Err OutOfMemory) = ⊥
 GivesBody before after old new out (Err BadHead) = ⊥
 GivesBody before after old new out (Err HeadTooLarge) = ⊥
-GivesBody before after old new out (Err BadFraming) = ⊥
+GivesBody before after old new out (Err (BadFraming bodiless)) = ⊥
 GivesBody before after old new out (Err BadChunk) = ⊥
 GivesBody before after old new out (Err BodyTooLarge) = ⊥

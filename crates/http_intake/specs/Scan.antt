@@ -1,6 +1,6 @@
 -- A scan for the end of the text of a head, by the bytes that it has seen.
 use Rattle.std.specs.Prelude.{◌≡◌, ◌≢◌, ℕ, ◌≤◌, ◌||◌, ◌==◌, List, [], ◌∷◌, length, take, Option, Some, None, if◌then◌else◌}
-use Rattle.rgw_model.specs.Heads.{skip_breaks, EndsIn, HasNoHeadText, IsHeadText}
+use Rattle.http_model.specs.Heads.{skip_breaks, EndsIn, HasNoHeadText, IsHeadText}
 use Rattle.http_intake.specs.declared.scan.Place.{Place}
 use Rattle.http_intake.specs.declared.scan.Place.TheVariants.{Before, Inside, Fresh, Return}
 use Rattle.http_intake.specs.declared.scan.TextEnd.{TextEnd}

@@ -5,11 +5,9 @@ ghost use Rattle.gw_io.specs.Outside.{HasCause};
 ghost use Rattle.http_intake.specs.Reading.{Reads};
 
 use gw_io::{Failed, Source};
+use http_model::HEAD_LIMIT;
 use std::alloc::{AllocError, Global};
 use std::marker::Model;
-
-/// The longest text of a head.
-pub(crate) const HEAD_LIMIT: usize = 65_536;
 
 /// How many bytes a buffer can hold. Bytes are moved to the front only where no room is behind
 /// them, and no more than `HEAD_LIMIT` wait then for the rest of a head. So as many went before

@@ -1,7 +1,7 @@
 ghost use Rattle.std.specs.Prelude.{◌≡◌};
 
 use gw_io::Failed;
-use rgw_model::HeadFault;
+use http_model::HeadFault;
 use std::error::Error;
 use std::fmt;
 
@@ -17,8 +17,9 @@ pub enum IntakeFault {
     BadHead,
     /// The head is longer than 65536 bytes.
     HeadTooLarge,
-    /// The fields do not tell where the body ends (RFC 9112, section 6).
-    BadFraming,
+    /// The fields do not tell where the body ends (RFC 9112, section 6); the method is HEAD or
+    /// another.
+    BadFraming { bodiless: bool },
     /// A chunk of the body breaks the chunked coding (RFC 9112, section 7.1).
     BadChunk,
     /// The chunks of the body are together longer than the intake takes.
@@ -38,7 +39,7 @@ impl fmt::Display for IntakeFault {
             IntakeFault::Cut => "the input ended inside a request",
             IntakeFault::BadHead => "no head of a request",
             IntakeFault::HeadTooLarge => "the head is too large",
-            IntakeFault::BadFraming => "the body is not framed",
+            IntakeFault::BadFraming { .. } => "the body is not framed",
             IntakeFault::BadChunk => "no chunk of a body",
             IntakeFault::BodyTooLarge => "the body is too large",
         })
@@ -66,7 +67,7 @@ impl From<HeadFault> for IntakeFault {
         match cause {
             HeadFault::OutOfMemory => IntakeFault::OutOfMemory,
             HeadFault::BadHead => IntakeFault::BadHead,
-            HeadFault::BadFraming => IntakeFault::BadFraming,
+            HeadFault::BadFraming { bodiless } => IntakeFault::BadFraming { bodiless },
         }
     }
 }

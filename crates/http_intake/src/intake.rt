@@ -1,5 +1,5 @@
 ghost use Rattle.std.specs.Prelude.{◌≡◌, IfOk, Some, None, Err};
-ghost use Rattle.rgw_model.specs.Forms.{content_length};
+ghost use Rattle.http_model.specs.Forms.{content_length};
 ghost use Rattle.http_intake.specs.declared.fault.IntakeFault.{IntakeFault as Fault};
 
 use crate::buffer::Buffer;
@@ -67,7 +67,8 @@ impl Intake {
         })
     }
 
-    /// The next head; none where the input ends between two requests (RFC 9112, sections 2.2 and 3).
+    /// The next head; none where the input ends between two requests, also behind empty lines
+    /// (RFC 9112, sections 2.2 and 3). Nothing is read once the head is there.
     /// Want of memory is answered like any other fault.
     pub fn next<S: Source>(
         &mut self,

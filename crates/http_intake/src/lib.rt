@@ -11,7 +11,7 @@ mod scan;
 
 pub use fault::IntakeFault;
 pub use intake::Intake;
-pub use rgw_model::{Framing, Head};
+pub use http_model::{Framing, Head};
 
 #[cfg(test)]
 mod tests;

@@ -4,14 +4,14 @@ ghost use Rattle.http_intake.specs.Faults.{CountsFaults};
 ghost use Rattle.http_intake.specs.Reading.{Reads, FindsText, TakesHead};
 
 use crate::IntakeFault;
-use crate::buffer::{Buffer, HEAD_LIMIT};
+use crate::buffer::Buffer;
 use crate::scan::{Place, TextEnd, scan};
 use gw_io::Source;
-use rgw_model::{Head, read_head};
+use http_model::{HEAD_LIMIT, Head, read_head};
 use std::alloc::Global;
 
-/// Reads on until the text of a head is there, and answers its length; none where the input ends
-/// before its first byte.
+/// Reads on until the text of a head is there, and answers its length; none where the input ends and
+/// only empty lines came.
 fn find_text<S: Source>(buffer: &mut Buffer, source: &mut S) -> Result<Option<usize>, IntakeFault>
     ensures read { Reads (S.left source.old) (S.left source.new) buffer.old buffer.new }
     ensures found { FindsText buffer.new (IsAtEnd (S.left source.new)) result }
@@ -31,17 +31,16 @@ fn find_text<S: Source>(buffer: &mut Buffer, source: &mut S) -> Result<Option<us
             return Err(IntakeFault::HeadTooLarge);
         }
         if buffer.fill(source)? == 0 {
-            return if seen == 0 {
-                Ok(None)
-            } else {
-                Err(IntakeFault::Cut)
+            return match place {
+                Place::Before => Ok(None),
+                Place::Inside | Place::Fresh | Place::Return => Err(IntakeFault::Cut),
             };
         }
     }
 }
 
 /// Takes the next head from the buffer, and reads on as long as it is not there; none where the
-/// input ends before its first byte.
+/// input ends and only empty lines came, which stay in the buffer.
 pub(crate) fn take_head<S: Source>(
     alloc: Global,
     buffer: &mut Buffer,

@@ -1,12 +1,13 @@
 ghost use Rattle.std.specs.Prelude.{◌≡◌, ◌+◌, ◌<◌, ◌++◌, ℕ, List, length, None, Some, Err, IfOk, IsTrue, MatchOption, MatchResult, false};
 ghost use Rattle.std.specs.Io.KnownBytes.{Consumes};
-ghost use Rattle.rgw_model.specs.Forms.{plan_of, is_unread};
-ghost use Rattle.rgw_model.specs.Streams.{TakesRequest, IsEnd, IsStream};
+ghost use Rattle.http_model.specs.Forms.{plan_of, is_unread};
+ghost use Rattle.http_model.specs.Streams.{TakesRequest, IsEnd, IsStream};
 ghost use Rattle.http_intake.specs.Intake.{IsBetween, IsUnchunked};
 
 use super::*;
 use gw_io::{SliceSource, Source};
-use rgw_model::{BadRequest, BodyPlan, Bytes, Request, Stream, StreamEnd, read_stream};
+use http_model::{BadRequest, BodyPlan, Request, Requests, Stream, StreamEnd, read_stream};
+use rgw_types::Bytes;
 use std::alloc::{AllocError, Global};
 use std::fmt::Write;
 use std::str;
@@ -40,6 +41,12 @@ fn read_body<S: Source>(
     }
 }
 
+fn refused(word: BadRequest, bodiless: bool) -> StreamEnd
+    ensures { result ≡ StreamEnd.Refused word bodiless }
+{
+    StreamEnd::Refused { word, bodiless }
+}
+
 /// The next request, or how the connection ends.
 fn next_request<S: Source>(
     alloc: Global,
@@ -60,13 +67,18 @@ fn next_request<S: Source>(
         Ok(Some(head)) => head,
         Ok(None) => return Ok(Err(StreamEnd::Clean)),
         Err(IntakeFault::Cut) => return Ok(Err(StreamEnd::Cut)),
-        Err(IntakeFault::BadHead) => return Ok(Err(StreamEnd::Refused(BadRequest::Head))),
-        Err(IntakeFault::HeadTooLarge) => return Ok(Err(StreamEnd::Refused(BadRequest::Size))),
-        Err(IntakeFault::BadFraming) => return Ok(Err(StreamEnd::Refused(BadRequest::Framing))),
+        Err(IntakeFault::BadHead) => return Ok(Err(refused(BadRequest::Head, false))),
+        Err(IntakeFault::HeadTooLarge) => return Ok(Err(refused(BadRequest::Size, false))),
+        Err(IntakeFault::BadFraming { bodiless }) => {
+            return Ok(Err(refused(BadRequest::Framing, bodiless)));
+        }
         Err(fault) => return Err(fault),
     };
     let body = match head.body_plan() {
-        BodyPlan::NotBuilt => return Ok(Err(StreamEnd::NotBuilt)),
+        BodyPlan::NotBuilt => {
+            let bodiless = head.is_bodiless();
+            return Ok(Err(StreamEnd::NotBuilt { bodiless }));
+        }
         BodyPlan::Unread => Bytes::new(alloc),
         BodyPlan::Content(_) => match read_body(alloc, intake, source) {
             Ok(body) => body,
@@ -80,12 +92,12 @@ fn next_request<S: Source>(
 /// All requests of a connection, and how it ends.
 fn read_all<S: Source>(alloc: Global, source: &mut S) -> Result<Stream, IntakeFault>
     ensures { IfOk result (λ stream. (read : List ℕ) × Consumes (S.left source.old) (S.left source.new) read
-        × IsStream read stream.requests.items stream.end) }
+        × IsStream read stream.requests stream.end) }
 {
     let Ok(mut intake) = Intake::new(alloc, 0) else {
         return Err(IntakeFault::OutOfMemory);
     };
-    let mut requests = Vec::new(alloc);
+    let mut requests = Requests::new(alloc);
     let mut k = 1;
     'requests: loop {
         let request = match next_request(alloc, &mut intake, source)? {
@@ -274,6 +286,6 @@ fn a_connection_is_the_stream_of_its_bytes(rt: HostRuntime) -> Result<(), Fail> 
     assert_eq!(rt; stream.end, wanted.end);
     assert_eq!(rt; stream.end, StreamEnd::Closed);
     assert_eq!(rt; stream.requests.len(), 2);
-    assert_eq!(rt; stream.requests[0].body.as_slice(), b"hello".as_slice());
+    assert_eq!(rt; stream.requests.as_slice()[0].body.as_slice(), b"hello".as_slice());
     Ok(())
 }

@@ -4,7 +4,7 @@ use Rattle.std.specs.Int.{w32, w64, from_be_bytes}
 use Rattle.std.proofs.lemmas.Bool.{cases_lt}
 use Rattle.std.proofs.lemmas.List.{take_all, drop-drop, take-append-drop, length-drop, length-take, get_or-take, get_or-drop, get_or_past}
 use Rattle.std.proofs.lemmas.Nat.{be_bytes_4, be_bytes_8, from_be_bytes-to_be_bytes_4, from_be_bytes-to_be_bytes_8}
-use Rattle.rgw_model.specs.Stripes.{ManifestView, IsManifest}
+use Rattle.rgw_types.specs.Stripes.{ManifestView, IsManifest}
 use Rattle.manifest.specs.Layouts.{encoding}
 
 abbrev pub AreBytes : List ℕ → Type 0

@@ -8,7 +8,7 @@ use Rattle.std.proofs.lemmas.Grind.{common_steps}
 use Rattle.std.proofs.lemmas.List.{nil_from_length, take_all, drop_all, length-append, length-drop, length-map, get_or-map}
 use Rattle.std.proofs.lemmas.List.Folds.{flat_map-map}
 use Rattle.std.proofs.lemmas.List.FromFn.{get_or-map-range_with_len, length-map-range_with_len}
-use Rattle.rgw_model.specs.Stripes.{ManifestView, tails_of}
+use Rattle.rgw_types.specs.Stripes.{ManifestView, tails_of}
 use Rattle.manifest.specs.declared.parts.Part.{Part}
 use Rattle.manifest.proofs.RangeLemmas.{full_part, tails_enough}
 use Rattle.manifest.specs.Ranges.{part_size, part_numbers, piece_at, has_bytes, parts_of, piece_bytes, bytes_along, AreContents}

@@ -8,7 +8,8 @@ use Rattle.std.proofs.lemmas.List.{append-nil, map-append}
 use Rattle.std.proofs.lemmas.List.Elements.{filter-append}
 use Rattle.std.proofs.lemmas.List.FromFn.{map-range_with_len_more, get_or-map-range_with_len, length-map-range_with_len}
 use Rattle.std.proofs.lemmas.Nat.{div_below}
-use Rattle.rgw_model.specs.Stripes.{ManifestView, IsManifest, tail_limit, tails_of}
+use Rattle.rgw_types.specs.Stripes.{ManifestView, IsManifest, tails_of}
+use Rattle.rgw_types.specs.declared.pool_key.TheConstants.{LAST_PART}
 use Rattle.manifest.specs.declared.parts.Part.{Part}
 use Rattle.manifest.specs.Ranges.{part_size, part_numbers, piece_at, whole_part, has_bytes, parts_of, IsWithin}
 
@@ -100,7 +101,7 @@ pub last_is_part : (m : ManifestView) (start count : ℕ) → 0 < m.stripe → 0
 last_is_part m start count some filled inside =
     div_below (start + count - 1) m.stripe (tails_of m + 1) some (omega (arith, tails_enough m some))
 
-tails_limited : (m : ManifestView) → IsManifest m → tails_of m ≤ tail_limit
+tails_limited : (m : ManifestView) → IsManifest m → tails_of m ≤ LAST_PART
 tails_limited m is =
     let short : tails_of m * 16 ≤ tails_of m * m.stripe = mul-le-mul_left (tails_of m) is.stripe_low in
     omega (arith, is.stripe_high, is.size_high, (div_ceil_times (m.size - m.stripe) m.stripe (let h : 0 < m.stripe = omega (arith, is.stripe_low) in h)).1)

@@ -2,7 +2,8 @@
 -- the head, and part k the tail k.
 use Rattle.std.specs.Prelude.{◌≡◌, ℕ, ◌+◌, ◌-◌, ◌*◌, ◌<◌, ◌≤◌, ◌==◌, min, Bool, not, List, [], map, filter, flat_map, length, take, drop, slice_index_or}
 use Rattle.std.specs.List.{range_with_len}
-use Rattle.rgw_model.specs.Stripes.{ManifestView, tail_limit, tails_of}
+use Rattle.rgw_types.specs.Stripes.{ManifestView, tails_of}
+use Rattle.rgw_types.specs.declared.pool_key.TheConstants.{LAST_PART}
 use Rattle.manifest.specs.declared.parts.Part.{Part}
 
 -- how many bytes a part has: a whole stripe, or what the object has left
@@ -34,7 +35,7 @@ parts_of m start count = filter has_bytes (map (piece_at m start count) (part_nu
 -- a piece is not empty and lies in a part that the object has
 pub record IsWithin (m : ManifestView) (p : Part) : Type 0 where
   pub is_part : p.part ≤ tails_of m
-  pub is_numbered : p.part ≤ tail_limit
+  pub is_numbered : p.part ≤ LAST_PART
   pub is_filled : 0 < p.count
   pub is_inside : p.start + p.count ≤ part_size m p.part
 

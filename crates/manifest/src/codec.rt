@@ -1,13 +1,13 @@
 ghost use Rattle.std.specs.Prelude.{◌≡◌, ◌≢◌, ℕ, ◌+◌, ◌/◌, ◌<◌, ◌≤◌, List, All, IsOk, IfOk, IfSome, IfNone, Some, drop, length, map, take};
 ghost use Rattle.std.specs.Int.{w32, w64, from_be_bytes};
 ghost use Rattle.std.specs.List.{concat, range_with_len};
-ghost use Rattle.rgw_model.specs.Stripes.{ManifestView, IsManifest, tails_of};
+ghost use Rattle.rgw_types.specs.Stripes.{ManifestView, IsManifest, tails_of};
 ghost use Rattle.manifest.specs.Layouts.{encoding};
 ghost use Rattle.manifest.specs.Ranges.{part_size, parts_of, IsWithin, AreContents, bytes_along};
 
 use crate::ranges::pieces_of;
 use crate::{OutOfMemory, Parts};
-use rgw_model::Manifest;
+use rgw_types::Manifest;
 use std::alloc::Global;
 
 /// How many bytes the first layout has.

@@ -1,6 +1,6 @@
 // What the definitions give at values that were counted by hand, as laws.
 ghost use Rattle.std.specs.Prelude.{◌≡◌, ◌≢◌, ◌∷◌, [], take, codes};
-ghost use Rattle.rgw_model.specs.Stripes.{ManifestView};
+ghost use Rattle.rgw_types.specs.Stripes.{ManifestView};
 ghost use Rattle.manifest.specs.Layouts.{encoding};
 ghost use Rattle.manifest.specs.Ranges.{parts_of, AreContents};
 

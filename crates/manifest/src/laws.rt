@@ -1,6 +1,6 @@
 ghost use Rattle.std.specs.Prelude.{◌≡◌, ℕ, List, filter, length, map};
 ghost use Rattle.std.specs.List.{concat};
-ghost use Rattle.rgw_model.specs.Stripes.{ManifestView, IsManifest};
+ghost use Rattle.rgw_types.specs.Stripes.{ManifestView, IsManifest};
 ghost use Rattle.manifest.specs.Layouts.{encoding};
 ghost use Rattle.manifest.specs.Ranges.{has_bytes, part_numbers, parts_of, whole_part, AreContents};
 

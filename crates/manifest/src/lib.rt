@@ -11,7 +11,7 @@ pub use codec::ManifestBytes;
 pub use known::{manifests_are_written_so, ranges_are_cut_so};
 pub use laws::{a_manifest_has_one_spelling, whole_objects_are_all_their_parts};
 pub use parts::{Part, Parts};
-pub use rgw_model::Manifest;
+pub use rgw_types::Manifest;
 pub use std::alloc::AllocError as OutOfMemory;
 
 #[cfg(test)]

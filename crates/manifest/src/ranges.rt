@@ -1,10 +1,10 @@
 ghost use Rattle.std.specs.Prelude.{◌≡◌, ◌+◌, ◌-◌, ◌*◌, ◌/◌, ◌<◌, ◌≤◌, IfOk, map};
 ghost use Rattle.std.specs.List.{range_with_len};
-ghost use Rattle.rgw_model.specs.Stripes.{IsManifest};
+ghost use Rattle.rgw_types.specs.Stripes.{IsManifest};
 ghost use Rattle.manifest.specs.Ranges.{piece_at};
 
 use crate::{OutOfMemory, Part};
-use rgw_model::Manifest;
+use rgw_types::Manifest;
 use std::alloc::Global;
 
 /// The pieces of a range that is not empty, one for each part from that of its first byte to that of its

@@ -6,7 +6,7 @@ use Rattle.std.specs.Int.{div_ceil}
 use Rattle.std.proofs.lemmas.Map.{keys-set_value}
 use Rattle.std.specs.Map.{lookup, set_value}
 use Rattle.std.proofs.lemmas.Grind.{div_ceil_times}
-use Rattle.rgw_model.specs.declared.pool_key.Key.{Key}
+use Rattle.rgw_types.specs.declared.pool_key.Key.{Key}
 use Rattle.frame_region.specs.Region.{Run, RegionView, Owns, Apart, Keeps}
 use Rattle.object_pool.specs.declared.object.Stored.{Stored}
 use Rattle.object_pool.specs.Objects.{Object, key_cmp}

@@ -5,7 +5,7 @@ use Rattle.std.specs.List.Sorted.{IsStrictlySortedBy}
 use Rattle.std.specs.Option.{option_map}
 use Rattle.std.proofs.lemmas.Map.{keys-set_value}
 use Rattle.std.specs.Map.{lookup, set_value}
-use Rattle.rgw_model.specs.declared.pool_key.Key.{Key}
+use Rattle.rgw_types.specs.declared.pool_key.Key.{Key}
 use Rattle.frame_region.specs.Region.{RegionView}
 use Rattle.object_pool.specs.Parts.{Parts}
 use Rattle.object_pool.specs.declared.object.Stored.{Stored}

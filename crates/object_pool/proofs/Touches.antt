@@ -3,7 +3,7 @@ use Rattle.std.proofs.Common.{◌≡◌, ◌≢◌, ℕ, ◌+◌, ◌==◌, Bool
 use Rattle.std.specs.List.{filter}
 use Rattle.std.specs.Map.{lookup, set_value}
 use Rattle.std.proofs.lemmas.Bool.{eqb-true}
-use Rattle.rgw_model.specs.declared.pool_key.Key.{Key}
+use Rattle.rgw_types.specs.declared.pool_key.Key.{Key}
 use Rattle.object_pool.specs.Objects.{Object, Slots, PoolView, exists, frames_of, is_key, nothing, settled, slot_at, HasFrameSum, with_object}
 use Rattle.object_pool.proofs.EntryLemmas.{found_there, lookup_set, lookup_set_other, sum_set}
 use Rattle.object_pool.proofs.FrameSums.{first_of_both, sum_existing}

@@ -1,7 +1,7 @@
 -- What a pool is once the borrow that a call returns has ended.
 use Rattle.std.specs.Borrow.{Fml, MutBor, Lends}
 use Rattle.std.specs.Map.{set_value}
-use Rattle.rgw_model.specs.declared.pool_key.Key.{Key}
+use Rattle.rgw_types.specs.declared.pool_key.Key.{Key}
 use Rattle.object_pool.specs.Objects.{PoolView, slot_at, is_key}
 use Rattle.object_pool.specs.Parts.{Parts}
 use Rattle.object_pool.specs.contracts.pool.Pool as pool

@@ -6,8 +6,8 @@ use Rattle.std.specs.declared.cmp.Ordering.{Ordering}
 use Rattle.std.specs.List.Sorted.{IsStrictlySortedBy}
 use Rattle.std.specs.Map.{keys_of, lookup, set_value}
 use Rattle.std.specs.BTreeMap.{is_at}
-use Rattle.rgw_model.specs.declared.pool_key.Key.{Key}
-use Rattle.rgw_model.specs.contracts.pool_key.KeyOrd.TheImpl as key_order
+use Rattle.rgw_types.specs.declared.pool_key.Key.{Key}
+use Rattle.rgw_types.specs.contracts.pool_key.KeyOrd.TheImpl as key_order
 use Rattle.omap_pages.specs.Contents.{Contents}
 
 pub record Object : Type 0 where

@@ -14,4 +14,4 @@ pub use error::NoSpace;
 pub use omap_pages::{OutOfMemory, Page};
 pub use place::Place;
 pub use pool::Pool;
-pub use rgw_model::{Bytes, Key, PartNumber};
+pub use rgw_types::{Bytes, Key, PartNumber};

@@ -3,7 +3,7 @@ ghost use Rattle.std.specs.Map.{lookup};
 ghost use Rattle.object_pool.specs.Objects.{is_key};
 
 use crate::object::Stored;
-use rgw_model::Key;
+use rgw_types::Key;
 use std::collections::BTreeMap;
 
 // What is kept under a key that has something.

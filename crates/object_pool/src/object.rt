@@ -6,7 +6,7 @@ ghost use Rattle.object_pool.specs.Parts.{no_parts};
 
 use frame_region::FrameRun;
 use omap_pages::{Omap, OutOfMemory};
-use rgw_model::Bytes;
+use rgw_types::Bytes;
 use std::alloc::Global;
 use std::marker::Model;
 

@@ -5,7 +5,7 @@ ghost use Rattle.object_pool.specs.Objects.{HasFrameSum, is_key};
 use crate::error::NoSpace;
 use crate::pool::Pool;
 use omap_pages::{OutOfMemory, Page};
-use rgw_model::{Bytes, Key};
+use rgw_types::{Bytes, Key};
 use std::alloc::Global;
 
 /// One object of a pool, to read and to change. What it becomes is kept in the pool once the place is

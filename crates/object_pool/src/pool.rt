@@ -2,7 +2,7 @@ ghost use Rattle.std.specs.Prelude.{◌≡◌, ◌↔◌, ◌+◌, ◌-◌, ◌^
 ghost use Rattle.std.specs.Borrow.{sem};
 ghost use Rattle.std.specs.Int.{div_ceil};
 ghost use Rattle.std.specs.Map.{lookup};
-ghost use Rattle.rgw_model.specs.declared.pool_key.Key.{Key as KeyOf};
+ghost use Rattle.rgw_types.specs.declared.pool_key.Key.{Key as KeyOf};
 ghost use Rattle.object_pool.specs.Objects.{HasFrameSum, IsMap, KeepsAll, KeepsCounts, dropped, exists, frames_of, is_key, nothing, object_at, objects, slot_at, with_object};
 ghost use Rattle.object_pool.specs.Lending.{LendsParts};
 
@@ -12,7 +12,7 @@ use crate::object::{ObjectParts, Stored};
 use crate::sweep::Sweep;
 use frame_region::Region;
 use omap_pages::OutOfMemory;
-use rgw_model::{Bytes, Key};
+use rgw_types::{Bytes, Key};
 use std::alloc::Global;
 use std::collections::BTreeMap;
 use std::marker::Model;

@@ -2,7 +2,7 @@ mod callers;
 mod twin;
 
 use super::{NoSpace, OutOfMemory, Pool};
-use rgw_model::{Bytes, Key, PartNumber, Text};
+use rgw_types::{Bytes, Key, PartNumber, Text};
 use std::alloc::Global;
 use std::test::Fail;
 use twin::Twin;

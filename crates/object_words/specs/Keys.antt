@@ -1,9 +1,9 @@
 -- The keys of a zone's pool, and functions of them.
 use Rattle.std.specs.Prelude.{ℕ, Bool, true, false, ◌==◌, if◌then◌else◌, List}
 use Rattle.std.specs.BTreeMap.{is_at}
-use Rattle.rgw_model.specs.declared.pool_key.Key.{Key}
-use Rattle.rgw_model.specs.declared.pool_key.Key.TheVariants.{Shard, Head, Tail}
-use Rattle.rgw_model.specs.contracts.pool_key.KeyOrd.TheImpl as key_order
+use Rattle.rgw_types.specs.declared.pool_key.Key.{Key}
+use Rattle.rgw_types.specs.declared.pool_key.Key.TheVariants.{Shard, Head, Tail}
+use Rattle.rgw_types.specs.contracts.pool_key.KeyOrd.TheImpl as key_order
 
 -- whether both are one key
 abbrev pub is_key : Key → Key → Bool

@@ -1,7 +1,7 @@
 ghost use Rattle.std.specs.Prelude.{◌≡◌, ◌↔◌, ◌≤◌, IsSome, IfSome};
 ghost use Rattle.object_words.specs.Limits.{shard_limit};
 
-use rgw_model::{Pairs, Text};
+use rgw_types::{Pairs, Text};
 use std::marker::Model;
 
 /// How many shards the index of a container has: 1 to 1999.

@@ -1,5 +1,6 @@
 use crate::{EntryRow, MediaType, Texts};
-use rgw_model::{Bytes, Manifest, Pairs, Stamp};
+use rgw_model::Stamp;
+use rgw_types::{Bytes, Manifest, Pairs};
 
 /// What a head keeps of an object: where its bytes are, the first of them, and its attributes.
 #[derive(Debug, Drop)]

@@ -1,7 +1,7 @@
 //! Laws of the definitions: the functions here do nothing.
 ghost use Rattle.std.specs.Prelude.{◌≡◌, ◌+◌, ℕ, true, false, cond, List, None, Some};
 ghost use Rattle.std.specs.Ordering.{eq_by_cmp};
-ghost use Rattle.rgw_model.specs.declared.pool_key.Key.{Key as KeyOf};
+ghost use Rattle.rgw_types.specs.declared.pool_key.Key.{Key as KeyOf};
 ghost use Rattle.object_words.specs.Keys.{is_key};
 ghost use Rattle.object_words.specs.Names.{name_cmp, Named, at, with_name, without_name};
 ghost use Rattle.object_words.specs.Entries.{EntryView, no_entry, is_kept};

@@ -4,7 +4,6 @@
 mod bucket;
 mod entry;
 mod head;
-mod items;
 mod laws;
 mod limits;
 mod lists;
@@ -16,7 +15,6 @@ mod why;
 pub use bucket::{Bucket, Busy, ShardCount};
 pub use entry::{Entry, EntryPage, EntryRow, Guard, Tag};
 pub use head::{Changed, Conditions, EtagRule, HeadSeen, NewHead, SeenSlot};
-pub use items::Items;
 pub use laws::{
     keys_are_told_apart, maps_are_known_by_their_answers, sums_move_by_one_entry,
 };

@@ -3,7 +3,7 @@ ghost use Rattle.std.specs.Prelude.{◌≡◌, ◌↔◌, ◌≤◌, ◌==◌, n
 ghost use Rattle.std.specs.List.{list_all};
 ghost use Rattle.object_words.specs.Limits.{is_name, media_type_limit};
 
-use rgw_model::Text;
+use rgw_types::Text;
 use std::alloc::AllocError;
 use std::marker::Model;
 
@@ -60,13 +60,16 @@ impl<const MOST: usize> Name<MOST> {
         let Name { text } = self;
         text
     }
+}
 
-    /// A copy of its own.
-    pub fn try_clone(&self) -> Result<Self, AllocError>
-        ensures { IfOk result (λ copy. copy ≡ self.now) }
-    {
+impl<const MOST: usize> Clone for Name<MOST> {
+    ghost use Rattle.std.specs.Prelude.{◌≡◌};
+
+    ghost is_clone = { λ name copy. copy ≡ name };
+
+    fn clone(&self) -> Result<Name<MOST>, AllocError> {
         Ok(Name {
-            text: self.text.try_clone()?,
+            text: self.text.clone()?,
         })
     }
 }
@@ -133,13 +136,16 @@ impl MediaType {
         let MediaType { text } = self;
         text
     }
+}
 
-    /// A copy of its own.
-    pub fn try_clone(&self) -> Result<Self, AllocError>
-        ensures { IfOk result (λ copy. copy ≡ self.now) }
-    {
+impl Clone for MediaType {
+    ghost use Rattle.std.specs.Prelude.{◌≡◌};
+
+    ghost is_clone = { λ kind copy. copy ≡ kind };
+
+    fn clone(&self) -> Result<MediaType, AllocError> {
         Ok(MediaType {
-            text: self.text.try_clone()?,
+            text: self.text.clone()?,
         })
     }
 }

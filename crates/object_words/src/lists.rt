@@ -1,6 +1,6 @@
 //! The lists of this crate.
-use crate::{Entry, Items, LogRow, Tag};
-use rgw_model::Text;
+use crate::{Entry, LogRow, Tag};
+use rgw_types::{Items, Text};
 
 /// Tags, by rising number.
 pub type Tags = Items<Tag>;

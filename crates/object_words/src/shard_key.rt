@@ -1,7 +1,7 @@
 ghost use Rattle.std.specs.Prelude.{◌≡◌, true};
 ghost use Rattle.object_words.specs.Keys.{is_shard_key};
 
-use rgw_model::Key;
+use rgw_types::Key;
 use std::marker::Model;
 
 /// The name of a shard of a container's index. Contracts see it as the key of a zone's pool that it is.
@@ -13,8 +13,8 @@ pub struct ShardKey {
 }
 
 impl Model for ShardKey {
-    ghost use Rattle.rgw_model.specs.declared.pool_key.Key.{Key};
-    ghost use Rattle.rgw_model.specs.declared.pool_key.Key.TheVariants.{Shard};
+    ghost use Rattle.rgw_types.specs.declared.pool_key.Key.{Key};
+    ghost use Rattle.rgw_types.specs.declared.pool_key.Key.TheVariants.{Shard};
     ghost use Rattle.object_words.specs.Keys.{container_of, instance_of, number_of};
 
     ghost Value = { Key };

@@ -10,7 +10,7 @@ use crate::lookup::{gap_for, place_of, search, start_after, start_from};
 use crate::page::{ByteRows, Page};
 use crate::row::{Row, copies};
 use crate::spares::{SPARE_KEY_LEN, SPARE_VALUE_LEN, Spares};
-use rgw_model::Bytes;
+use rgw_types::Bytes;
 use std::alloc::Global;
 use std::marker::Model;
 

@@ -2,7 +2,7 @@ ghost use Rattle.std.specs.Prelude.{◌≡◌, ◌+◌, ◌≤◌, length, vec_l
 ghost use Rattle.std.specs.List.{splice};
 ghost use Rattle.omap_pages.specs.Cells.{values_of};
 
-use rgw_model::Bytes;
+use rgw_types::Bytes;
 use std::alloc::{AllocError, Global};
 use std::marker::Model;
 

@@ -2,7 +2,7 @@ mod callers;
 mod twin;
 
 use super::{Omap, OutOfMemory, Page};
-use rgw_model::Bytes;
+use rgw_types::Bytes;
 use std::alloc::Global;
 use std::test::Fail;
 use twin::Twin;

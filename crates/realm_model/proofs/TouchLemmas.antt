@@ -1,6 +1,6 @@
 -- An operation that is refused leaves its object as it was.
 use Rattle.std.proofs.Common.{◌≡◌, ℕ, ◌+◌, ◌-◌, List, Option, Some, None, refl, ap, ◌∙◌, arith}
-use Rattle.rgw_model.specs.declared.pool_key.Key.{Key}
+use Rattle.rgw_types.specs.declared.pool_key.Key.{Key}
 use Rattle.object_words.specs.declared.why.Why.{Why}
 use Rattle.object_words.specs.Keys.{put, put_key, head_key, tail_key}
 use Rattle.object_words.specs.Refusals.{unless_refused, fate_refusal}

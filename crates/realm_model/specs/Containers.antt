@@ -1,6 +1,6 @@
 -- A container in a zone: its row, the entry of a name, and what the entry shows of the name's slot.
 use Rattle.std.specs.Prelude.{◌≡◌, ℕ, ◌==◌, Bool, List, length, Option, Some, None, is_some, if◌then◌else◌}
-use Rattle.rgw_model.specs.declared.pool_key.Key.{Key}
+use Rattle.rgw_types.specs.declared.pool_key.Key.{Key}
 use Rattle.object_words.specs.declared.bucket.Bucket.{Bucket}
 use Rattle.object_words.specs.declared.head.SeenSlot.{SeenSlot}
 use Rattle.object_words.specs.Keys.{shard_key}

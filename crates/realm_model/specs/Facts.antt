@@ -1,6 +1,6 @@
 -- Facts of a history that no object keeps, and that the invariant speaks of.
 use Rattle.std.specs.Prelude.{ℕ, Bool, List, Option}
-use Rattle.rgw_model.specs.declared.pool_key.Key.{Key}
+use Rattle.rgw_types.specs.declared.pool_key.Key.{Key}
 use Rattle.rgw_model.specs.declared.slot.Slot.{Slot}
 use Rattle.rgw_model.specs.declared.stamp.Stamp.{Stamp}
 use Rattle.realm_model.specs.Phases.{ActorId, OwnChange}

@@ -2,9 +2,9 @@
 use Rattle.std.specs.Prelude.{codes, ℕ, ◌+◌, ◌*◌, true, List, [], ◌∷◌, ◌++◌, take, map, min, replicate, unwrap_or, Option, Some, None}
 use Rattle.std.specs.List.{range_with_len}
 use Rattle.hex.specs.Hex.{hex_digit_value}
-use Rattle.rgw_model.specs.declared.pool_key.Key.{Key}
+use Rattle.rgw_types.specs.declared.pool_key.Key.{Key}
 use Rattle.rgw_model.specs.declared.stamp.Stamp.{Stamp}
-use Rattle.rgw_model.specs.Stripes.{ManifestView}
+use Rattle.rgw_types.specs.Stripes.{ManifestView}
 use Rattle.object_words.specs.declared.bucket.Bucket.{Bucket}
 use Rattle.object_words.specs.declared.entry.Tag.{Tag}
 use Rattle.object_words.specs.declared.entry.Guard.{Guard}

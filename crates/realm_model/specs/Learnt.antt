@@ -2,8 +2,8 @@
 -- at it.
 use Rattle.std.specs.Prelude.{ℕ, ◌+◌, ◌==◌, ◌&&◌, ◌||◌, not, Bool, true, false, nat_lt, List, [], ◌∷◌, ◌++◌, bytes_eq, length, Option, Some, None, if◌then◌else◌}
 use Rattle.std.specs.FinMap.Entries.{find}
-use Rattle.rgw_model.specs.declared.pool_key.Key.{Key}
-use Rattle.rgw_model.specs.Stripes.{ManifestView, tails_of}
+use Rattle.rgw_types.specs.declared.pool_key.Key.{Key}
+use Rattle.rgw_types.specs.Stripes.{ManifestView, tails_of}
 use Rattle.object_words.specs.declared.bucket.Bucket.{Bucket}
 use Rattle.object_words.specs.declared.entry.EntryPage.{EntryPage}
 use Rattle.object_words.specs.declared.head.SeenSlot.{SeenSlot}

@@ -5,7 +5,7 @@ use Rattle.std.specs.List.{range_with_len}
 use Rattle.rgw_model.specs.declared.slot.Slot.{Slot}
 use Rattle.rgw_model.specs.declared.slot.Slot.TheVariants as Slots
 use Rattle.rgw_model.specs.declared.slot.Content.{Content}
-use Rattle.rgw_model.specs.Stripes.{ManifestView, tails_of}
+use Rattle.rgw_types.specs.Stripes.{ManifestView, tails_of}
 use Rattle.object_words.specs.declared.head.NewHead.{NewHead}
 use Rattle.object_words.specs.declared.head.SeenSlot.{SeenSlot}
 use Rattle.object_words.specs.declared.head.SeenSlot.TheVariants.{Nothing, Live, Mark}

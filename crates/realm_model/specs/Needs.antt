@@ -1,8 +1,8 @@
 -- What an actor may do next: tests of its phase and the operation alone.
 use Rattle.std.specs.Prelude.{ℕ, ◌+◌, ◌==◌, ◌&&◌, ◌||◌, not, Bool, true, false, nat_lt, nat_le, List, bytes_eq, length, map, Option, Some, None, is_some, if◌then◌else◌}
 use Rattle.std.specs.List.{list_any, range_with_len}
-use Rattle.rgw_model.specs.declared.pool_key.Key.{Key}
-use Rattle.rgw_model.specs.Stripes.{ManifestView, tails_of}
+use Rattle.rgw_types.specs.declared.pool_key.Key.{Key}
+use Rattle.rgw_types.specs.Stripes.{ManifestView, tails_of}
 use Rattle.manifest.specs.Ranges.{part_size}
 use Rattle.object_words.specs.declared.bucket.Bucket.{Bucket}
 use Rattle.object_words.specs.declared.head.NewHead.{NewHead}

@@ -1,9 +1,9 @@
 -- Which stripes heads name, which were collected, and which frames bytes take (Ceph manual, Data Layout).
 use Rattle.std.specs.Prelude.{◌≡◌, ℕ, ◌+◌, ◌==◌, ◌&&◌, Bool, true, false, List, [], sum_by}
 use Rattle.std.specs.List.{list_any, IsDistinct}
-use Rattle.rgw_model.specs.declared.pool_key.Key.{Key}
-use Rattle.rgw_model.specs.declared.pool_key.Key.TheVariants.{Head, Tail}
-use Rattle.rgw_model.specs.Stripes.{tails_of}
+use Rattle.rgw_types.specs.declared.pool_key.Key.{Key}
+use Rattle.rgw_types.specs.declared.pool_key.Key.TheVariants.{Head, Tail}
+use Rattle.rgw_types.specs.Stripes.{tails_of}
 use Rattle.object_words.specs.declared.head.SeenSlot.{SeenSlot}
 use Rattle.object_words.specs.declared.head.SeenSlot.TheVariants.{Live}
 use Rattle.object_words.specs.Keys.{is_key, head_key}

@@ -1,6 +1,6 @@
 -- Which object a touch names, and what it leaves of the others.
 use Rattle.std.specs.Prelude.{◌≡◌, ℕ, ◌==◌, ◌&&◌, Bool, true, false}
-use Rattle.rgw_model.specs.declared.pool_key.Key.{Key}
+use Rattle.rgw_types.specs.declared.pool_key.Key.{Key}
 use Rattle.object_words.specs.Keys.{is_key}
 use Rattle.realm_model.specs.States.{State, Touch, nothing, at_root, at_shard, at_head, at_tail, at_changes}
 use Rattle.realm_model.specs.declared.op.Op.{Op}

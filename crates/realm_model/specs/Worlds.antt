@@ -2,7 +2,7 @@
 use Rattle.std.specs.Prelude.{ℕ, ◌+◌, ◌==◌, ◌&&◌, Bool, true, false, List, bytes_eq, length, Option, Some, None, if◌then◌else◌}
 use Rattle.rgw_model.specs.declared.slot.Slot.{Slot}
 use Rattle.rgw_model.specs.declared.stamp.Stamp.{Stamp}
-use Rattle.rgw_model.specs.Stripes.{ManifestView, tails_of}
+use Rattle.rgw_types.specs.Stripes.{ManifestView, tails_of}
 use Rattle.object_words.specs.declared.bucket.Bucket.{Bucket}
 use Rattle.object_words.specs.declared.head.SeenSlot.TheVariants.{Live}
 use Rattle.object_words.specs.declared.why.Why.TheVariants.{Moved, Closed}

@@ -1,6 +1,6 @@
 use crate::Op;
 use object_words::{Bucket, Changed, EntryPage, Guard, HeadSeen, ShardStats, Why};
-use rgw_model::Bytes;
+use rgw_types::Bytes;
 
 /// What an operation is answered.
 #[derive(Debug, Drop)]

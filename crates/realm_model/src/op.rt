@@ -3,7 +3,7 @@ ghost use Rattle.std.specs.Prelude.{◌≡◌};
 use object_words::{
     Bucket, BucketName, Conditions, EntryRow, Guard, NewHead, ObjectName, ShardKey,
 };
-use rgw_model::{Bytes, PartNumber, Text};
+use rgw_types::{Bytes, PartNumber, Text};
 
 /// An operation on one object of one zone.
 #[derive(Debug, Drop)]

@@ -4,7 +4,7 @@ use Rattle.std.specs.List.{list_all, list_any}
 use Rattle.std.specs.Option.{option_map}
 use Rattle.std.specs.Char.{is_ascii_digit}
 use Rattle.std.specs.Str.Parse.{digits_value}
-use Rattle.rgw_model.specs.Stamps.{latest_moment}
+use Rattle.date_words.specs.declared.TheConstants.{LATEST_MOMENT}
 use Rattle.rgw_main.specs.declared.words.Once.{Once}
 
 -- the word begins with a dash, as an option does and no value may
@@ -27,7 +27,7 @@ is_number word = nat_lt 0 (length word) && list_all is_ascii_digit word
 -- the moment that the value of `--now` says, in microseconds since 1970
 abbrev pub moment_of : List ℕ → Option ℕ
 moment_of word =
-    if is_number word && nat_le (digits_value 10 word) latest_moment then Some (digits_value 10 word) else None
+    if is_number word && nat_le (digits_value 10 word) LATEST_MOMENT then Some (digits_value 10 word) else None
 
 -- the first two words, before the container's name
 abbrev pub begins_once : List ℕ → List ℕ → Bool

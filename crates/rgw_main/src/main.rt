@@ -7,10 +7,11 @@ ghost use Rattle.std.specs.Prelude.{◌≡◌, ◌≢◌};
 ghost use Rattle.std.specs.IoError.{error_kind};
 
 mod run;
+mod status;
 mod words;
 
 use gw_io::{SystemClock, standard_input, standard_output};
-use rgw_model::Status;
+use crate::status::Status;
 use std::io::ErrorKind;
 use std::process::ExitCode;
 use std::rt::{Clock, Env};
@@ -57,5 +58,5 @@ fn main(rt: HostRuntime) -> ExitCode {
         // Where standard error is closed, the status still tells.
         let _ = eprintln!(rt; "rgw: status {}", status.number);
     }
-    ExitCode::from(status.number)
+    status.exit_code()
 }

@@ -1,13 +1,13 @@
 // A run of the program, over any input, output and clock.
-ghost use Rattle.std.specs.Prelude.{◌≡◌, ◌≢◌, ◌⊎◌, ◌↔◌, ◌≤◌, ℕ, List, Option, IfSome, IsSome, IsSomeAnd, Some, None, map, string_bytes};
-ghost use Rattle.gw_io.specs.Outside.{Rose};
+ghost use Rattle.std.specs.Prelude.{◌≡◌, IfSome, IsSome, None, Some, map, string_bytes};
 ghost use Rattle.rgw_main.specs.Words.{once_of};
-ghost use Rattle.rgw_main.specs.Runs.{ServesOnce, StopsOnce, outcome_status};
+ghost use Rattle.rgw_main.specs.Runs.{Runs, RunsOnce, outcome_status};
 
+use crate::status::Status;
 use crate::words::{Once, WordsFault, read_words};
 use gateway::{ConnEnd, PlainStore, ServeFault, Served, serve_connection};
-use gw_io::{Clock, Sink, Source, StepClock};
-use rgw_model::{Status, Text};
+use gw_io::{Clock, Ends, Sink, Source, StepClock};
+use rgw_types::Text;
 use std::alloc::Global;
 
 /// Does what the words ask, from the input to the output, and answers the status of the program:
@@ -26,33 +26,17 @@ pub fn run<S: Source, K: Sink, C: Clock>(
     output: &mut K,
     clock: &mut C,
 ) -> Status
+    ensures runs { Runs (once_of (map string_bytes words.now))
+        (⟦<(S, K, C) as Ends>⟧.ends (input.old, output.old, clock.old))
+        (⟦<(S, K, C) as Ends>⟧.ends (input.new, output.new, clock.new)) result.number }
+
     // Where the words are refused, nothing else happens.
-    ensures refused { (result.number ≡ 1) ↔ (once_of (map string_bytes words.now) ≡ None) }
     ensures untouched { result.number ≡ 1
         → (input.new ≡ input.old) × (output.new ≡ output.old) × (clock.new ≡ clock.old) }
-
-    // With 0 and 5 the connection was served to its end, and with 2 to 4 it was left before.
-    ensures served { (result.number ≡ 0) ⊎ (result.number ≡ 5)
-        → IsSomeAnd (once_of (map string_bytes words.now)) (λ once. ServesOnce once
-        (record { left = S.left input.old; taken = K.taken output.old; told = C.told clock.old })
-        (record { left = S.left input.new; taken = K.taken output.new; told = C.told clock.new })
-        result.number) }
-    ensures stopped { (2 ≤ result.number) × (result.number ≤ 4)
-        → IsSomeAnd (once_of (map string_bytes words.now)) (λ once. StopsOnce once
-        (record { left = S.left input.old; taken = K.taken output.old; told = C.told clock.old })
-        (record { left = S.left input.new; taken = K.taken output.new; told = C.told clock.new })) }
-    ensures no_other { result.number ≤ 5 }
 
     // The clock is not asked where the words say the moment.
     ensures unasked { IfSome (once_of (map string_bytes words.now)) (λ once.
         IsSome once.now → clock.new ≡ clock.old) }
-    ensures plan { C.plan clock.new ≡ C.plan clock.old }
-
-    // What failed is counted, and no count falls.
-    ensures read_fault { result.number ≡ 2 → Rose (S.faults input.old) (S.faults input.new) }
-    ensures write_fault { result.number ≡ 3 → Rose (K.faults output.old) (K.faults output.new) }
-    ensures input_faults { S.faults input.old ≤ S.faults input.new }
-    ensures output_faults { K.faults output.old ≤ K.faults output.new }
 {
     match read_words(alloc, words) {
         Ok(once) => serve_once(alloc, once, input, output, clock),
@@ -69,21 +53,10 @@ fn serve_once<S: Source, K: Sink, C: Clock>(
     output: &mut K,
     clock: &mut C,
 ) -> Status
-    ensures served { (result.number ≡ 0) ⊎ (result.number ≡ 5) → ServesOnce once
-        (record { left = S.left input.old; taken = K.taken output.old; told = C.told clock.old })
-        (record { left = S.left input.new; taken = K.taken output.new; told = C.told clock.new })
-        result.number }
-    ensures stopped { (2 ≤ result.number) × (result.number ≤ 4) → StopsOnce once
-        (record { left = S.left input.old; taken = K.taken output.old; told = C.told clock.old })
-        (record { left = S.left input.new; taken = K.taken output.new; told = C.told clock.new }) }
-    ensures not_refused { result.number ≢ 1 }
-    ensures no_other { result.number ≤ 5 }
+    ensures runs { RunsOnce once
+        (⟦<(S, K, C) as Ends>⟧.ends (input.old, output.old, clock.old))
+        (⟦<(S, K, C) as Ends>⟧.ends (input.new, output.new, clock.new)) result.number }
     ensures unasked { IsSome once.now → clock.new ≡ clock.old }
-    ensures plan { C.plan clock.new ≡ C.plan clock.old }
-    ensures read_fault { result.number ≡ 2 → Rose (S.faults input.old) (S.faults input.new) }
-    ensures write_fault { result.number ≡ 3 → Rose (K.faults output.old) (K.faults output.new) }
-    ensures input_faults { S.faults input.old ≤ S.faults input.new }
-    ensures output_faults { K.faults output.old ≤ K.faults output.new }
 {
     let Once { bucket, now } = once;
     match now {
@@ -100,22 +73,9 @@ fn serve_by_clock<S: Source, K: Sink, C: Clock>(
     output: &mut K,
     clock: &mut C,
 ) -> Status
-    ensures served { (result.number ≡ 0) ⊎ (result.number ≡ 5)
-        → ServesOnce (record { bucket = bucket; now = None })
-        (record { left = S.left input.old; taken = K.taken output.old; told = C.told clock.old })
-        (record { left = S.left input.new; taken = K.taken output.new; told = C.told clock.new })
-        result.number }
-    ensures stopped { (2 ≤ result.number) × (result.number ≤ 4)
-        → StopsOnce (record { bucket = bucket; now = None })
-        (record { left = S.left input.old; taken = K.taken output.old; told = C.told clock.old })
-        (record { left = S.left input.new; taken = K.taken output.new; told = C.told clock.new }) }
-    ensures not_refused { result.number ≢ 1 }
-    ensures no_other { result.number ≤ 5 }
-    ensures plan { C.plan clock.new ≡ C.plan clock.old }
-    ensures read_fault { result.number ≡ 2 → Rose (S.faults input.old) (S.faults input.new) }
-    ensures write_fault { result.number ≡ 3 → Rose (K.faults output.old) (K.faults output.new) }
-    ensures input_faults { S.faults input.old ≤ S.faults input.new }
-    ensures output_faults { K.faults output.old ≤ K.faults output.new }
+    ensures { RunsOnce (record { bucket = bucket; now = None })
+        (⟦<(S, K, C) as Ends>⟧.ends (input.old, output.old, clock.old))
+        (⟦<(S, K, C) as Ends>⟧.ends (input.new, output.new, clock.new)) result.number }
 {
     let Ok(mut store) = PlainStore::new(alloc, bucket) else {
         return Status { number: 4 };
@@ -132,21 +92,9 @@ fn serve_at<S: Source, K: Sink>(
     input: &mut S,
     output: &mut K,
 ) -> Status
-    ensures served { (result.number ≡ 0) ⊎ (result.number ≡ 5)
-        → (told : Option (List ℕ)) → ServesOnce (record { bucket = bucket; now = Some moment })
-        (record { left = S.left input.old; taken = K.taken output.old; told = told })
-        (record { left = S.left input.new; taken = K.taken output.new; told = told })
-        result.number }
-    ensures stopped { (2 ≤ result.number) × (result.number ≤ 4)
-        → (told : Option (List ℕ)) → StopsOnce (record { bucket = bucket; now = Some moment })
-        (record { left = S.left input.old; taken = K.taken output.old; told = told })
-        (record { left = S.left input.new; taken = K.taken output.new; told = told }) }
-    ensures not_refused { result.number ≢ 1 }
-    ensures no_other { result.number ≤ 5 }
-    ensures read_fault { result.number ≡ 2 → Rose (S.faults input.old) (S.faults input.new) }
-    ensures write_fault { result.number ≡ 3 → Rose (K.faults output.old) (K.faults output.new) }
-    ensures input_faults { S.faults input.old ≤ S.faults input.new }
-    ensures output_faults { K.faults output.old ≤ K.faults output.new }
+    ensures { RunsOnce (record { bucket = bucket; now = Some moment })
+        (record { left = S.left input.old; taken = K.taken output.old; told = None; plan = None; read_faults = S.faults input.old; write_faults = K.faults output.old })
+        (record { left = S.left input.new; taken = K.taken output.new; told = None; plan = None; read_faults = S.faults input.new; write_faults = K.faults output.new }) result.number }
 {
     let mut clock = StepClock::new(moment, 0);
     serve_by_clock(alloc, bucket, input, output, &mut clock)

@@ -4,14 +4,12 @@ ghost use Rattle.std.specs.List.{list_all};
 ghost use Rattle.std.specs.Char.{is_ascii_digit};
 ghost use Rattle.rgw_main.specs.Words.{begins_once, begins_with_dash, is_bucket, is_container_name, moment_of, once_of};
 
-use rgw_model::Text;
+use rgw_model::LATEST_MOMENT;
+use rgw_types::Text;
 use std::alloc::Global;
 
 /// The longest name of a container, in bytes.
 const MAX_NAME: usize = 256;
-
-/// The latest moment that `--now` may say, the last microsecond of the year 9999.
-const LATEST_MOMENT: u64 = 253_402_300_799_999_999;
 
 /// What the words `once --bucket NAME` and `once --bucket NAME --now N` ask: to serve one
 /// connection to a new container.

@@ -1,8 +1,0 @@
-pub mod FieldLemmas
-pub mod FormLemmas
-pub mod FramingLemmas
-pub mod OnLiterals
-pub mod PlainLemmas
-pub mod ReadingLemmas
-pub mod StreamLaws
-pub mod TargetLemmas

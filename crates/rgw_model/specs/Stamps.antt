@@ -1,5 +1,6 @@
 -- The order of changes, and what a local change is stamped with (Ceph Object Gateway, Multisite).
 use Rattle.std.specs.Prelude.{◌≡◌, ◌⊎◌, ℕ, ◌+◌, ◌-◌, ◌^◌, ◌<◌, min, max, Option, Some, None}
+use Rattle.date_words.specs.declared.TheConstants.{LATEST_MOMENT}
 use Rattle.rgw_model.specs.declared.stamp.Stamp.{Stamp}
 use Rattle.rgw_model.specs.declared.slot.Slot.{Slot}
 use Rattle.rgw_model.specs.declared.slot.Slot.TheVariants.{Nothing, Live, Mark}
@@ -8,12 +9,9 @@ use Rattle.rgw_model.specs.declared.slot.Slot.TheVariants.{Nothing, Live, Mark}
 abbrev pub IsEarlier : Stamp → Stamp → Type 0
 IsEarlier a b = (a.micros < b.micros) ⊎ ((a.micros ≡ b.micros) × (a.zone < b.zone))
 
--- the latest moment that counts, the last microsecond of the year 9999; a later one is taken as this
-abbrev pub latest_moment : ℕ
-latest_moment = 253402300799999999
-
+-- a moment after the last microsecond of the year 9999 is taken as that
 abbrev pub counted_moment : ℕ → ℕ
-counted_moment moment = min moment latest_moment
+counted_moment moment = min moment LATEST_MOMENT
 
 -- a sum of moments stops at the end of 64 bits
 abbrev pub moment_after : ℕ → ℕ

@@ -1,6 +1,7 @@
 ghost use Rattle.std.specs.Prelude.{◌≡◌};
 
-use crate::{Bytes, Pairs, Stamp, Text};
+use crate::Stamp;
+use rgw_types::{Bytes, Pairs, Text};
 
 /// What is stored under a name.
 #[derive(Debug, Drop)]

@@ -2,6 +2,8 @@ ghost use Rattle.std.specs.Prelude.{◌≡◌, ◌+◌, ◌<◌, ◌^◌, ◌↔
 ghost use Rattle.rgw_model.specs.declared.stamp.Stamp.{Stamp as StampOf};
 ghost use Rattle.rgw_model.specs.Stamps.{IsEarlier, counted_moment, stamp_above};
 
+use date_words::LATEST_MOMENT;
+
 /// When a change was made and in which zone: the order of changes of one name.
 /// The moment counts first, in microseconds since 1970, and then the zone.
 #[derive(Clone, Copy, Debug, PartialEq, Eq, PartialOrd, Ord)]
@@ -9,9 +11,6 @@ pub struct Stamp {
     pub micros: u64,
     pub zone: u8,
 }
-
-/// The latest moment that counts: the last microsecond of the year 9999.
-const LATEST_MOMENT: u64 = 253_402_300_799_999_999;
 
 /// The moment as it counts: a later one than the last of the year 9999 is taken as that.
 pub fn counted_moment(moment: u64) -> u64

@@ -7,7 +7,7 @@ ghost use Rattle.swift_words.specs.Parts.{Tells, has_mark, before_mark, after_ma
 
 use crate::WordFault;
 use percent_encoding::{DecodeError, percent_decode};
-use rgw_model::Text;
+use rgw_types::Text;
 use std::alloc::Global;
 use std::borrow::CowStr;
 

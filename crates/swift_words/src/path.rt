@@ -5,7 +5,7 @@ ghost use Rattle.swift_words.specs.Targets.{last_part, parts_within, account_of,
 
 use crate::part::{CONTAINER_LIMIT, OBJECT_LIMIT, cut, read_name, read_word};
 use crate::{Target, WordFault};
-use rgw_model::Text;
+use rgw_types::Text;
 use std::alloc::{AllocError, Global};
 
 /// How many slashes end a part: those of the API, the version, the account and the container.

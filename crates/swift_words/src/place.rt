@@ -4,7 +4,7 @@ ghost use Rattle.swift_words.specs.Places.{without_slash, place_fault, place_of}
 
 use crate::WordFault;
 use crate::part::{CONTAINER_LIMIT, OBJECT_LIMIT, cut, read_name};
-use rgw_model::Text;
+use rgw_types::Text;
 use std::alloc::Global;
 
 /// The value without the one slash that may stand in front.

@@ -8,7 +8,7 @@ ghost use Rattle.swift_words.specs.SentValues.{nothing_sent, put_under, Follows,
 
 use crate::WordFault;
 use crate::part::{decode, halves, read_word};
-use rgw_model::Text;
+use rgw_types::Text;
 use std::alloc::Global;
 
 /// The most digits of a limit.

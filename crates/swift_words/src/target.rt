@@ -6,7 +6,7 @@ use crate::part::halves;
 use crate::path::read_path;
 use crate::query::read_query;
 use crate::{Query, WordFault};
-use rgw_model::Text;
+use rgw_types::Text;
 use std::alloc::Global;
 
 /// What a target names (the Swift API).

@@ -6,7 +6,7 @@ mod places;
 mod queries;
 
 use super::*;
-use rgw_model::Text;
+use rgw_types::Text;
 use std::alloc::{AllocError, Global};
 use std::test::Fail;
 

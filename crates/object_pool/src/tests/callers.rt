@@ -5,7 +5,7 @@ ghost use Rattle.object_pool.specs.Objects.{HasFrameSum, KeepsAll, KeepsOthers, 
 ghost use Rattle.object_pool.specs.Places.{Stays, borrow_of, key_of, object_of, pool_of};
 
 use crate::{NoSpace, OutOfMemory, Place, Pool};
-use rgw_model::{Bytes, Key};
+use rgw_types::{Bytes, Key};
 use std::alloc::Global;
 
 // What an object becomes in its place is what the pool has once the place is given up.

@@ -2,7 +2,7 @@
 ghost use Rattle.std.specs.Prelude.{◌<◌, ◌≤◌, length, IfSome};
 
 use crate::{NoSpace, OutOfMemory, Place, Pool};
-use rgw_model::{Bytes, Key, PartNumber, Text};
+use rgw_types::{Bytes, Key, PartNumber, Text};
 use std::alloc::Global;
 use std::process::Abort;
 

@@ -5,7 +5,7 @@ ghost use Rattle.std.specs.List.{splice};
 ghost use Rattle.omap_pages.specs.Rows.{value_at};
 
 use crate::{Omap, OutOfMemory, SPARE_KEY_LEN};
-use rgw_model::Bytes;
+use rgw_types::Bytes;
 use std::alloc::Global;
 
 // What is put is there.

@@ -2,7 +2,7 @@
 ghost use Rattle.std.specs.Prelude.{◌<◌, length, IfSome};
 
 use crate::{Omap, OutOfMemory};
-use rgw_model::Bytes;
+use rgw_types::Bytes;
 use std::alloc::Global;
 use std::process::Abort;
 

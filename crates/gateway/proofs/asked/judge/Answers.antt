@@ -1,6 +1,6 @@
 use Rattle.std.proofs.lemmas.Str.{IsUtf8-from_ascii}
 use Rattle.std.proofs.Common.{◌≡◌, rules, true, sym}
-use Rattle.rgw_model.specs.Forms.{has_host}
+use Rattle.http_model.specs.Forms.{has_host}
 use Rattle.gateway.proofs.Ascii.{ascii_name, place_plain, built_kinds}
 use Rattle.gateway.proofs.asked.judge.Goals as goal
 

@@ -29,7 +29,7 @@ pieces-preserved g c =
     let room : 0 < length c.pass_piece.new.piece = omega (arith, c.pieces.invariant.room, c.pass_piece.auto.piece) in
     record {
       room = room;
-      faults = omega (arith, c.pieces.invariant.faults, c.pass_piece.ensures.faults);
+      faults = c.in-Bytes.ensures.cause ∙ c.pieces.invariant.faults;
       so_far = (
         so_far.0 ++ take c.in-Bytes.count c.pass_piece.new.piece,
         give_more c.args.intake.now c.pieces.intake c.pass_piece.new.intake (g.S.Source.left c.args.source.now) (g.S.Source.left c.pieces.source) (g.S.Source.left c.pass_piece.new.source) so_far.0 c.pass_piece.new.piece c.in-Bytes.count so_far.1 gives,

@@ -1,5 +1,5 @@
 use Rattle.std.proofs.Common.{◌≡◌, ℕ, List, [], ◌++◌, Bool, true, if◌then◌else◌, rules, sym, ap, ◌∙◌, subst, arith}
-use Rattle.rgw_model.specs.Forms.{content_length}
+use Rattle.http_model.specs.Forms.{content_length}
 use Rattle.gateway.specs.declared.asked.Asked.{Asked}
 use Rattle.gateway.specs.Asking.{IsAsked, is_put_in}
 use Rattle.gateway.specs.Incoming.{PassesBody}

@@ -1,9 +1,13 @@
-use Rattle.rgw_model.specs.Replies.{head_text, reply_text}
-use Rattle.gateway.proofs.Texts.{stored}
+use Rattle.std.proofs.Common.{List, ℕ, ◌++◌, ◌∙◌, sym, ap}
+use Rattle.http_model.specs.Replies.{head_text, text_of}
+use Rattle.swift_model.specs.Replies.{map_reply_head, map_reply_text}
+use Rattle.rgw_model.specs.declared.reply.MapReply.TheVariants.{Stored}
+use Rattle.gateway.proofs.Texts.{stored, written_nothing}
 use Rattle.gateway.proofs.reply.push_stored.Goals as goal
 
 pub returns : goal.returns
-unfolding head_text reply_text
+unfolding head_text text_of map_reply_text
 returns c =
     stored c.args.out.now.items _ _ _ _ _ _ _ _ _ _ _ _ c.in_ok-push_status.ensures c.in_ok-push_length.ensures c.in_ok-push_etag.ensures
-    c.in_ok-push_modified.ensures c.in_ok-push_close.ensures c.in_ok-extend_from_slice.ensures.items
+    c.in_ok-push_modified.ensures c.in_ok-push_closing.ensures c.in_ok-extend_from_slice.ensures.items
+    ∙ ap (λ (body : List ℕ). c.args.out.now.items ++ (head_text (map_reply_head c.args.form (Stored c.args.etag.now c.args.stamp)) ++ body)) (sym (written_nothing c.args.form))

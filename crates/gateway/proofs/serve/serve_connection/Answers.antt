@@ -1,8 +1,9 @@
-use Rattle.gateway.proofs.Connection.{stops_at_once}
+use Rattle.std.proofs.Common.{refl}
+use Rattle.gateway.proofs.Connection.{nothing_served}
 use Rattle.gateway.proofs.serve.serve_connection.Goals as goal
 
-pub returns-in-Err-clause-stopped : goal.returns-in-Err-clause-stopped
-returns-in-Err-clause-stopped g c = stops_at_once _ _
+pub returns-in-Err : goal.returns-in-Err
+returns-in-Err g c = nothing_served _ _
 
-pub returns-in-Err-vec-clause-stopped : goal.returns-in-Err-vec-clause-stopped
-returns-in-Err-vec-clause-stopped g c = stops_at_once _ _
+pub returns-in-Err-vec : goal.returns-in-Err-vec
+returns-in-Err-vec g c = nothing_served _ _

@@ -1,4 +1,4 @@
-use Rattle.std.proofs.Common.{arith, ℕ, length-drop, length-take}
+use Rattle.std.proofs.Common.{◌∙◌, arith, ℕ, length-drop, length-take}
 use Rattle.gw_io.proofs.Pieces.{Appends-take-add}
 use Rattle.gw_io.proofs.writing.write_all.Goals as goal
 
@@ -8,5 +8,5 @@ loop-done-preserved g c =
     record {
       within = omega (arith, c.loop-done.invariant.within, ensures.bound, length-take {A = ℕ}, length-drop {A = ℕ});
       taken = Appends-take-add _ _ _ _ _ _ c.loop-done.invariant.taken ensures.bytes;
-      later = omega (arith, c.loop-done.invariant.later, ensures.cause.later);
+      kept = ensures.cause.kept ∙ c.loop-done.invariant.kept;
     }

@@ -1,5 +1,5 @@
 use Rattle.std.proofs.Common.{◌+◌, ◌-◌, length}
-use Rattle.rgw_model.specs.Heads.{head_limit}
+use Rattle.http_model.specs.declared.reading.TheConstants.{HEAD_LIMIT}
 use Rattle.http_intake.proofs.Searching.{Searches}
 use Rattle.http_intake.proofs.next_head.find_text.Given as goal
 
@@ -9,4 +9,4 @@ invariant-pieces g l =
     (g.S.Source.faults l.initial.source) (g.S.Source.faults l.source)
 
 abbrev pub decreases-pieces : goal.decreases-pieces
-decreases-pieces g l = head_limit + 1 - length l.buffer
+decreases-pieces g l = HEAD_LIMIT + 1 - length l.buffer

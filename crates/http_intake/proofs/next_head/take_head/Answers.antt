@@ -1,7 +1,7 @@
 use Rattle.std.proofs.Common.{Err, take, refl, sym, ap, subst}
 use Rattle.std.proofs.lemmas.Result.{err_from_is_err_and}
 use Rattle.std.specs.Io.KnownBytes.{IsAtEnd}
-use Rattle.rgw_model.specs.Heads.{SaysHead, BeginsWith}
+use Rattle.http_model.specs.Heads.{SaysHead, BeginsWith}
 use Rattle.http_intake.specs.Reading.{HasNoNext}
 use Rattle.http_intake.proofs.Taking.{head_there, no_head_there}
 use Rattle.http_intake.proofs.next_head.take_head.Goals as goal
@@ -21,7 +21,7 @@ returns-in_err-head-in-Some-clause-head g c =
     let found = rw c.in-Some.is at c.in_ok-find_text.ensures.found in
     let refused = c.in_err-head-in-Some.ensures in
     let none = no_head_there c.find_text.new.buffer c.in-Some.len ended c.in_err-head-in-Some.field-0.0 found
-    (λ is. rw (← c.as_slice.ensures) (refused.bad_head (ap Err is))) (λ is. rw (← c.as_slice.ensures) (refused.bad_framing (ap Err is))) in
+    (λ is. rw (← c.as_slice.ensures) (refused.bad_head (ap Err is))) (λ b is. rw (← c.as_slice.ensures) (refused.bad_framing b (ap Err is))) in
     (read.0, read.1, rw (p.1, ← read.2) (refl, subst (HasNoNext c.find_text.new.buffer ended) (sym p.2) none))
 
 pub returns-in_ok-head-in-Some-clause-head : goal.returns-in_ok-head-in-Some-clause-head

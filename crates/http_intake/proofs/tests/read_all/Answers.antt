@@ -12,7 +12,7 @@ pub returns-then-closes : goal.returns-then-closes
 returns-then-closes g c =
     let took = rw c.in-Ok-2.is at c.in_ok-request.ensures.step in
     let last = sym c.closes-closes.ensures ∙ c.if-closes.true in
-    rw c.in-Ok-push.ensures.items (went_closed _ _ _ _ _ _ _ _ c.requests.invariant.went took last)
+    rw c.in-Ok-push.ensures.ok (went_closed _ _ _ _ _ _ _ _ c.requests.invariant.went took last)
 
 pub requests-preserved : goal.requests-preserved
 requests-preserved g c =
@@ -22,7 +22,7 @@ requests-preserved g c =
     let goes = (rw c.in-Ok-2.is at c.in_ok-request.ensures.goes) (reads_body c.requests.k head more) in
     let below = goes_below c.requests.k head more in
     record {
-      went = rw c.in-Ok-push.ensures.items (went_more _ _ _ _ _ _ _ _ c.requests.invariant.went took more);
+      went = rw c.in-Ok-push.ensures.ok (went_more _ _ _ _ _ _ _ _ c.requests.invariant.went took more);
       goes = goes.0;
       between = goes.1;
       within = omega arith;

@@ -5,7 +5,7 @@ use Rattle.http_intake.proofs.tests.read_all.Given as goal
 
 abbrev pub invariant-requests : goal.invariant-requests
 invariant-requests g l = record {
-  went : Went (g.S.Source.left l.initial.source) (g.S.Source.left l.source) l.requests.items l.k l.intake.buffer;
+  went : Went (g.S.Source.left l.initial.source) (g.S.Source.left l.source) l.requests l.k l.intake.buffer;
   goes : l.intake.failed ≡ None;
   between : IsBetween l.intake;
   within : l.k ≤ 100000;

@@ -1,0 +1,7 @@
+pub mod FieldLemmas
+pub mod FormLemmas
+pub mod FramingLemmas
+pub mod PlainLemmas
+pub mod ReadingLemmas
+pub mod StreamLaws
+pub mod TargetLemmas

@@ -1,0 +1,7 @@
+pub mod Framings
+pub mod Heads
+pub mod HeadSpans
+pub mod Forms
+pub mod Streams
+pub mod Steps
+pub mod Replies

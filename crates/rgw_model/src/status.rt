@@ -1,5 +1,0 @@
-/// The status with which the program ends.
-#[derive(Clone, Copy, Debug, PartialEq, Eq)]
-pub struct Status {
-    pub number: u8,
-}
