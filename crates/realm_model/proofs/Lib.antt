@@ -4,3 +4,5 @@ pub mod Others
 pub mod TouchLemmas
 pub mod ObjectLemmas
 pub mod EntryLemmas
+pub mod Bounds
+pub mod Rising

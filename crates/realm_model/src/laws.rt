@@ -1,5 +1,5 @@
 //! Laws of the definitions: the functions here do nothing.
-ghost use Rattle.std.specs.Prelude.{◌≡◌, ◌++◌, ◌∷◌, [], List, length, true};
+ghost use Rattle.std.specs.Prelude.{◌≡◌, ◌<◌, ◌^◌, ◌++◌, ◌∷◌, [], List, length, true};
 ghost use Rattle.object_words.specs.declared.why.Why.{Why as WhyOf};
 ghost use Rattle.realm_model.specs.Settings.{SettingsView};
 ghost use Rattle.realm_model.specs.States.{State, Touch, at_moment, touched};
@@ -8,6 +8,7 @@ ghost use Rattle.realm_model.specs.Phases.{ActorId, fresh};
 ghost use Rattle.realm_model.specs.Allowed.{allowed};
 ghost use Rattle.realm_model.specs.Histories.{world_of, state_of, phase_of, account_of, answer_after, IsNext, Legal, with_answers, all_allowed};
 ghost use Rattle.realm_model.specs.Owns.{clock_after, own_events, learnt_from, NoneBy};
+ghost use Rattle.realm_model.specs.Rises.{Rises};
 ghost use Rattle.realm_model.specs.Touches.{KeepsOthers, is_read};
 ghost use Rattle.realm_model.specs.declared.op.Op.{Op as OpOf};
 ghost use Rattle.realm_model.specs.declared.event.Event.{Event as EventOf};
@@ -67,4 +68,10 @@ pub fn an_event_touches_one_object()
         → reply_of settings st op ≡ No why → touched settings st (touch_of settings st op) ≡ st }
     ensures read { (settings : SettingsView) (st : State) (op : OpOf)
         → is_read op ≡ true → touched settings st (touch_of settings st op) ≡ st }
+{}
+
+/// No event lowers a stamp, a version or a revision.
+pub fn no_event_lowers_a_number()
+    ensures { (settings : SettingsView) (history : List EventOf) (e : EventOf) → length history < 2 ^ 62
+        → Rises (state_of settings history) (state_of settings (history ++ e ∷ [])) }
 {}
