@@ -6,3 +6,4 @@ pub mod ObjectLemmas
 pub mod EntryLemmas
 pub mod Bounds
 pub mod Rising
+pub mod Agreeing

@@ -19,7 +19,7 @@ use Rattle.realm_model.specs.declared.op.Op.TheVariants.{BucketRead, BucketSwap,
 use Rattle.realm_model.specs.declared.event.Reply.{Reply}
 use Rattle.realm_model.specs.declared.event.Reply.TheVariants.{Done, No}
 
-put_in_same : {A : Type 0} (f : ℕ → Key → A) (zone : ℕ) (key : Key) → put_in f zone key (f zone key) ≡ f
+pub put_in_same : {A : Type 0} (f : ℕ → Key → A) (zone : ℕ) (key : Key) → put_in f zone key (f zone key) ≡ f
 put_in_same f zone key = ap (λ g. put f zone g) (put_key_same (f zone) key) ∙ put_same f zone
 
 -- frames that are taken and given back

@@ -1,6 +1,8 @@
 //! Laws of the definitions: the functions here do nothing.
-ghost use Rattle.std.specs.Prelude.{◌≡◌, ◌<◌, ◌^◌, ◌++◌, ◌∷◌, [], List, length, true};
+ghost use Rattle.std.specs.Prelude.{◌≡◌, ◌<◌, ◌^◌, ◌++◌, ◌∷◌, [], ℕ, List, length, true};
 ghost use Rattle.object_words.specs.declared.why.Why.{Why as WhyOf};
+ghost use Rattle.object_words.specs.Keys.{head_key};
+ghost use Rattle.realm_model.specs.Maps.{slot_at, heads};
 ghost use Rattle.realm_model.specs.Settings.{SettingsView};
 ghost use Rattle.realm_model.specs.States.{State, Touch, at_moment, touched};
 ghost use Rattle.realm_model.specs.Steps.{reply_of, touch_of, after};
@@ -74,4 +76,14 @@ pub fn an_event_touches_one_object()
 pub fn no_event_lowers_a_number()
     ensures { (settings : SettingsView) (history : List EventOf) (e : EventOf) → length history < 2 ^ 62
         → Rises (state_of settings history) (state_of settings (history ++ e ∷ [])) }
+{}
+
+/// The bucket maps of a history are what its heads hold.
+pub fn maps_are_what_heads_hold()
+    ensures slots { (settings : SettingsView) (history : List EventOf) → Legal settings history
+        → (zone container : ℕ) (name : List ℕ)
+        → slot_at (heads history zone container) name
+        ≡ ((state_of settings history).heads zone (head_key container name)).slot }
+    ensures world { (settings : SettingsView) (history : List EventOf)
+        → (world_of settings history).maps ≡ heads history }
 {}

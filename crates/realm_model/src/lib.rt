@@ -18,7 +18,8 @@ pub use known::{
 };
 pub use laws::{
     an_event_touches_one_object, computed_histories_are_legal, events_are_numbered,
-    events_follow_from_the_history, no_event_lowers_a_number, others_change_no_phase,
+    events_follow_from_the_history, maps_are_what_heads_hold, no_event_lowers_a_number,
+    others_change_no_phase,
 };
 pub use op::Op;
 pub use refused::{these_changes_are_refused, these_steps_are_refused, these_tails_are_refused};
