@@ -7,3 +7,4 @@ pub mod EntryLemmas
 pub mod Bounds
 pub mod Rising
 pub mod Agreeing
+pub mod Makers

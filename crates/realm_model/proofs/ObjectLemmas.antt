@@ -5,6 +5,10 @@ use Rattle.rgw_types.specs.declared.pool_key.Key.{Key}
 use Rattle.object_words.specs.Keys.{is_key, put, put_key}
 use Rattle.object_words.proofs.KeyLemmas.{same_key}
 use Rattle.realm_model.specs.States.{put_in}
+use Rattle.realm_model.specs.Phases.{ActorId}
+use Rattle.realm_model.specs.Learnt.{put_bundle}
+use Rattle.realm_model.specs.Worlds.{same_actor, put_actor}
+use Rattle.realm_model.proofs.Others.{same_is}
 
 pub number_same : (a b : ℕ) → (a == b) ≡ true → a ≡ b
 number_same a b same = grind (arith, nat_tests)
@@ -27,3 +31,16 @@ pub put_in_cases : {A : Type 0} (R : ℕ → Key → A → Type 0) (f : ℕ → 
 put_in_cases R f zone key x here else =
     put_cases (λ z g. (k : Key) → R z k (g k)) f zone (put_key (f zone) key x)
     (put_key_cases (R zone) (f zone) key x here (else zone)) else
+
+pub put_bundle_cases : {A : Type 0} (R : ℕ → ℕ → ℕ → A → Type 0) (f : ℕ → ℕ → ℕ → A) (zone write holder : ℕ) (x : A) → R zone write holder x → ((z w h : ℕ) → R z w h (f z w h)) → (z w h : ℕ) → R z w h (put_bundle f zone write holder x z w h)
+put_bundle_cases R f zone write holder x here else =
+    put_cases (λ z g. (w h : ℕ) → R z w h (g w h)) f zone (put (f zone) write (put (f zone write) holder x))
+    (put_cases (λ w g. (h : ℕ) → R zone w h (g h)) (f zone) write (put (f zone write) holder x)
+    (put_cases (R zone write) (f zone write) holder x here (else zone write)) (else zone)) else
+
+pub put_actor_cases : {A : Type 0} (R : ActorId → A → Type 0) (f : ActorId → A) (actor : ActorId) (x : A) → R actor x → ((a : ActorId) → R a (f a)) → (a : ActorId) → R a (put_actor f actor x a)
+put_actor_cases R f actor x here else a =
+    elim (same_actor a actor) as (λ b. same_actor a actor ≡ b → R a (cond b x (f a))) [
+      | true ↦ λ same. subst (λ q. R q x) (same_is a actor same) here
+      | false ↦ λ apart. else a
+    ] refl
