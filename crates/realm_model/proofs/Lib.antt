@@ -8,3 +8,4 @@ pub mod Bounds
 pub mod Rising
 pub mod Agreeing
 pub mod Makers
+pub mod MadeOnce

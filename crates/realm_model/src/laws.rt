@@ -1,7 +1,8 @@
 //! Laws of the definitions: the functions here do nothing.
-ghost use Rattle.std.specs.Prelude.{◌≡◌, ◌<◌, ◌^◌, ◌++◌, ◌∷◌, [], ℕ, List, length, true};
+ghost use Rattle.std.specs.Prelude.{◌≡◌, ◌<◌, ◌^◌, ◌++◌, ◌∷◌, [], ℕ, List, length, true, unwrap_or};
 ghost use Rattle.object_words.specs.declared.why.Why.{Why as WhyOf};
-ghost use Rattle.object_words.specs.Keys.{head_key};
+ghost use Rattle.object_words.specs.Keys.{head_key, tail_key};
+ghost use Rattle.object_words.specs.Tails.{no_tail};
 ghost use Rattle.realm_model.specs.Maps.{slot_at, heads};
 ghost use Rattle.realm_model.specs.Settings.{SettingsView};
 ghost use Rattle.realm_model.specs.States.{State, Touch, at_moment, touched};
@@ -13,6 +14,7 @@ ghost use Rattle.realm_model.specs.Owns.{clock_after, own_events, learnt_from, N
 ghost use Rattle.realm_model.specs.Rises.{Rises};
 ghost use Rattle.realm_model.specs.Touches.{KeepsOthers, is_read};
 ghost use Rattle.realm_model.specs.declared.op.Op.{Op as OpOf};
+ghost use Rattle.realm_model.specs.declared.op.Op.TheVariants.{TailMake};
 ghost use Rattle.realm_model.specs.declared.event.Event.{Event as EventOf};
 ghost use Rattle.realm_model.specs.declared.event.Reply.TheVariants.{No};
 
@@ -86,4 +88,15 @@ pub fn maps_are_what_heads_hold()
         ≡ ((state_of settings history).heads zone (head_key container name)).slot }
     ensures world { (settings : SettingsView) (history : List EventOf)
         → (world_of settings history).maps ≡ heads history }
+{}
+
+/// A tail is made where none was, and keeps the bytes with which it was made.
+pub fn a_tail_is_made_once()
+    ensures once { (settings : SettingsView) (history : List EventOf) (e : EventOf)
+        → (zone write part : ℕ) (bytes : List ℕ) → Legal settings (history ++ e ∷ [])
+        → e.op ≡ TailMake zone write part bytes
+        → (state_of settings history).tails zone (tail_key write part) ≡ no_tail }
+    ensures bytes { (settings : SettingsView) (history : List EventOf) → Legal settings history
+        → (zone write part : ℕ) → ((state_of settings history).tails zone (tail_key write part)).bytes
+        ≡ unwrap_or ((world_of settings history).stripes.made zone write part) [] }
 {}
