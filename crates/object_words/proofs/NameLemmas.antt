@@ -33,8 +33,8 @@ module _ {X : Type 0} where
   unfolding at without_name
   at-without_name m name q =
       let kept =
-        find-where_key name_cmp (λ n. not (is_name_of name n)) q
-        (λ n alike. ap (λ r. not (is_eq r)) (sym (alike_right nat_list_cmp_total q n name alike))) m.list in
+      find-where_key name_cmp (λ n. not (is_name_of name n)) q
+      (λ n alike. ap (λ r. not (is_eq r)) (sym (alike_right nat_list_cmp_total q n name alike))) m.list in
       let turned = ap (λ b. cond b None (at m q)) ((eq_by_cmp_equiv nat_list_cmp_total).symm name q) in
       kept ∙ opposite (is_name_of name q) _ _ ∙ turned
 
@@ -42,7 +42,7 @@ module _ {X : Type 0} where
   unfolding entries
   same_list m n e =
       let both : ◌≡◌ {A = (es : List (List ℕ × X)) × T (is_sorted name_cmp es)} (m.list, m.sorted) (n.list, n.sorted) =
-        Σ_prop_path (λ es. T_prop _) e in
+      Σ_prop_path (λ es. T_prop _) e in
       λ i. record { list = (both i).0; sorted = (both i).1 }
 
   -- two maps with the same answers are one

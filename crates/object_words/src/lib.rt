@@ -15,9 +15,7 @@ mod why;
 pub use bucket::{Bucket, Busy, ShardCount};
 pub use entry::{Entry, EntryPage, EntryRow, Guard, Tag};
 pub use head::{Changed, Conditions, EtagRule, HeadSeen, NewHead, SeenSlot};
-pub use laws::{
-    keys_are_told_apart, maps_are_known_by_their_answers, sums_move_by_one_entry,
-};
+pub use laws::{keys_are_told_apart, maps_are_known_by_their_answers, sums_move_by_one_entry};
 pub use limits::{BucketName, MediaType, ObjectName};
 pub use lists::{Entries, LogRows, Tags, Texts};
 pub use log::{LogPage, LogRow, LogWhat};

@@ -11,63 +11,35 @@ pub enum Why {
     /// There is no such container, or no object to change.
     Absent,
     /// The row of the container has this version; 0 where there is none.
-    Raced {
-        version: u64,
-    },
+    Raced { version: u64 },
     /// A reshard or a closing of this number holds the shard.
-    Held {
-        id: u64,
-    },
+    Held { id: u64 },
     /// The entries are in the shards of this instance.
-    Moved {
-        instance: u64,
-    },
+    Moved { instance: u64 },
     /// The shard was closed with its container, or was never made.
     Closed,
     /// The tag is not in the entry.
     NoTag,
     /// The entry has this revision; 0 where there is none.
-    Stale {
-        revision: u64,
-    },
+    Stale { revision: u64 },
     /// The number is not above this one.
-    Fenced {
-        fence: u64,
-    },
+    Fenced { fence: u64 },
     /// This object is there.
-    NotEmpty {
-        name: ObjectName,
-    },
+    NotEmpty { name: ObjectName },
     /// A change of this name is under way.
-    Unsettled {
-        name: ObjectName,
-    },
+    Unsettled { name: ObjectName },
     /// The clock is not below the tag's deadline.
-    Expired {
-        deadline: u64,
-        clock: u64,
-    },
+    Expired { deadline: u64, clock: u64 },
     /// A condition of the request fails; the stamp of what is there, if something is.
-    NotMet {
-        stamp: Option<Stamp>,
-    },
+    NotMet { stamp: Option<Stamp> },
     /// What is there is not older; its stamp.
-    Older {
-        stamp: Stamp,
-    },
+    Older { stamp: Stamp },
     /// The free frames, and those that the bytes need.
-    NoSpace {
-        free: u32,
-        needed: u32,
-    },
+    NoSpace { free: u32, needed: u32 },
     /// The stripe is not there.
-    Gone {
-        clock: u64,
-    },
+    Gone { clock: u64 },
     /// The log begins with this position.
-    Trimmed {
-        first: u64,
-    },
+    Trimmed { first: u64 },
 }
 
 /// Why a call on an object did nothing.

@@ -46,10 +46,10 @@ module _ (maps : ℕ → Named SeenSlot) (objects : Key → Head) (container : �
   unfolding map
   slot-map n =
       rw (at-with_name (maps container) name head.slot n) (
-        elim (is_name_of n name) as (λ b. unwrap_or (cond b (Some head.slot) (at (maps container) n)) Nothing ≡ cond b head.slot (slot_at (maps container) n)) [
-          | true ↦ refl
-          | false ↦ refl
-        ])
+      elim (is_name_of n name) as (λ b. unwrap_or (cond b (Some head.slot) (at (maps container) n)) Nothing ≡ cond b head.slot (slot_at (maps container) n)) [
+        | true ↦ refl
+        | false ↦ refl
+      ])
 
   here : slot_at (put maps container map container) name ≡ head.slot
   here = rw (number_itself container) (slot-map name ∙ rw (name_itself name) refl)
@@ -57,13 +57,13 @@ module _ (maps : ℕ → Named SeenSlot) (objects : Key → Head) (container : �
   same_container : (c : ℕ) (n : List ℕ) → container ≡ c → is_key (head_key container name) (head_key c n) ≡ false → slot_at map n ≡ (objects (head_key c n)).slot
   same_container c n is apart =
       slot-map n ∙ (
-        elim (is_name_of n name) as (λ b. is_name_of n name ≡ b → cond b head.slot (slot_at (maps container) n) ≡ (objects (head_key c n)).slot) [
-          | true ↦ λ same.
-              let key : head_key container name ≡ head_key c n = λ i. head_key (is i) (sym (same_text n name same) i) in
-              let itself = subst (λ k. is_key (head_key container name) k ≡ true) key (key_itself (head_key container name)) in
-              cc (itself, apart)
-          | false ↦ λ other. subst (λ d. slot_at (maps container) n ≡ (objects (head_key d n)).slot) is (agree container n)
-        ] refl)
+      elim (is_name_of n name) as (λ b. is_name_of n name ≡ b → cond b head.slot (slot_at (maps container) n) ≡ (objects (head_key c n)).slot) [
+        | true ↦ λ same.
+            let key : head_key container name ≡ head_key c n = λ i. head_key (is i) (sym (same_text n name same) i) in
+            let itself = subst (λ k. is_key (head_key container name) k ≡ true) key (key_itself (head_key container name)) in
+            cc (itself, apart)
+        | false ↦ λ other. subst (λ d. slot_at (maps container) n ≡ (objects (head_key d n)).slot) is (agree container n)
+      ] refl)
 
   changed_at : (c : ℕ) (n : List ℕ) → slot_at (put maps container map c) n ≡ (put_key objects (head_key container name) head (head_key c n)).slot
   changed_at c n =

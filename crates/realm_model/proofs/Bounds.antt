@@ -66,15 +66,15 @@ fits_now (Some e) fits = fits
 entry_steps : (s : Shard) (name : List ℕ) (e : EntryView) → ShardFits (Some s) → (entry_at s name).version ≤ e.version → (entry_at s name).revision ≤ e.revision → e.revision ≤ greatest → ShardSteps (Some s) (Some (with_entry s name e))
 entry_steps s name e fits version revision bound q =
     rw (at-with_entry s name e q) (
-      elim (is_name_of q name) as (λ b. is_name_of q name ≡ b → EntryRises (at s.entries q) (cond b (kept_or_none e) (at s.entries q)) × RevisionFits (cond b (kept_or_none e) (at s.entries q))) [
-        | true ↦ λ same.
-            let is = same_text q name same in
-            elim (is_kept e) as (λ k. EntryRises (at s.entries q) (cond k (Some e) None) × RevisionFits (cond k (Some e) None)) [
-              | true ↦ subst (λ n. EntryRises (at s.entries n) (Some e) × RevisionFits (Some e)) (sym is) ((version, revision), bound)
-              | false ↦ (tt, tt)
-            ]
-        | false ↦ λ apart. (entry_stays (at s.entries q), fits q)
-      ] refl)
+    elim (is_name_of q name) as (λ b. is_name_of q name ≡ b → EntryRises (at s.entries q) (cond b (kept_or_none e) (at s.entries q)) × RevisionFits (cond b (kept_or_none e) (at s.entries q))) [
+      | true ↦ λ same.
+          let is = same_text q name same in
+          elim (is_kept e) as (λ k. EntryRises (at s.entries q) (cond k (Some e) None) × RevisionFits (cond k (Some e) None)) [
+            | true ↦ subst (λ n. EntryRises (at s.entries n) (Some e) × RevisionFits (Some e)) (sym is) ((version, revision), bound)
+            | false ↦ (tt, tt)
+          ]
+      | false ↦ λ apart. (entry_stays (at s.entries q), fits q)
+    ] refl)
 
 rises_next : (n : ℕ) → n ≤ greatest → n ≤ next n
 rises_next n fits = omega arith
@@ -158,7 +158,7 @@ written_steps head guard new when zone count clock free frame early fits =
     let old_version = fits.version in
     let after : Head = record { version = count + 1; slot = Live new stamp } in
     let rises : count < 2 ^ 62 → HeadRises head after =
-      λ room. record { version = omega arith; stamp = earlier before stamp (later before count clock zone room fits.stamp) } in
+    λ room. record { version = omega arith; stamp = earlier before stamp (later before count clock zone room fits.stamp) } in
     unless (λ h. HeadSteps count head h) (write_refusal head guard new when clock free frame) head after
     (head_stays count head fits)
     (record {
@@ -189,16 +189,16 @@ version_fits count (Some row) fits = omega arith
 stored_steps : (count : ℕ) (root : Root) (name : List ℕ) (new : Option Bucket) → IfSome new (λ row. row.version ≡ count + 1) → ((n : List ℕ) → RowFits count (at root.buckets n)) → (q : List ℕ) → RowRises (at root.buckets q) (at (with_bucket root.buckets name new) q) × RowFits (count + 1) (at (with_bucket root.buckets name new) q)
 stored_steps count root name None is fits q =
     rw (at-without_name root.buckets name q) (
-      elim (is_name_of q name) as (λ b. RowRises (at root.buckets q) (cond b None (at root.buckets q)) × RowFits (count + 1) (cond b None (at root.buckets q))) [
-        | true ↦ (tt, tt)
-        | false ↦ row_stays count (at root.buckets q) (fits q)
-      ])
+    elim (is_name_of q name) as (λ b. RowRises (at root.buckets q) (cond b None (at root.buckets q)) × RowFits (count + 1) (cond b None (at root.buckets q))) [
+      | true ↦ (tt, tt)
+      | false ↦ row_stays count (at root.buckets q) (fits q)
+    ])
 stored_steps count root name (Some row) is fits q =
     rw (at-with_name root.buckets name row q) (
-      elim (is_name_of q name) as (λ b. RowRises (at root.buckets q) (cond b (Some row) (at root.buckets q)) × RowFits (count + 1) (cond b (Some row) (at root.buckets q))) [
-        | true ↦ let old = version_fits count (at root.buckets q) (fits q) in (omega arith, omega arith)
-        | false ↦ row_stays count (at root.buckets q) (fits q)
-      ])
+    elim (is_name_of q name) as (λ b. RowRises (at root.buckets q) (cond b (Some row) (at root.buckets q)) × RowFits (count + 1) (cond b (Some row) (at root.buckets q))) [
+      | true ↦ let old = version_fits count (at root.buckets q) (fits q) in (omega arith, omega arith)
+      | false ↦ row_stays count (at root.buckets q) (fits q)
+    ])
 
 numbered : (kept new : Option Bucket) (master : Bool) (number : ℕ) → IfSome (stored_or_none kept new master number) (λ row. row.version ≡ number)
 numbered kept None master number = tt

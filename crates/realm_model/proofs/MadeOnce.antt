@@ -107,9 +107,9 @@ module _ (settings : SettingsView) (phases : ActorId → Phase) (by : ℕ → Ac
   kept_used op reply zone write part uses =
       let is = used_is_by by count (by write) (phases (by write)) zone write part (knows (by write)) uses in
       let stays =
-        put_actor_cases (λ a q. Uses ((phases a).stripes.own zone write write) part → Uses (q.stripes.own zone write write) part)
-        phases actor (learnt (phases actor) op reply (count + 1) clock)
-        (used_learnt (phases actor).stripes.own op reply zone write part) (λ a u. u) (by write) uses in
+      put_actor_cases (λ a q. Uses ((phases a).stripes.own zone write write) part → Uses (q.stripes.own zone write write) part)
+      phases actor (learnt (phases actor) op reply (count + 1) clock)
+      (used_learnt (phases actor).stripes.own op reply zone write part) (λ a u. u) (by write) uses in
       subst (λ a. Uses ((phases_after op reply a).stripes.own zone write write) part) (sym (by_before by count write actor is.0)) stays
 
   still_used : (op : Op) (reply : Reply) (zone write part : ℕ) (bytes : Option (List ℕ)) → IfSome bytes (λ b. Uses ((phases (by write)).stripes.own zone write write) part) → IfSome bytes (λ b. Uses ((phases_after op reply (by_after write)).stripes.own zone write write) part)
@@ -125,8 +125,8 @@ module _ (settings : SettingsView) (phases : ActorId → Phase) (by : ℕ → Ac
       let next = left_of (is_next_part (p.stripes.own zone write write) part) _ (right_of (is_own_write p zone write) _ may) in
       let b = with_part (p.stripes.own zone write write) (length bytes) in
       let here : (phases_after op Done actor).stripes.own zone write write ≡ b =
-        ap (λ q. q.stripes.own zone write write) (put_actor_here phases actor (learnt p op Done (count + 1) clock))
-        ∙ put_bundle_here p.stripes.own zone write write b in
+      ap (λ q. q.stripes.own zone write write) (put_actor_here phases actor (learnt p op Done (count + 1) clock))
+      ∙ put_bundle_here p.stripes.own zone write write b in
       let now = subst (λ x. Uses x part) (sym here) (now_used (p.stripes.own zone write write) (length bytes) part next) in
       subst (λ a. Uses ((phases_after op Done a).stripes.own zone write write) part) (sym (by_before by count write actor own.0 ∙ own.1)) now
 
@@ -155,7 +155,7 @@ made_at tails made write part bytes agree w p =
       | true ↦ λ same.
           let key = same_key (tail_key write part) (tail_key w p) same in
           let here : bytes ≡ unwrap_or (put made write (put (made write) part (Some bytes)) write part) [] =
-            rw (number_itself write, number_itself part) refl in
+          rw (number_itself write, number_itself part) refl in
           let at_part = subst (λ q. bytes ≡ unwrap_or (put made write (put (made write) part (Some bytes)) write q) []) (part_is write w part p key) here in
           subst (λ v. bytes ≡ unwrap_or (put made write (put (made write) part (Some bytes)) v p) []) (write_is write w part p key) at_part
       | false ↦ λ apart.

@@ -81,15 +81,17 @@ first_learnt by count clock actor (Some f) is = is_by_more by count f.number act
 pub own_write : (by : ℕ → ActorId) (count : ℕ) (actor : ActorId) (p : Phase) (zone write : ℕ) → KnowsOwn by count actor p → is_own_write p zone write ≡ true → IsBy by count actor write
 own_write by count actor p zone write k may =
     by_one (either_of (is_first p write) _ may) where
-  by_first : (first : Option FirstEvent) → IfSome first (λ f. IsBy by count actor f.number) → is_so first (λ f. f.number == write) ≡ true → IsBy by count actor write
-  by_first None is same = cc
-  by_first (Some f) is same = subst (λ n. IsBy by count actor n) (number_same f.number write same) is
-  by_read : (read : Option ℕ) → IfSome read (λ peer. IsBy by count actor write) → is_so read (λ peer. not (peer == zone)) ≡ true → IsBy by count actor write
-  by_read None is same = cc
-  by_read (Some peer) is same = is
-  by_one : (is_first p write ≡ true) ⊎ (is_so (p.stripes.reads write) (λ peer. not (peer == zone)) ≡ true) → IsBy by count actor write
-  by_one (inl first) = by_first p.first k.first first
-  by_one (inr read) = by_read (p.stripes.reads write) (k.reads write) read
+      by_first : (first : Option FirstEvent) → IfSome first (λ f. IsBy by count actor f.number) → is_so first (λ f. f.number == write) ≡ true → IsBy by count actor write
+      by_first None is same = cc
+      by_first (Some f) is same = subst (λ n. IsBy by count actor n) (number_same f.number write same) is
+
+      by_read : (read : Option ℕ) → IfSome read (λ peer. IsBy by count actor write) → is_so read (λ peer. not (peer == zone)) ≡ true → IsBy by count actor write
+      by_read None is same = cc
+      by_read (Some peer) is same = is
+
+      by_one : (is_first p write ≡ true) ⊎ (is_so (p.stripes.reads write) (λ peer. not (peer == zone)) ≡ true) → IsBy by count actor write
+      by_one (inl first) = by_first p.first k.first first
+      by_one (inr read) = by_read (p.stripes.reads write) (k.reads write) read
 
 -- the write whose tails new content names is the actor's own
 named_write : (by : ℕ → ActorId) (count : ℕ) (actor : ActorId) (b : Bundle) (write : ℕ) (sizes : List ℕ) → (b ≡ unused) ⊎ IsBy by count actor write → has_sizes b sizes ≡ true → IsBy by count actor write

@@ -50,18 +50,18 @@ learnt_by settings w (e ∷ es) actor count clock is_count is_clock =
     let st = at_moment w.state e.moment in
     let now = max clock (counted_moment e.moment) in
     let one : (happens settings w e).state.count ≡ count + 1 =
-      ap (λ n. n + 1) (touched-count settings st (touch_of settings st e.op) ∙ is_count) in
+    ap (λ n. n + 1) (touched-count settings st (touch_of settings st e.op) ∙ is_count) in
     let moved : (happens settings w e).state.clock ≡ now =
-      touched-clock settings st (touch_of settings st e.op) ∙ ap (λ c. max c (counted_moment e.moment)) is_clock in
+    touched-clock settings st (touch_of settings st e.op) ∙ ap (λ c. max c (counted_moment e.moment)) is_clock in
     let rest = own_from (count + 1) now es actor in
     let own : OwnEvent = record { op = e.op; reply = e.reply; number = count + 1; clock = now } in
     let know : Phase → ℕ → ℕ → Phase = λ p n c. learnt p e.op e.reply n c in
     let step = learnt_by settings (happens settings w e) es actor (count + 1) now one moved in
     step ∙ (
-      elim (same_actor actor (actor_of e)) as (λ b. same_actor actor (actor_of e) ≡ b → learnt_from (cond b (know (w.phases (actor_of e)) (w.state.count + 1) st.clock) (w.phases actor)) rest ≡ learnt_from (w.phases actor) (cond b (own ∷ rest) rest)) [
-        | true ↦ λ same. λ i. learnt_from (know (w.phases (same_is actor (actor_of e) same i)) (is_count i + 1) (max (is_clock i) (counted_moment e.moment))) rest
-        | false ↦ λ same. refl
-      ] refl)
+    elim (same_actor actor (actor_of e)) as (λ b. same_actor actor (actor_of e) ≡ b → learnt_from (cond b (know (w.phases (actor_of e)) (w.state.count + 1) st.clock) (w.phases actor)) rest ≡ learnt_from (w.phases actor) (cond b (own ∷ rest) rest)) [
+      | true ↦ λ same. λ i. learnt_from (know (w.phases (same_is actor (actor_of e) same i)) (is_count i + 1) (max (is_clock i) (counted_moment e.moment))) rest
+      | false ↦ λ same. refl
+    ] refl)
 
 pub phase-own : (settings : SettingsView) (history : List Event) (actor : ActorId) → phase_of settings history actor ≡ learnt_from fresh (own_events history actor)
 phase-own settings history actor = learnt_by settings (start settings) history actor 0 0 refl refl

@@ -72,9 +72,9 @@ touch_steps settings st (Page zone key after limit) b = tt
 touch_steps settings st (Suggest zone key name revision moment version row) b =
     changed_steps (st.shards zone key) (λ s. suggest_event_refusal s name revision moment) _
     (λ s fits.
-      unless (λ x. ShardSteps (Some s) (Some x)) (suggest_refusal s name revision) s
-      (settled s name (tags_due_taken moment (entry_at s name).tags) version row) (shard_stays (Some s) fits)
-      (settled_steps s name (tags_due_taken moment (entry_at s name).tags) version row fits))
+    unless (λ x. ShardSteps (Some s) (Some x)) (suggest_refusal s name revision) s
+    (settled s name (tags_due_taken moment (entry_at s name).tags) version row) (shard_stays (Some s) fits)
+    (settled_steps s name (tags_due_taken moment (entry_at s name).tags) version row fits))
     (b.entries zone key)
 touch_steps settings st (Stats zone key) b = tt
 touch_steps settings st (HeadRead zone container name) b = tt

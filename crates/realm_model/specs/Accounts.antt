@@ -109,8 +109,14 @@ looked_after looked op reply number = looked
 -- an event of this number at this clock, with the slot of the bucket map before it and what it leaves there
 abbrev pub decided_at : Account → ℕ → ℕ → ℕ → ℕ → List ℕ → Slot → Slot → Decided
 decided_at y number clock zone container name before after = record {
-  number = number; clock = clock; zone = zone; container = container; name = name;
-  looked = y.looked; before = before; after = after;
+  number = number;
+  clock = clock;
+  zone = zone;
+  container = container;
+  name = name;
+  looked = y.looked;
+  before = before;
+  after = after;
 }
 
 abbrev pub slot_now : Maps → Made → ℕ → ℕ → List ℕ → Slot

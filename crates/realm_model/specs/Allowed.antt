@@ -23,13 +23,13 @@ meets_need settings p (ShardMake zone key) = is_next_shard p zone key
 meets_need settings p (Prepare zone key name) = has_no_tag p.tag && has_read (p.rows zone) 0 (names_shard key name)
 meets_need settings p (Complete zone key name tag version row) =
     is_so p.tag (λ t.
-      not (is_stage_over t.stage)
-      && (is_tag_of t zone name
-      && (t.guard.tag == tag && (is_change t.change version row && is_shard_of_tag t (p.rows zone) key name))))
+    not (is_stage_over t.stage)
+    && (is_tag_of t zone name
+    && (t.guard.tag == tag && (is_change t.change version row && is_shard_of_tag t (p.rows zone) key name))))
 meets_need settings p (Cancel zone key name tag) =
     is_so p.tag (λ t.
-      is_stage_open t.stage
-      && (not (is_some t.change) && (is_tag_of t zone name && (t.guard.tag == tag && is_key t.key key))))
+    is_stage_open t.stage
+    && (not (is_some t.change) && (is_tag_of t zone name && (t.guard.tag == tag && is_key t.key key))))
 meets_need settings p (Page zone key after limit) = is_between 1 page_limit limit
 meets_need settings p (Suggest zone key name revision seen version row) =
     is_suggestion (p.seen zone key name) revision seen version row

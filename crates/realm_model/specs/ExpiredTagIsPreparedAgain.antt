@@ -18,6 +18,6 @@ history =
     ∷ by 2 120000000 (Prepare 1 shard k) (Prepared (guard 10 240000000))
     ∷ by 2 120000000 (Announce 1 1 1 0 box) (Position 2)
     ∷ by 2 120000000 (HeadWrite 1 1 k (guard 10 240000000) (hello 4) no_conditions)
-        (Changed (change 12 120000000 (hello_row 120000000) None))
+    (Changed (change 12 120000000 (hello_row 120000000) None))
     ∷ by 2 120000000 (Complete 1 shard k 10 12 (hello_row 120000000)) Done
     ∷ []

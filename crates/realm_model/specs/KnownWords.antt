@@ -37,8 +37,15 @@ then n es e = take n es ++ e ∷ []
 -- one zone, with stripes of so many bytes, so many frames of so many bytes, and tags that live so long
 abbrev pub set_to : ℕ → ℕ → ℕ → ℕ → SettingsView
 set_to stripe frame frames life = record {
-  zones = 1; stripe = stripe; frame = frame; frames = frames; shards = 1;
-  tag_life = life; wait = 7200000000; largest = 5368709120; threshold = 100000;
+  zones = 1;
+  stripe = stripe;
+  frame = frame;
+  frames = frames;
+  shards = 1;
+  tag_life = life;
+  wait = 7200000000;
+  largest = 5368709120;
+  threshold = 100000;
 }
 
 -- what is set where no word says otherwise
@@ -67,8 +74,17 @@ hex (high ∷ low ∷ rest) = (16 * unwrap_or (hex_digit_value high) 0 + unwrap_
 -- the row of a container whose instance is its own number
 abbrev pub bucket : ℕ → ℕ → ℕ → Bucket
 bucket id version shards = record {
-  id = id; owner = codes "acme"; version = version; shared = version; number = 0; busy = None;
-  instance = id; shards = shards; meta = []; readers = []; writers = [];
+  id = id;
+  owner = codes "acme";
+  version = version;
+  shared = version;
+  number = 0;
+  busy = None;
+  instance = id;
+  shards = shards;
+  meta = [];
+  readers = [];
+  writers = [];
 }
 
 abbrev pub guard : ℕ → ℕ → Guard
@@ -88,7 +104,11 @@ manifest write stripe size = record { write = write; stripe = stripe; size = siz
 
 abbrev pub content : ℕ → ℕ → ℕ → List ℕ → List ℕ → NewHead
 content write stripe size first etag = record {
-  manifest = manifest write stripe size; first = first; kind = plain; meta = []; etag = etag;
+  manifest = manifest write stripe size;
+  first = first;
+  kind = plain;
+  meta = [];
+  etag = etag;
 }
 
 abbrev pub change : ℕ → ℕ → RowView → Option ManifestView → Changed

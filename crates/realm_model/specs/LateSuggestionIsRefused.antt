@@ -22,7 +22,7 @@ history =
     ∷ by 4 120000000 (Prepare 1 shard k) (Prepared (guard 12 240000000))
     ∷ by 4 120000000 (Announce 1 1 1 0 box) (Position 2)
     ∷ by 4 120000000 (HeadWrite 1 1 k (guard 12 240000000) (empty 11) no_conditions)
-        (Changed (change 14 120000000 (empty_row 120000000) None))
+    (Changed (change 14 120000000 (empty_row 120000000) None))
     ∷ by 4 120000000 (Complete 1 shard k 12 14 (empty_row 120000000)) Done
     ∷ by 3 120000000 (Suggest 1 shard k 1 120000000 7 (hello_row 0)) (No (Stale 3))
     ∷ reads 5 120000000 1

@@ -118,7 +118,7 @@ seen_after seen named (Page zone key after limit) (Entries page) =
 seen_after seen named (HeadRead zone container name) (head_reply head clock) =
     let shown : OwnChange = record { version = head.version; row = row_of head.slot } in
     put seen zone (λ key n.
-      if container_of key == container && bytes_eq n name then with_head shown (seen zone key n) else seen zone key n)
+    if container_of key == container && bytes_eq n name then with_head shown (seen zone key n) else seen zone key n)
 seen_after seen named op reply = seen
 
 -- ---- stripes

@@ -112,10 +112,10 @@ is_shard_of_tag t rows key name = is_key t.key key || is_tried_again t rows key 
 abbrev pub may_change_head : Phase → ℕ → ℕ → List ℕ → Guard → Bool
 may_change_head p zone container name guard =
     is_so p.tag (λ t.
-      is_stage_open t.stage
-      && (t.announced
-      && (not (is_some t.change)
-      && (is_tag_of t zone name && (container_of t.key == container && same_guard t.guard guard)))))
+    is_stage_open t.stage
+    && (t.announced
+    && (not (is_some t.change)
+    && (is_tag_of t zone name && (container_of t.key == container && same_guard t.guard guard)))))
 
 -- ---- stripes
 
@@ -153,9 +153,9 @@ abbrev pub is_seen_range : List SeenManifest → ℕ → ℕ → ℕ → ℕ →
 is_seen_range seen zone write part start count =
     nat_le 1 count
     && list_any (λ s.
-      s.zone == zone
-      && (s.manifest.write == write
-      && (is_between 1 (tails_of s.manifest) part && nat_le (start + count) (part_size s.manifest part)))) seen
+    s.zone == zone
+    && (s.manifest.write == write
+    && (is_between 1 (tails_of s.manifest) part && nat_le (start + count) (part_size s.manifest part)))) seen
 
 -- ---- suggestions
 

@@ -96,7 +96,7 @@ touch_of settings st (Cancel zone key name tag) =
 touch_of settings st (Page zone key after limit) = nothing
 touch_of settings st (Suggest zone key name revision moment version row) =
     at_shard zone key (change_at (st.shards zone key) (λ s.
-      unless_refused (suggest_event_refusal s name revision moment) s (suggested s name revision moment version row)))
+    unless_refused (suggest_event_refusal s name revision moment) s (suggested s name revision moment version row)))
 touch_of settings st (stats_op zone key) = nothing
 touch_of settings st (HeadRead zone container name) = nothing
 touch_of settings st (HeadWrite zone container name guard new when) =

@@ -25,6 +25,6 @@ history =
     ∷ by 4 0 (Prepare 1 shard k) (Prepared (guard 16 120000000))
     ∷ by 4 0 (Announce 1 1 1 0 box) (Position 2)
     ∷ by 4 0 (HeadWrite 1 1 k (guard 16 120000000) (alphabet 14) (record no_conditions { none = Some Any }))
-        (No (NotMet (Some (stamp 0))))
+    (No (NotMet (Some (stamp 0))))
     ∷ by 4 0 (Cancel 1 shard k 16) Done
     ∷ []

@@ -67,7 +67,13 @@ abbrev pub tags_after : (ℕ → Option TagNote) → ActorId → Op → Reply �
 tags_after tags actor (Prepare zone key name) (Prepared guard) =
     put tags guard.tag
     (Some (record {
-      actor = actor; zone = zone; key = key; name = name; deadline = guard.deadline; change = None; ended = false;
+      actor = actor;
+      zone = zone;
+      key = key;
+      name = name;
+      deadline = guard.deadline;
+      change = None;
+      ended = false;
     }))
 tags_after tags actor (HeadWrite zone container name guard new when) (Changed change) =
     put tags guard.tag (changed_note (tags guard.tag) (record { version = change.version; row = change.row }))

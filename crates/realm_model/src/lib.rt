@@ -17,10 +17,9 @@ pub use known::{
     stopped_writer_is_repaired, tails_are_read,
 };
 pub use laws::{
-    a_tail_is_made_once,
-    an_event_touches_one_object, computed_histories_are_legal, events_are_numbered,
-    events_follow_from_the_history, maps_are_what_heads_hold, no_event_lowers_a_number,
-    others_change_no_phase,
+    a_tail_is_made_once, an_event_touches_one_object, computed_histories_are_legal,
+    events_are_numbered, events_follow_from_the_history, maps_are_what_heads_hold,
+    no_event_lowers_a_number, others_change_no_phase,
 };
 pub use op::Op;
 pub use refused::{these_changes_are_refused, these_steps_are_refused, these_tails_are_refused};

@@ -32,14 +32,38 @@ impl Model for Settings {
     ghost Value = { SettingsView };
 
     ghost view = { λ s. record {
-      zones = s.zones; stripe = s.stripe; frame = s.frame; frames = s.frames; shards = s.shards;
-      tag_life = s.tag_life; wait = s.wait; largest = s.largest; threshold = s.threshold } };
+      zones = s.zones;
+      stripe = s.stripe;
+      frame = s.frame;
+      frames = s.frames;
+      shards = s.shards;
+      tag_life = s.tag_life;
+      wait = s.wait;
+      largest = s.largest;
+      threshold = s.threshold;
+    } };
 
     ghost invariant = { λ s. IsSettings (record {
-      zones = s.zones; stripe = s.stripe; frame = s.frame; frames = s.frames; shards = s.shards;
-      tag_life = s.tag_life; wait = s.wait; largest = s.largest; threshold = s.threshold }) };
+      zones = s.zones;
+      stripe = s.stripe;
+      frame = s.frame;
+      frames = s.frames;
+      shards = s.shards;
+      tag_life = s.tag_life;
+      wait = s.wait;
+      largest = s.largest;
+      threshold = s.threshold;
+    }) };
 
     ghost inverse = { λ s. record {
-      zones = s.zones; stripe = s.stripe; frame = s.frame; frames = s.frames; shards = s.shards;
-      tag_life = s.tag_life; wait = s.wait; largest = s.largest; threshold = s.threshold } };
+      zones = s.zones;
+      stripe = s.stripe;
+      frame = s.frame;
+      frames = s.frames;
+      shards = s.shards;
+      tag_life = s.tag_life;
+      wait = s.wait;
+      largest = s.largest;
+      threshold = s.threshold;
+    } };
 }
