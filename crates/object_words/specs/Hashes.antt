@@ -1,15 +1,17 @@
 -- In which shard of a container's index a name stands. The formula is own: byte by byte, then mixed.
-use Rattle.std.specs.Prelude.{ℕ, ◌+◌, ◌*◌, ◌/◌, ◌%◌, ◌^◌, List, [], ◌∷◌}
-use lib.Bits.{bit_xor}
+use Rattle.std.specs.Prelude.{ℕ, ◌+◌, ◌*◌, ◌/◌, ◌%◌, ◌^◌, List, fold, bit_xor}
 
-abbrev pub hash_from : ℕ → List ℕ → ℕ
-hash_from h [] = h
-hash_from h (c ∷ cs) = hash_from ((h + c * 16 + c / 16) * 11 % 2 ^ 64) cs
+-- one byte more, in 64 bits
+abbrev pub hash_step : ℕ → ℕ → ℕ
+hash_step hash byte = (hash + (byte * 16 + byte / 16)) * 11 % 2 ^ 64
+
+abbrev pub hash_of : List ℕ → ℕ
+hash_of name = fold hash_step 0 name
 
 -- the low byte over the high one, in 32 bits
 abbrev pub mixed : ℕ → ℕ
-mixed h = bit_xor h (h % 256 * 2 ^ 24)
+mixed low = bit_xor low (low % 256 * 2 ^ 24)
 
 -- the shard of a name among so many
 abbrev pub shard_of : List ℕ → ℕ → ℕ
-shard_of name count = mixed (hash_from 0 name % 2 ^ 32) % 7877 % count
+shard_of name count = mixed (hash_of name % 2 ^ 32) % 7877 % count

@@ -1,7 +1,5 @@
 -- What each call does to a head: why it is refused, and what it leaves, which is the head as it was where it is refused.
-use Rattle.std.specs.Prelude.{ℕ, ◌==◌, ◌||◌, not, Bool, true, false, nat_lt, nat_le, List, bytes_eq, Option, Some, None, unwrap_or, if◌then◌else◌}
-use Rattle.std.specs.List.{list_any}
-use Rattle.hex.specs.Hex.{encode_lower}
+use Rattle.std.specs.Prelude.{ℕ, ◌==◌, nat_lt, nat_le, Option, Some, None, unwrap_or, if◌then◌else◌}
 use Rattle.rgw_model.specs.declared.stamp.Stamp.{Stamp}
 use Rattle.rgw_model.specs.Stamps.{stamp_above}
 use Rattle.object_words.specs.declared.entry.Guard.{Guard}
@@ -9,14 +7,13 @@ use Rattle.object_words.specs.declared.head.NewHead.{NewHead}
 use Rattle.object_words.specs.declared.head.HeadSeen.{HeadSeen}
 use Rattle.object_words.specs.declared.head.Changed.{Changed}
 use Rattle.object_words.specs.declared.head.Conditions.{Conditions}
-use Rattle.object_words.specs.declared.head.EtagRule.{EtagRule}
-use Rattle.object_words.specs.declared.head.EtagRule.TheVariants.{Any, OneOf}
 use Rattle.object_words.specs.declared.head.SeenSlot.{SeenSlot}
-use Rattle.object_words.specs.declared.head.SeenSlot.TheVariants.{Nothing, Live, Mark}
+use Rattle.object_words.specs.declared.head.SeenSlot.TheVariants.{Live}
 use Rattle.object_words.specs.declared.why.Why.{Why}
 use Rattle.object_words.specs.declared.why.Why.TheVariants.{Expired, NotMet, NoSpace}
 use Rattle.object_words.specs.Rows.{no_row}
-use Rattle.object_words.specs.Heads.{Head, seen_stamp, row_of, manifest_of, with_tails, frames_for}
+use Rattle.object_words.specs.Conditions.{fails}
+use Rattle.object_words.specs.Heads.{Head, seen_stamp, row_of, etag_of, manifest_of, with_tails, frames_for}
 use Rattle.object_words.specs.Refusals.{first_refusal, unless_refused}
 
 -- ---- read
@@ -34,23 +31,9 @@ seen head number = record { version = version_seen head number; slot = head.slot
 abbrev pub guard_refusal : Guard → ℕ → Option Why
 guard_refusal guard clock = if nat_le guard.deadline clock then Some (Expired guard.deadline clock) else None
 
--- an object is there, and its ETag is among these
-abbrev pub meets : EtagRule → SeenSlot → Bool
-meets Any (Live new stamp) = true
-meets (OneOf etags) (Live new stamp) = list_any (bytes_eq (encode_lower new.etag)) etags
-meets rule slot = false
-
-abbrev pub fails_match : Option EtagRule → SeenSlot → Bool
-fails_match None slot = false
-fails_match (Some rule) slot = not (meets rule slot)
-
-abbrev pub fails_none : Option EtagRule → SeenSlot → Bool
-fails_none None slot = false
-fails_none (Some rule) slot = meets rule slot
-
--- If-Match or If-None-Match fails (RFC 9110, sections 13.1.1 and 13.1.2)
+-- If-Match or If-None-Match fails
 abbrev pub condition_refusal : Conditions → SeenSlot → Option Why
-condition_refusal when slot = if fails_match when.matches slot || fails_none when.none slot then Some (NotMet (seen_stamp slot)) else None
+condition_refusal when slot = if fails when (etag_of slot) then Some (NotMet (seen_stamp slot)) else None
 
 -- fewer frames are free than the bytes take
 abbrev pub space_refusal : ℕ → ℕ → Option Why

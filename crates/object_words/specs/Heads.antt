@@ -36,6 +36,11 @@ abbrev pub first_bytes : SeenSlot → List ℕ
 first_bytes (Live new stamp) = new.first
 first_bytes slot = []
 
+-- the digest of a live object
+abbrev pub etag_of : SeenSlot → Option (List ℕ)
+etag_of (Live new stamp) = Some new.etag
+etag_of slot = None
+
 -- where the bytes of a live object are
 abbrev pub manifest_of : SeenSlot → Option ManifestView
 manifest_of (Live new stamp) = Some new.manifest

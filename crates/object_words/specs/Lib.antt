@@ -4,12 +4,14 @@ pub mod Names
 pub mod Numbers
 pub mod Hashes
 pub mod Rows
+pub mod RowsOf
 pub mod Tags
 pub mod Entries
 pub mod Logs
 pub mod Shards
 pub mod Refusals
 pub mod ShardCalls
+pub mod Conditions
 pub mod Heads
 pub mod HeadCalls
 pub mod Roots

@@ -1,5 +1,6 @@
 use crate::{Entries, MediaType, ObjectName, Tags};
 use rgw_model::Stamp;
+use std::alloc::Global;
 use std::marker::Model;
 
 /// A change of a name that was prepared: the number of its prepare event, and the moment from which it
@@ -8,6 +9,22 @@ use std::marker::Model;
 pub struct Tag {
     pub tag: u64,
     pub deadline: u64,
+}
+
+impl Tag {
+    ghost use Rattle.std.specs.Prelude.{◌≡◌};
+    ghost use Rattle.object_words.specs.Tags.{tag_of};
+
+    /// The tag that the prepare event of this number gives, which lives so long from its clock on. The
+    /// deadline stops at the greatest `u64`.
+    pub fn prepared(number: u64, clock: u64, life: u64) -> Tag
+        ensures { result ≡ tag_of number clock life }
+    {
+        Tag {
+            tag: number,
+            deadline: clock.saturating_add(life),
+        }
+    }
 }
 
 /// What a change of a head is made under: a tag, as its prepare event gave it.
@@ -35,9 +52,29 @@ impl Model for EntryRow {
 
     ghost Value = { RowView };
 
-    ghost view = { λ row. record { exists = row.exists; size = row.size; stamp = row.stamp; etag = row.etag; kind = row.kind } };
+    ghost use Rattle.object_words.specs.RowsOf.{row_view};
 
-    ghost invariant = { λ row. IsRow (record { exists = row.exists; size = row.size; stamp = row.stamp; etag = row.etag; kind = row.kind }) };
+    ghost view = { row_view };
+
+    ghost invariant = { λ row. IsRow (row_view row) };
+}
+
+impl EntryRow {
+    ghost use Rattle.std.specs.Prelude.{◌≡◌};
+    ghost use Rattle.object_words.specs.Rows.{no_row};
+
+    /// The row of an object that does not exist. Takes no memory.
+    pub fn absent(alloc: Global) -> EntryRow
+        ensures { result ≡ no_row }
+    {
+        EntryRow {
+            exists: false,
+            size: 0,
+            stamp: Stamp { micros: 0, zone: 1 },
+            etag: [0; 16],
+            kind: MediaType::absent(alloc),
+        }
+    }
 }
 
 /// What the index keeps of a name: the row, the version of the change that it is from, how often the

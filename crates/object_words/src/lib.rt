@@ -3,6 +3,7 @@
 
 mod bucket;
 mod entry;
+mod hash;
 mod head;
 mod laws;
 mod limits;
@@ -14,9 +15,13 @@ mod why;
 
 pub use bucket::{Bucket, Busy, ShardCount};
 pub use entry::{Entry, EntryPage, EntryRow, Guard, Tag};
+pub use hash::shard_of;
 pub use head::{Changed, Conditions, EtagRule, HeadSeen, NewHead, SeenSlot};
-pub use laws::{keys_are_told_apart, maps_are_known_by_their_answers, sums_move_by_one_entry};
-pub use limits::{BucketName, MediaType, ObjectName};
+pub use laws::{
+    keys_are_told_apart, maps_are_known_by_their_answers, shards_of_names_are_these,
+    sums_move_by_one_entry,
+};
+pub use limits::{BucketName, MediaType, Name, ObjectName};
 pub use lists::{Entries, LogRows, Tags, Texts};
 pub use log::{LogPage, LogRow, LogWhat};
 pub use shard::{Fate, Hold, ShardStats};

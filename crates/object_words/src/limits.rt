@@ -1,10 +1,10 @@
 //! Names and media types, with their limits in their types.
-ghost use Rattle.std.specs.Prelude.{◌≡◌, ◌↔◌, ◌≤◌, ◌==◌, not, length, true, IfOk, IfErr, IsOk};
+ghost use Rattle.std.specs.Prelude.{◌≡◌, ◌↔◌, ◌≤◌, ◌==◌, not, [], length, true, IfOk, IfErr, IsOk};
 ghost use Rattle.std.specs.List.{list_all};
 ghost use Rattle.object_words.specs.Limits.{is_name, media_type_limit};
 
 use rgw_types::Text;
-use std::alloc::AllocError;
+use std::alloc::{AllocError, Global};
 use std::marker::Model;
 
 /// A name of 1 to `MOST` bytes, none of which is 0.
@@ -117,6 +117,15 @@ impl MediaType {
             Ok(MediaType { text })
         } else {
             Err(text)
+        }
+    }
+
+    /// The empty type. Takes no memory.
+    pub fn absent(alloc: Global) -> MediaType
+        ensures { result ≡ [] }
+    {
+        MediaType {
+            text: Text::new(alloc),
         }
     }
 

@@ -18,7 +18,7 @@ use Rattle.object_words.specs.Roots.{stored_or_none}
 use Rattle.realm_model.specs.Tests.{is_so}
 use Rattle.realm_model.specs.States.{put_in}
 use Rattle.realm_model.specs.Steps.{is_master}
-use Rattle.realm_model.specs.Phases.{FirstEvent, RowRead, OwnChange, Stage, is_open, is_tried, is_over, OwnTag, Sighting, Bundle, unused, opened, spent, SeenManifest, OwnStripes, OwnShards, Phase}
+use Rattle.realm_model.specs.Phases.{FirstEvent, RowRead, OwnChange, Stage, pending, tried, over, OwnTag, Sighting, Bundle, unused, opened, spent, SeenManifest, OwnStripes, OwnShards, Phase}
 use Rattle.realm_model.specs.Needs.{is_new_shard, holder_of}
 use Rattle.realm_model.specs.declared.op.Op.{Op}
 use Rattle.realm_model.specs.declared.op.Op.TheVariants.{BucketRead, BucketSwap, ShardMake, Prepare, Complete, Cancel, Page, HeadRead, HeadWrite, TailMake, Announce}
@@ -87,16 +87,16 @@ changed (Some t) change = Some (record t { change = Some change })
 -- completion that was answered Moved or Closed
 abbrev pub tag_after : Option OwnTag → Op → Reply → ℕ → Option OwnTag
 tag_after tag (Prepare zone key name) (Prepared guard) number =
-    Some (record { guard = guard; zone = zone; key = key; name = name; announced = false; change = None; stage = is_open })
-tag_after tag (Prepare zone key name) reply number = at_stage tag is_over
+    Some (record { guard = guard; zone = zone; key = key; name = name; announced = false; change = None; stage = pending })
+tag_after tag (Prepare zone key name) reply number = at_stage tag over
 tag_after tag (Announce zone container instance shard bucket) (Position position) number =
     announced tag zone (shard_key container instance shard)
 tag_after tag (HeadWrite zone container name guard new when) (Changed change) number =
     changed tag (record { version = change.version; row = change.row })
-tag_after tag (Complete zone key name t version row) (No (Moved instance)) number = at_stage tag (is_tried number)
-tag_after tag (Complete zone key name t version row) (No Closed) number = at_stage tag (is_tried number)
-tag_after tag (Complete zone key name t version row) reply number = at_stage tag is_over
-tag_after tag (Cancel zone key name t) reply number = at_stage tag is_over
+tag_after tag (Complete zone key name t version row) (No (Moved instance)) number = at_stage tag (tried number)
+tag_after tag (Complete zone key name t version row) (No Closed) number = at_stage tag (tried number)
+tag_after tag (Complete zone key name t version row) reply number = at_stage tag over
+tag_after tag (Cancel zone key name t) reply number = at_stage tag over
 tag_after tag op reply number = tag
 
 -- ---- entries that were seen

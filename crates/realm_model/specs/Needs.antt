@@ -14,7 +14,7 @@ use Rattle.object_words.specs.Rows.{RowView}
 use Rattle.object_words.specs.Roots.{version_of, shares_all}
 use Rattle.realm_model.specs.Settings.{SettingsView}
 use Rattle.realm_model.specs.Tests.{same_guard, same_row, same_numbers, is_so}
-use Rattle.realm_model.specs.Phases.{FirstEvent, RowRead, OwnChange, Stage, is_open, is_tried, is_over, OwnTag, Sighting, Bundle, unused, opened, spent, SeenManifest, OwnShards, Phase}
+use Rattle.realm_model.specs.Phases.{FirstEvent, RowRead, OwnChange, Stage, pending, tried, over, OwnTag, Sighting, Bundle, unused, opened, spent, SeenManifest, OwnShards, Phase}
 
 -- ---- numbers
 
@@ -79,14 +79,14 @@ is_form p zone name (Some old) None = false
 -- ---- the own tag
 
 abbrev pub is_stage_open : Stage → Bool
-is_stage_open is_open = true
-is_stage_open (is_tried number) = false
-is_stage_open is_over = false
+is_stage_open pending = true
+is_stage_open (tried number) = false
+is_stage_open over = false
 
 abbrev pub is_stage_over : Stage → Bool
-is_stage_over is_over = true
-is_stage_over is_open = false
-is_stage_over (is_tried number) = false
+is_stage_over over = true
+is_stage_over pending = false
+is_stage_over (tried number) = false
 
 -- no tag stands in the way of a preparation
 abbrev pub has_no_tag : Option OwnTag → Bool
@@ -101,9 +101,9 @@ is_change change version row = is_so change (λ c. c.version == version && same_
 
 -- the tag's own shard, or after a completion that was answered Moved or Closed one that a later read named
 abbrev pub is_tried_again : OwnTag → Named RowRead → Key → List ℕ → Stage → Bool
-is_tried_again t rows key name (is_tried number) = container_of key == container_of t.key && has_read rows number (names_shard key name)
-is_tried_again t rows key name is_open = false
-is_tried_again t rows key name is_over = false
+is_tried_again t rows key name (tried number) = container_of key == container_of t.key && has_read rows number (names_shard key name)
+is_tried_again t rows key name pending = false
+is_tried_again t rows key name over = false
 
 abbrev pub is_shard_of_tag : OwnTag → Named RowRead → Key → List ℕ → Bool
 is_shard_of_tag t rows key name = is_key t.key key || is_tried_again t rows key name t.stage

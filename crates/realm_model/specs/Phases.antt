@@ -30,9 +30,9 @@ pub record OwnChange : Type 0 where
 
 -- a tag is open; its completion was answered Moved or Closed by the event of this number, and may be tried again; it is over
 pub data Stage : Type 0 where
-  is_open : Stage
-  is_tried : ℕ → Stage
-  is_over : Stage
+  pending : Stage
+  tried : ℕ → Stage
+  over : Stage
 
 -- the last own preparation that was not refused
 pub record OwnTag : Type 0 where

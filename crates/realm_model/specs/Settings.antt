@@ -12,6 +12,12 @@ pub record SettingsView : Type 0 where
   pub largest : ℕ
   pub threshold : ℕ
 
+abbrev pub settings_of : ℕ → ℕ → ℕ → ℕ → ℕ → ℕ → ℕ → ℕ → ℕ → SettingsView
+settings_of zones stripe frame frames shards tag_life wait largest threshold = record {
+  zones = zones; stripe = stripe; frame = frame; frames = frames; shards = shards;
+  tag_life = tag_life; wait = wait; largest = largest; threshold = threshold;
+}
+
 -- a second, in microseconds
 abbrev pub second : ℕ
 second = 1000000
