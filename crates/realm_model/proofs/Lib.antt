@@ -9,3 +9,5 @@ pub mod Rising
 pub mod Agreeing
 pub mod Makers
 pub mod MadeOnce
+pub mod SuitsLemmas
+pub mod Doing

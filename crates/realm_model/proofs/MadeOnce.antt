@@ -26,7 +26,7 @@ use Rattle.realm_model.specs.declared.event.Reply.TheVariants.{Done, No, Changed
 use Rattle.realm_model.specs.declared.event.Event.{Event}
 use Rattle.realm_model.proofs.Computing.{left_of, right_of}
 use Rattle.realm_model.proofs.Runs.{touched-count, last_is_next, legal_front}
-use Rattle.realm_model.proofs.ObjectLemmas.{number_same, put_cases, put_bundle_cases, put_actor_cases}
+use Rattle.realm_model.proofs.ObjectLemmas.{number_same, put_cases, put_bundle_cases, put_actor_cases, put_actor_here}
 use Rattle.realm_model.proofs.TouchLemmas.{put_in_same}
 use Rattle.realm_model.proofs.Makers.{IsBy, KnowsOwn, fresh_knows, by_before, by_now, knows_more, knows_learnt, own_write}
 
@@ -85,12 +85,6 @@ used_is_by by count actor p zone write part k uses =
       | inl none ↦ absurd (subst (λ b. Uses b part) none uses)
       | inr is ↦ is
     ]
-
-actor_itself : (a : ActorId) → same_actor a a ≡ true
-actor_itself a = rw (number_itself a.pass, number_itself a.count) refl
-
-put_actor_here : {A : Type 0} (f : ActorId → A) (a : ActorId) (x : A) → put_actor f a x a ≡ x
-put_actor_here f a x = rw (actor_itself a) refl
 
 put_bundle_here : {A : Type 0} (f : ℕ → ℕ → ℕ → A) (z w h : ℕ) (x : A) → put_bundle f z w h x z w h ≡ x
 put_bundle_here f z w h x = rw (number_itself z, number_itself w, number_itself h) refl

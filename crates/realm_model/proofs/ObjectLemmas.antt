@@ -3,7 +3,7 @@ use Rattle.std.proofs.Common.{◌≡◌, ℕ, ◌==◌, Bool, true, false, cond,
 use Rattle.std.proofs.lemmas.Bool.Decides.{nat_tests}
 use Rattle.rgw_types.specs.declared.pool_key.Key.{Key}
 use Rattle.object_words.specs.Keys.{is_key, put, put_key}
-use Rattle.object_words.proofs.KeyLemmas.{same_key}
+use Rattle.object_words.proofs.KeyLemmas.{same_key, number_itself}
 use Rattle.realm_model.specs.States.{put_in}
 use Rattle.realm_model.specs.Phases.{ActorId}
 use Rattle.realm_model.specs.Learnt.{put_bundle}
@@ -44,3 +44,9 @@ put_actor_cases R f actor x here else a =
       | true ↦ λ same. subst (λ q. R q x) (same_is a actor same) here
       | false ↦ λ apart. else a
     ] refl
+
+pub actor_itself : (a : ActorId) → same_actor a a ≡ true
+actor_itself a = rw (number_itself a.pass, number_itself a.count) refl
+
+pub put_actor_here : {A : Type 0} (f : ActorId → A) (a : ActorId) (x : A) → put_actor f a x a ≡ x
+put_actor_here f a x = rw (actor_itself a) refl

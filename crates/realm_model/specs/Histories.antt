@@ -4,7 +4,9 @@ use Rattle.realm_model.specs.Settings.{SettingsView}
 use Rattle.realm_model.specs.States.{State, at_moment}
 use Rattle.realm_model.specs.Steps.{reply_of}
 use Rattle.realm_model.specs.Phases.{ActorId, Phase}
-use Rattle.realm_model.specs.Accounts.{Account}
+use Rattle.realm_model.specs.Learnt.{learnt}
+use Rattle.realm_model.specs.Maps.{Maps, Made}
+use Rattle.realm_model.specs.Accounts.{Account, accounted}
 use Rattle.realm_model.specs.Allowed.{allowed}
 use Rattle.realm_model.specs.Worlds.{World, start, actor_of, happens}
 use Rattle.realm_model.specs.declared.op.Op.{Op}
@@ -36,6 +38,13 @@ pub record Doings : Type 0 where
 
 abbrev pub doings_of : SettingsView → List Event → ActorId → Doings
 doings_of settings history actor = record { phase = phase_of settings history actor; account = account_of settings history actor }
+
+-- an own event more, with its number and the clock at it, and with the bucket maps and the tails before it
+abbrev pub done : Doings → Maps → Made → Op → Reply → ℕ → ℕ → Doings
+done d maps made op reply number clock = record {
+  phase = learnt d.phase op reply number clock;
+  account = accounted d.account maps made op reply number clock;
+}
 
 -- what an operation at a moment is answered
 abbrev pub answer_in : SettingsView → World → Op → ℕ → Reply

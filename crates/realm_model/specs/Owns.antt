@@ -1,7 +1,7 @@
 -- An actor's own events, each with its number and the clock at it.
-use Rattle.std.specs.Prelude.{◌≡◌, ℕ, ◌+◌, max, Bool, false, List, [], ◌∷◌, if◌then◌else◌}
+use Rattle.std.specs.Prelude.{◌≡◌, ℕ, ◌+◌, Bool, false, List, [], ◌∷◌, if◌then◌else◌}
 use Rattle.std.specs.List.{AllByRecursion}
-use Rattle.rgw_model.specs.Stamps.{counted_moment}
+use Rattle.realm_model.specs.States.{clock_at}
 use Rattle.realm_model.specs.Phases.{ActorId, Phase, fresh}
 use Rattle.realm_model.specs.Learnt.{learnt}
 use Rattle.realm_model.specs.Worlds.{same_actor, actor_of}
@@ -18,13 +18,13 @@ pub record OwnEvent : Type 0 where
 -- the clock is the greatest moment that the events brought so far
 abbrev pub clock_after : ℕ → List Event → ℕ
 clock_after clock [] = clock
-clock_after clock (e ∷ es) = clock_after (max clock (counted_moment e.moment)) es
+clock_after clock (e ∷ es) = clock_after (clock_at clock e.moment) es
 
 -- those of the events that the actor made, after so many others and from this clock on
 abbrev pub own_from : ℕ → ℕ → List Event → ActorId → List OwnEvent
 own_from count clock [] actor = []
 own_from count clock (e ∷ es) actor =
-    let now = max clock (counted_moment e.moment) in
+    let now = clock_at clock e.moment in
     let rest = own_from (count + 1) now es actor in
     if same_actor actor (actor_of e)
     then (record { op = e.op; reply = e.reply; number = count + 1; clock = now } ∷ rest)

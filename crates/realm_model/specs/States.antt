@@ -39,8 +39,11 @@ abbrev pub number_next : State → ℕ
 number_next st = st.count + 1
 
 -- the clock is the greatest moment that counts so far
+abbrev pub clock_at : ℕ → ℕ → ℕ
+clock_at clock moment = max clock (counted_moment moment)
+
 abbrev pub at_moment : State → ℕ → State
-at_moment st moment = record st { clock = max st.clock (counted_moment moment) }
+at_moment st moment = record st { clock = clock_at st.clock moment }
 
 -- which object an event touches, and what the object is afterwards
 pub data Touch : Type 0 where

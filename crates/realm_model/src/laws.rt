@@ -5,11 +5,13 @@ ghost use Rattle.object_words.specs.Keys.{head_key, tail_key};
 ghost use Rattle.object_words.specs.Tails.{no_tail};
 ghost use Rattle.realm_model.specs.Maps.{slot_at, heads};
 ghost use Rattle.realm_model.specs.Settings.{SettingsView};
-ghost use Rattle.realm_model.specs.States.{State, Touch, at_moment, touched};
+ghost use Rattle.realm_model.specs.States.{State, Touch, number_next, clock_at, at_moment, touched};
+ghost use Rattle.realm_model.specs.Suits.{Suits};
+ghost use Rattle.realm_model.specs.Worlds.{actor_of};
 ghost use Rattle.realm_model.specs.Steps.{reply_of, touch_of, after};
 ghost use Rattle.realm_model.specs.Phases.{ActorId, fresh};
 ghost use Rattle.realm_model.specs.Allowed.{allowed};
-ghost use Rattle.realm_model.specs.Histories.{world_of, state_of, phase_of, account_of, answer_after, IsNext, Legal, with_answers, all_allowed};
+ghost use Rattle.realm_model.specs.Histories.{world_of, state_of, phase_of, account_of, doings_of, done, answer_after, IsNext, Legal, with_answers, all_allowed};
 ghost use Rattle.realm_model.specs.Owns.{clock_after, own_events, learnt_from, NoneBy};
 ghost use Rattle.realm_model.specs.Rises.{Rises};
 ghost use Rattle.realm_model.specs.Touches.{KeepsOthers, is_read};
@@ -99,4 +101,18 @@ pub fn a_tail_is_made_once()
     ensures bytes { (settings : SettingsView) (history : List EventOf) → Legal settings history
         → (zone write part : ℕ) → ((state_of settings history).tails zone (tail_key write part)).bytes
         ≡ unwrap_or ((world_of settings history).stripes.made zone write part) [] }
+{}
+
+/// The answer of the step is of a kind that the operation may have.
+pub fn replies_suit_their_operations()
+    ensures { (settings : SettingsView) (st : State) (op : OpOf) → Suits op (reply_of settings st op) }
+{}
+
+/// An event adds itself to its actor's doings.
+pub fn an_own_event_is_done()
+    ensures { (settings : SettingsView) (history : List EventOf) (e : EventOf)
+        → doings_of settings (history ++ e ∷ []) (actor_of e)
+        ≡ done (doings_of settings history (actor_of e)) (heads history)
+            (world_of settings history).stripes.made e.op e.reply
+            (number_next (state_of settings history)) (clock_at (state_of settings history).clock e.moment) }
 {}

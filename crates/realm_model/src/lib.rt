@@ -3,6 +3,7 @@
 #![tactic(auto)]
 
 mod actor;
+mod clock;
 mod event;
 mod known;
 mod laws;
@@ -11,13 +12,14 @@ mod refused;
 mod settings;
 
 pub use actor::Actor;
+pub use clock::clock_at;
 pub use event::{Event, Reply};
 pub use known::{
     expired_tag_is_prepared_again, late_suggestion_is_refused, no_space, older_completion_loses,
     stopped_writer_is_repaired, tails_are_read,
 };
 pub use laws::{
-    a_tail_is_made_once, an_event_touches_one_object, computed_histories_are_legal,
+    a_tail_is_made_once, an_own_event_is_done, replies_suit_their_operations, an_event_touches_one_object, computed_histories_are_legal,
     events_are_numbered, events_follow_from_the_history, maps_are_what_heads_hold,
     no_event_lowers_a_number, others_change_no_phase,
 };
