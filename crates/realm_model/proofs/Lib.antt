@@ -11,3 +11,4 @@ pub mod Makers
 pub mod MadeOnce
 pub mod SuitsLemmas
 pub mod Doing
+pub mod Deciding

@@ -1,9 +1,11 @@
 //! Laws of the definitions: the functions here do nothing.
-ghost use Rattle.std.specs.Prelude.{◌≡◌, ◌<◌, ◌^◌, ◌++◌, ◌∷◌, [], ℕ, List, length, true, unwrap_or};
+ghost use Rattle.std.specs.Prelude.{◌≡◌, ◌<◌, ◌^◌, ◌++◌, ◌∷◌, [], ℕ, List, length, true, unwrap_or, Some};
 ghost use Rattle.object_words.specs.declared.why.Why.{Why as WhyOf};
 ghost use Rattle.object_words.specs.Keys.{head_key, tail_key};
 ghost use Rattle.object_words.specs.Tails.{no_tail};
 ghost use Rattle.realm_model.specs.Maps.{slot_at, heads};
+ghost use Rattle.realm_model.specs.Accounts.{Decided};
+ghost use Rattle.realm_model.specs.Decisions.{Stands};
 ghost use Rattle.realm_model.specs.Settings.{SettingsView};
 ghost use Rattle.realm_model.specs.States.{State, Touch, number_next, clock_at, at_moment, touched};
 ghost use Rattle.realm_model.specs.Suits.{Suits};
@@ -115,4 +117,13 @@ pub fn an_own_event_is_done()
         ≡ done (doings_of settings history (actor_of e)) (heads history)
             (world_of settings history).stripes.made e.op e.reply
             (number_next (state_of settings history)) (clock_at (state_of settings history).clock e.moment) }
+{}
+
+/// The event that decides a reply stands in the history, with the slots of the bucket map just before
+/// and just after it.
+pub fn deciding_events_stand()
+    ensures decided { (settings : SettingsView) (history : List EventOf) (actor : ActorId) (d : Decided)
+        → (account_of settings history actor).decided ≡ Some d → Stands settings history actor d }
+    ensures source { (settings : SettingsView) (history : List EventOf) (actor : ActorId) (d : Decided)
+        → (account_of settings history actor).source ≡ Some d → Stands settings history actor d }
 {}
