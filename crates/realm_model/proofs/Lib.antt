@@ -12,3 +12,4 @@ pub mod MadeOnce
 pub mod SuitsLemmas
 pub mod Doing
 pub mod Deciding
+pub mod Minding

@@ -1,11 +1,12 @@
 //! Laws of the definitions: the functions here do nothing.
-ghost use Rattle.std.specs.Prelude.{◌≡◌, ◌<◌, ◌^◌, ◌++◌, ◌∷◌, [], ℕ, List, length, true, unwrap_or, Some};
+ghost use Rattle.std.specs.Prelude.{◌≡◌, ◌+◌, ◌<◌, ◌^◌, ◌++◌, ◌∷◌, [], ℕ, List, length, true, unwrap_or, Some};
 ghost use Rattle.object_words.specs.declared.why.Why.{Why as WhyOf};
 ghost use Rattle.object_words.specs.Keys.{head_key, tail_key};
 ghost use Rattle.object_words.specs.Tails.{no_tail};
 ghost use Rattle.realm_model.specs.Maps.{slot_at, heads};
 ghost use Rattle.realm_model.specs.Accounts.{Decided};
 ghost use Rattle.realm_model.specs.Decisions.{Stands};
+ghost use Rattle.realm_model.specs.Doors.{mine, NoneByPass};
 ghost use Rattle.realm_model.specs.Settings.{SettingsView};
 ghost use Rattle.realm_model.specs.States.{State, Touch, number_next, clock_at, at_moment, touched};
 ghost use Rattle.realm_model.specs.Suits.{Suits};
@@ -126,4 +127,11 @@ pub fn deciding_events_stand()
         → (account_of settings history actor).decided ≡ Some d → Stands settings history actor d }
     ensures source { (settings : SettingsView) (history : List EventOf) (actor : ActorId) (d : Decided)
         → (account_of settings history actor).source ≡ Some d → Stands settings history actor d }
+{}
+
+/// Events of other passes, and then an own one, add its number to those of the pass, and no other.
+pub fn a_step_adds_its_number()
+    ensures { (pass : ℕ) (seen between : List EventOf) (e : EventOf)
+        → NoneByPass pass between → e.pass ≡ pass
+        → mine pass ((seen ++ between) ++ e ∷ []) ≡ mine pass seen ++ (length (seen ++ between) + 1) ∷ [] }
 {}

@@ -19,7 +19,7 @@ pub use known::{
     stopped_writer_is_repaired, tails_are_read,
 };
 pub use laws::{
-    a_tail_is_made_once, an_own_event_is_done, deciding_events_stand, replies_suit_their_operations, an_event_touches_one_object, computed_histories_are_legal,
+    a_step_adds_its_number, a_tail_is_made_once, an_own_event_is_done, deciding_events_stand, replies_suit_their_operations, an_event_touches_one_object, computed_histories_are_legal,
     events_are_numbered, events_follow_from_the_history, maps_are_what_heads_hold,
     no_event_lowers_a_number, others_change_no_phase,
 };
