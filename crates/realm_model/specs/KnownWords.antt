@@ -18,12 +18,13 @@ use Rattle.object_words.specs.declared.shard.ShardStats.{ShardStats}
 use Rattle.object_words.specs.declared.shard.Hold.TheVariants.{Free}
 use Rattle.object_words.specs.Rows.{RowView}
 use Rattle.realm_model.specs.Settings.{SettingsView}
+use Rattle.realm_model.specs.Phases.{ActorId}
 use Rattle.object_words.specs.declared.why.Why.TheVariants.{Absent}
 use Rattle.object_words.specs.Keys.{shard_key}
 use Rattle.realm_model.specs.declared.op.Op.{Op}
-use Rattle.realm_model.specs.declared.op.Op.TheVariants.{BucketRead, BucketSwap, ShardMake}
+use Rattle.realm_model.specs.declared.op.Op.TheVariants.{BucketRead, BucketSwap, ShardMake, Prepare, Complete, HeadWrite, TailMake, Announce}
 use Rattle.realm_model.specs.declared.event.Reply.{Reply}
-use Rattle.realm_model.specs.declared.event.Reply.TheVariants.{Done, No, Row}
+use Rattle.realm_model.specs.declared.event.Reply.TheVariants.{Done, No, Row, Prepared, Changed as changed_reply, Position}
 use Rattle.realm_model.specs.declared.event.Event.{Event}
 
 -- an event of an actor of the first pass
@@ -184,3 +185,29 @@ xs_row size micros = row size micros (replicate 16 120)
 -- a page that shows no entry
 abbrev pub no_entries : ℕ → EntryPage
 no_entries clock = record { rows = []; end = true; clock = clock }
+
+-- a writer puts "hello" under k into a container that was made before, and comes to the change of the head
+abbrev pub hello_at_head : ℕ → List Event
+hello_at_head moment =
+    made 1 0 1
+    ++ reads 2 moment 1
+    ∷ by 2 moment (Prepare 1 shard k) (Prepared (guard 5 (moment + 120000000)))
+    ∷ by 2 moment (Announce 1 1 1 0 box) (Position 1)
+    ∷ by 2 moment (HeadWrite 1 1 k (guard 5 (moment + 120000000)) (hello 4) no_conditions)
+        (changed_reply (change 7 moment (hello_row moment) None))
+    ∷ []
+
+-- a writer puts the letters a to z under k into a container that was made before
+abbrev pub alphabet_put : List Event
+alphabet_put =
+    made 1 0 1
+    ++ reads 2 0 1
+    ∷ by 2 0 (TailMake 1 4 1 (codes "qrstuvwxyz")) Done
+    ∷ by 2 0 (Prepare 1 shard k) (Prepared (guard 6 120000000))
+    ∷ by 2 0 (Announce 1 1 1 0 box) (Position 1)
+    ∷ by 2 0 (HeadWrite 1 1 k (guard 6 120000000) (alphabet 4) no_conditions) (changed_reply (change 8 0 (alphabet_row 0) None))
+    ∷ by 2 0 (Complete 1 shard k 6 8 (alphabet_row 0)) Done
+    ∷ []
+
+abbrev pub actor : ℕ → ActorId
+actor count = record { pass = 1; count = count }

@@ -6,16 +6,12 @@ use Rattle.object_words.specs.Rows.{no_row}
 use Rattle.realm_model.specs.declared.op.Op.TheVariants.{Prepare, Announce, HeadWrite, Complete, Page, HeadRead, Suggest, Stats as stats_op}
 use Rattle.realm_model.specs.declared.event.Reply.TheVariants.{Done, No, Prepared, Position, Changed, Entries, Head as head_reply, Stats}
 use Rattle.realm_model.specs.declared.event.Event.{Event}
-use Rattle.realm_model.specs.KnownWords.{by, made, reads, shard, box, k, guard, tag, change, hello, hello_row, empty, empty_row, no_conditions, one_entry, shows, stats}
+use Rattle.realm_model.specs.KnownWords.{by, hello_at_head, reads, shard, box, k, guard, tag, change, hello, hello_row, empty, empty_row, no_conditions, one_entry, shows, stats}
 
 abbrev pub history : List Event
 history =
-    made 1 0 1
-    ++ reads 2 0 1
-    ∷ by 2 0 (Prepare 1 shard k) (Prepared (guard 5 120000000))
-    ∷ by 2 0 (Announce 1 1 1 0 box) (Position 1)
-    ∷ by 2 0 (HeadWrite 1 1 k (guard 5 120000000) (hello 4) no_conditions) (Changed (change 7 0 (hello_row 0) None))
-    ∷ reads 3 120000000 1
+    hello_at_head 0
+    ++ reads 3 120000000 1
     ∷ by 3 120000000 (Page 1 shard [] 1000) (Entries (one_entry k 0 1 no_row (tag 5 120000000 ∷ []) 120000000))
     ∷ by 3 120000000 (HeadRead 1 1 k) (head_reply (shows 7 (hello 4) 0) 120000000)
     ∷ reads 4 120000000 1

@@ -4,7 +4,7 @@ use Rattle.object_words.specs.declared.why.Why.TheVariants.{NoSpace}
 use Rattle.realm_model.specs.declared.op.Op.TheVariants.{Prepare, Announce, HeadWrite, Complete, Cancel, TailMake}
 use Rattle.realm_model.specs.declared.event.Reply.TheVariants.{Done, No, Prepared, Position, Changed}
 use Rattle.realm_model.specs.declared.event.Event.{Event}
-use Rattle.realm_model.specs.KnownWords.{by, made, reads, shard, box, k, guard, change, hex, content, alphabet, alphabet_row, no_conditions}
+use Rattle.realm_model.specs.KnownWords.{by, made, alphabet_put, reads, shard, box, k, guard, change, hex, content, alphabet, alphabet_row, no_conditions}
 
 -- one letter, in stripes of 16 bytes
 abbrev pub letter : Event
@@ -25,14 +25,8 @@ at_the_head =
 -- with two frames
 abbrev pub at_the_next : List Event
 at_the_next =
-    made 1 0 1
-    ++ reads 2 0 1
-    ∷ by 2 0 (TailMake 1 4 1 (codes "qrstuvwxyz")) Done
-    ∷ by 2 0 (Prepare 1 shard k) (Prepared (guard 6 120000000))
-    ∷ by 2 0 (Announce 1 1 1 0 box) (Position 1)
-    ∷ by 2 0 (HeadWrite 1 1 k (guard 6 120000000) (alphabet 4) no_conditions) (Changed (change 8 0 (alphabet_row 0) None))
-    ∷ by 2 0 (Complete 1 shard k 6 8 (alphabet_row 0)) Done
-    ∷ reads 3 0 1
+    alphabet_put
+    ++ reads 3 0 1
     ∷ by 3 0 (Prepare 1 shard (codes "a")) (Prepared (guard 11 120000000))
     ∷ by 3 0 (Announce 1 1 1 0 box) (Position 2)
     ∷ letter

@@ -3,16 +3,12 @@ use Rattle.std.specs.Prelude.{List, [], ◌∷◌, ◌++◌, None}
 use Rattle.realm_model.specs.declared.op.Op.TheVariants.{Prepare, Announce, HeadWrite, Complete, Stats as stats_op}
 use Rattle.realm_model.specs.declared.event.Reply.TheVariants.{Done, Prepared, Position, Changed, Stats}
 use Rattle.realm_model.specs.declared.event.Event.{Event}
-use Rattle.realm_model.specs.KnownWords.{by, made, reads, shard, box, k, guard, change, hello, hello_row, empty, empty_row, no_conditions, stats}
+use Rattle.realm_model.specs.KnownWords.{by, hello_at_head, reads, shard, box, k, guard, change, hello, hello_row, empty, empty_row, no_conditions, stats}
 
 abbrev pub history : List Event
 history =
-    made 1 0 1
-    ++ reads 2 0 1
-    ∷ by 2 0 (Prepare 1 shard k) (Prepared (guard 5 120000000))
-    ∷ by 2 0 (Announce 1 1 1 0 box) (Position 1)
-    ∷ by 2 0 (HeadWrite 1 1 k (guard 5 120000000) (hello 4) no_conditions) (Changed (change 7 0 (hello_row 0) None))
-    ∷ reads 3 0 1
+    hello_at_head 0
+    ++ reads 3 0 1
     ∷ by 3 0 (Prepare 1 shard k) (Prepared (guard 9 120000000))
     ∷ by 3 0 (Announce 1 1 1 0 box) (Position 2)
     ∷ by 3 0 (HeadWrite 1 1 k (guard 9 120000000) (empty 8) no_conditions) (Changed (change 11 1 (empty_row 1) None))

@@ -5,16 +5,12 @@ use Rattle.object_words.specs.Rows.{no_row}
 use Rattle.realm_model.specs.declared.op.Op.TheVariants.{Prepare, Announce, HeadWrite, Page, HeadRead, Suggest, Stats as stats_op}
 use Rattle.realm_model.specs.declared.event.Reply.TheVariants.{Done, Prepared, Position, Changed, Entries, Head as head_reply, Stats}
 use Rattle.realm_model.specs.declared.event.Event.{Event}
-use Rattle.realm_model.specs.KnownWords.{by, made, reads, shard, box, k, guard, tag, change, hello, hello_row, no_conditions, one_entry, shows, stats}
+use Rattle.realm_model.specs.KnownWords.{by, hello_at_head, reads, shard, box, k, guard, tag, change, hello, hello_row, no_conditions, one_entry, shows, stats}
 
 abbrev pub history : List Event
 history =
-    made 1 0 1
-    ++ reads 2 1000000 1
-    ∷ by 2 1000000 (Prepare 1 shard k) (Prepared (guard 5 121000000))
-    ∷ by 2 1000000 (Announce 1 1 1 0 box) (Position 1)
-    ∷ by 2 1000000 (HeadWrite 1 1 k (guard 5 121000000) (hello 4) no_conditions) (Changed (change 7 1000000 (hello_row 1000000) None))
-    ∷ reads 3 1000000 1
+    hello_at_head 1000000
+    ++ reads 3 1000000 1
     ∷ by 3 1000000 (Page 1 shard [] 1000) (Entries (one_entry k 0 1 no_row (tag 5 121000000 ∷ []) 1000000))
     ∷ by 3 1000000 (HeadRead 1 1 k) (head_reply (shows 7 (hello 4) 1000000) 1000000)
     ∷ reads 4 1000000 1

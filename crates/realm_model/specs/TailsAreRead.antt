@@ -5,18 +5,12 @@ use Rattle.object_words.specs.declared.head.EtagRule.TheVariants.{Any}
 use Rattle.realm_model.specs.declared.op.Op.TheVariants.{Prepare, Announce, HeadWrite, Complete, Cancel, HeadRead, TailMake, TailRead}
 use Rattle.realm_model.specs.declared.event.Reply.TheVariants.{Done, No, Prepared, Position, Changed, Bytes, Head as head_reply}
 use Rattle.realm_model.specs.declared.event.Event.{Event}
-use Rattle.realm_model.specs.KnownWords.{by, made, reads, shard, box, k, guard, stamp, change, alphabet, alphabet_row, no_conditions, shows}
+use Rattle.realm_model.specs.KnownWords.{by, alphabet_put, reads, shard, box, k, guard, stamp, change, alphabet, alphabet_row, no_conditions, shows}
 
 abbrev pub history : List Event
 history =
-    made 1 0 1
-    ++ reads 2 0 1
-    ∷ by 2 0 (TailMake 1 4 1 (codes "qrstuvwxyz")) Done
-    ∷ by 2 0 (Prepare 1 shard k) (Prepared (guard 6 120000000))
-    ∷ by 2 0 (Announce 1 1 1 0 box) (Position 1)
-    ∷ by 2 0 (HeadWrite 1 1 k (guard 6 120000000) (alphabet 4) no_conditions) (Changed (change 8 0 (alphabet_row 0) None))
-    ∷ by 2 0 (Complete 1 shard k 6 8 (alphabet_row 0)) Done
-    ∷ reads 3 0 1
+    alphabet_put
+    ++ reads 3 0 1
     ∷ by 3 0 (HeadRead 1 1 k) (head_reply (shows 8 (alphabet 4) 0) 0)
     ∷ by 3 0 (TailRead 1 4 1 3 4) (Bytes (codes "tuvw"))
     ∷ by 3 0 (TailRead 1 4 1 0 10) (Bytes (codes "qrstuvwxyz"))
