@@ -75,6 +75,15 @@ abbrev pub at_stage : Option OwnTag → Stage → Option OwnTag
 at_stage None stage = None
 at_stage (Some t) stage = Some (record t { stage = stage })
 
+-- a completion was answered Moved or Closed; the first such answer counts
+abbrev pub tried_from : Stage → ℕ → Stage
+tried_from (tried first) number = tried first
+tried_from stage number = tried number
+
+abbrev pub with_try : Option OwnTag → ℕ → Option OwnTag
+with_try None number = None
+with_try (Some t) number = Some (record t { stage = tried_from t.stage number })
+
 abbrev pub announced : Option OwnTag → ℕ → Key → Option OwnTag
 announced None zone key = None
 announced (Some t) zone key = Some (record t { announced = t.announced || (t.zone == zone && is_key t.key key) })
@@ -93,8 +102,8 @@ tag_after tag (Announce zone container instance shard bucket) (Position position
     announced tag zone (shard_key container instance shard)
 tag_after tag (HeadWrite zone container name guard new when) (Changed change) number =
     changed tag (record { version = change.version; row = change.row })
-tag_after tag (Complete zone key name t version row) (No (Moved instance)) number = at_stage tag (tried number)
-tag_after tag (Complete zone key name t version row) (No Closed) number = at_stage tag (tried number)
+tag_after tag (Complete zone key name t version row) (No (Moved instance)) number = with_try tag number
+tag_after tag (Complete zone key name t version row) (No Closed) number = with_try tag number
 tag_after tag (Complete zone key name t version row) reply number = at_stage tag over
 tag_after tag (Cancel zone key name t) reply number = at_stage tag over
 tag_after tag op reply number = tag

@@ -72,26 +72,24 @@ is_make p zone name new =
 -- the forms of a swap, by the row that was read and the new one
 abbrev pub is_form : Phase → ℕ → List ℕ → Option Bucket → Option Bucket → Bool
 is_form p zone name None (Some new) = is_make p zone name new
-is_form p zone name None None = false
-is_form p zone name (Some old) (Some new) = false
-is_form p zone name (Some old) None = false
+is_form p zone name old new = false
 
 -- ---- the own tag
 
-abbrev pub is_stage_open : Stage → Bool
-is_stage_open pending = true
-is_stage_open (tried number) = false
-is_stage_open over = false
+abbrev pub is_pending : Stage → Bool
+is_pending pending = true
+is_pending (tried number) = false
+is_pending over = false
 
-abbrev pub is_stage_over : Stage → Bool
-is_stage_over over = true
-is_stage_over pending = false
-is_stage_over (tried number) = false
+abbrev pub is_over : Stage → Bool
+is_over pending = false
+is_over (tried number) = false
+is_over over = true
 
 -- no tag stands in the way of a preparation
 abbrev pub has_no_tag : Option OwnTag → Bool
 has_no_tag None = true
-has_no_tag (Some t) = not (is_stage_open t.stage)
+has_no_tag (Some t) = not (is_pending t.stage)
 
 abbrev pub is_tag_of : OwnTag → ℕ → List ℕ → Bool
 is_tag_of t zone name = t.zone == zone && bytes_eq t.name name
@@ -112,7 +110,7 @@ is_shard_of_tag t rows key name = is_key t.key key || is_tried_again t rows key 
 abbrev pub may_change_head : Phase → ℕ → ℕ → List ℕ → Guard → Bool
 may_change_head p zone container name guard =
     is_so p.tag (λ t.
-    is_stage_open t.stage
+    is_pending t.stage
     && (t.announced
     && (not (is_some t.change)
     && (is_tag_of t zone name && (container_of t.key == container && same_guard t.guard guard)))))

@@ -28,7 +28,8 @@ pub record OwnChange : Type 0 where
   pub version : ℕ
   pub row : RowView
 
--- a tag is open; its completion was answered Moved or Closed by the event of this number, and may be tried again; it is over
+-- a tag is open; its completion was answered Moved or Closed, first by the event of this number, and may be tried again; it is
+-- over
 pub data Stage : Type 0 where
   pending : Stage
   tried : ℕ → Stage
