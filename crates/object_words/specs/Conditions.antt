@@ -12,10 +12,12 @@ meets rule None = false
 meets Any (Some etag) = true
 meets (OneOf etags) (Some etag) = list_any (bytes_eq (encode_lower etag)) etags
 
+-- If-Match fails where what is there does not meet it
 abbrev pub fails_match : Option EtagRule → Option (List ℕ) → Bool
 fails_match None etag = false
 fails_match (Some rule) etag = not (meets rule etag)
 
+-- If-None-Match fails where what is there meets it
 abbrev pub fails_none : Option EtagRule → Option (List ℕ) → Bool
 fails_none None etag = false
 fails_none (Some rule) etag = meets rule etag

@@ -4,6 +4,8 @@ use Rattle.object_words.specs.declared.entry.Tag.{Tag}
 use Rattle.object_words.specs.Numbers.{next}
 use Rattle.object_words.specs.Rows.{RowView, no_row}
 
+-- what a shard keeps of a name: the version of the change that the row is from, how often the entry changed, the row, and
+-- the changes under way
 pub record EntryView : Type 0 where
   pub version : ℕ
   pub revision : ℕ
@@ -14,6 +16,7 @@ pub record EntryView : Type 0 where
 abbrev pub no_entry : EntryView
 no_entry = record { version = 0; revision = 0; row = no_row; tags = [] }
 
+-- an absent entry counts as one that does not exist
 abbrev pub entry_of : Option EntryView → EntryView
 entry_of found = unwrap_or found no_entry
 

@@ -5,6 +5,7 @@ use Rattle.std.specs.Prelude.{ℕ, ◌+◌, ◌*◌, ◌/◌, ◌%◌, ◌^◌, 
 abbrev pub hash_step : ℕ → ℕ → ℕ
 hash_step hash byte = (hash + (byte * 16 + byte / 16)) * 11 % 2 ^ 64
 
+-- the hash of all bytes of a name
 abbrev pub hash_of : List ℕ → ℕ
 hash_of name = fold hash_step 0 name
 

@@ -22,6 +22,7 @@ use Rattle.object_words.specs.Refusals.{first_refusal, unless_refused}
 abbrev pub version_seen : Head → ℕ → ℕ
 version_seen head number = if head.version == 0 then number else head.version
 
+-- what a read of a head shows, by an event of this number
 abbrev pub seen : Head → ℕ → HeadSeen
 seen head number = record { version = version_seen head number; slot = head.slot }
 
@@ -41,6 +42,7 @@ space_refusal free needed = if nat_lt free needed then Some (NoSpace free needed
 
 -- ---- write
 
+-- the tag's life is over; then a condition fails; then there is no room
 abbrev pub write_refusal : Head → Guard → NewHead → Conditions → ℕ → ℕ → ℕ → Option Why
 write_refusal head guard new when clock free frame =
     first_refusal (guard_refusal guard clock)
@@ -50,6 +52,7 @@ write_refusal head guard new when clock free frame =
 abbrev pub stamp_next : Head → ℕ → ℕ → Stamp
 stamp_next head zone clock = stamp_above (seen_stamp head.slot) clock zone
 
+-- the head with the new content, under the next stamp
 abbrev pub written : Head → Guard → NewHead → Conditions → ℕ → ℕ → ℕ → ℕ → ℕ → Head
 written head guard new when zone number clock free frame =
     unless_refused (write_refusal head guard new when clock free frame) head

@@ -17,11 +17,13 @@ pub record Head : Type 0 where
 abbrev pub no_head : Head
 no_head = record { version = 0; slot = Nothing }
 
+-- the stamp of the last change, if there was one
 abbrev pub seen_stamp : SeenSlot → Option Stamp
 seen_stamp Nothing = None
 seen_stamp (Live new stamp) = Some stamp
 seen_stamp (Mark stamp) = Some stamp
 
+-- there is an object
 abbrev pub is_live : SeenSlot → Bool
 is_live (Live new stamp) = true
 is_live slot = false

@@ -9,6 +9,7 @@ use Rattle.rgw_types.specs.contracts.pool_key.KeyOrd.TheImpl as key_order
 abbrev pub is_key : Key → Key → Bool
 is_key key = is_at ((key_order.ghosts).cmp key)
 
+-- the key is that of a shard
 abbrev pub is_shard_key : Key → Bool
 is_shard_key (Shard container instance shard) = true
 is_shard_key key = false
@@ -28,12 +29,15 @@ abbrev pub number_of : Key → ℕ
 number_of (Shard container instance shard) = shard
 number_of key = 0
 
+-- the shard of this number of an instance of a container
 abbrev pub shard_key : ℕ → ℕ → ℕ → Key
 shard_key container instance shard = Shard container instance shard
 
+-- the head of a name in a container
 abbrev pub head_key : ℕ → List ℕ → Key
 head_key container name = Head container name
 
+-- the tail of this number of a write
 abbrev pub tail_key : ℕ → ℕ → Key
 tail_key write part = Tail write part
 

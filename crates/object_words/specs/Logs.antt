@@ -10,6 +10,7 @@ pub record Log : Type 0 where
   pub rows : List LogRow
   pub last : ℕ
 
+-- a log that has no row yet
 abbrev pub no_log : Log
 no_log = record { rows = []; last = 0 }
 

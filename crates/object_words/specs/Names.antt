@@ -6,9 +6,11 @@ use Rattle.std.specs.declared.cmp.Ordering.{Ordering}
 use Rattle.std.specs.Cmp.Lexicographic.{slice_cmp, nat_list_cmp_total}
 use Rattle.std.specs.FinMap.Entries.{find, put, where_key, is_sorted, is_sorted-put, is_sorted-where_key}
 
+-- the order of names, byte by byte
 abbrev pub name_cmp : List ℕ → List ℕ → Ordering
 name_cmp = slice_cmp nat_cmp
 
+-- what is under each name, in the order of the names
 pub record Named (X : Type 0) : Type 0 where
   pub list : List (List ℕ × X)
   pub sorted : T (is_sorted name_cmp list)

@@ -1,6 +1,7 @@
 -- Sums that stop at the end of 64 bits; in a legal history none comes so far.
 use Rattle.std.specs.Prelude.{ℕ, ◌+◌, ◌-◌, ◌^◌, min}
 
+-- the greatest number of 64 bits
 abbrev pub greatest : ℕ
 greatest = 2 ^ 64 - 1
 

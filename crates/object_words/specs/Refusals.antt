@@ -8,6 +8,7 @@ use Rattle.object_words.specs.declared.shard.Fate.{Fate}
 use Rattle.object_words.specs.declared.shard.Fate.TheVariants as Fates
 use Rattle.object_words.specs.Shards.{Shard}
 
+-- of two reasons the first
 abbrev pub first_refusal : Option Why → Option Why → Option Why
 first_refusal None next = next
 first_refusal (Some why) next = Some why

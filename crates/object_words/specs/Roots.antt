@@ -10,10 +10,12 @@ use Rattle.object_words.specs.Names.{Named, none, at, with_name, without_name}
 use Rattle.object_words.specs.Logs.{Log, no_log, logged}
 use Rattle.object_words.specs.Refusals.{unless_refused}
 
+-- the rows of a zone's containers by name, and the log of their changes
 pub record Root : Type 0 where
   pub buckets : Named Bucket
   pub log : Log
 
+-- a zone that has no container yet
 abbrev pub no_root : Root
 no_root = record { buckets = none; log = no_log }
 
@@ -22,6 +24,7 @@ abbrev pub version_of : Option Bucket → ℕ
 version_of None = 0
 version_of (Some row) = row.version
 
+-- the same name and the same value
 abbrev pub is_same_pair : List ℕ × List ℕ → List ℕ × List ℕ → Bool
 is_same_pair p q = bytes_eq p.0 q.0 && bytes_eq p.1 q.1
 
@@ -38,6 +41,7 @@ abbrev pub changes_shared : Option Bucket → Bucket → Bool
 changes_shared None new = true
 changes_shared (Some old) new = not (shares_all old new)
 
+-- the number under which the shared part of the kept row is known
 abbrev pub kept_shared : Option Bucket → ℕ
 kept_shared None = 0
 kept_shared (Some old) = old.shared
@@ -47,6 +51,7 @@ abbrev pub shared_after : Option Bucket → Bucket → Bool → ℕ → ℕ
 shared_after kept new master number =
     if master then (if changes_shared kept new then number else kept_shared kept) else new.shared
 
+-- the new row, with its numbers
 abbrev pub stored : Option Bucket → Bucket → Bool → ℕ → Bucket
 stored kept new master number = record new { version = number; shared = shared_after kept new master number }
 
@@ -55,10 +60,12 @@ abbrev pub is_logged : Option Bucket → Option Bucket → Bool
 is_logged kept (Some new) = changes_shared kept new
 is_logged kept None = is_some kept
 
+-- the row under the name, or none
 abbrev pub with_bucket : Named Bucket → List ℕ → Option Bucket → Named Bucket
 with_bucket buckets name (Some row) = with_name buckets name row
 with_bucket buckets name None = without_name buckets name
 
+-- what the swap leaves of the row: the new one with its numbers, or none
 abbrev pub stored_or_none : Option Bucket → Option Bucket → Bool → ℕ → Option Bucket
 stored_or_none kept (Some new) master number = Some (stored kept new master number)
 stored_or_none kept None master number = None
@@ -70,6 +77,7 @@ abbrev pub swap_refusal : Root → List ℕ → ℕ → Option Why
 swap_refusal root name expected =
     let version = version_of (at root.buckets name) in if version == expected then None else Some (Raced version)
 
+-- the row is swapped for the new one, and zone 1 logs it
 abbrev pub swapped : Root → List ℕ → ℕ → Option Bucket → Bool → ℕ → Root
 swapped root name expected new master number =
     let kept = at root.buckets name in

@@ -3,6 +3,7 @@ use Rattle.std.specs.Prelude.{◌≡◌, ◌≤◌, ℕ, Bool, false, List, [], 
 use Rattle.rgw_model.specs.declared.stamp.Stamp.{Stamp}
 use Rattle.object_words.specs.Limits.{media_type_limit}
 
+-- whether the object exists, with its size, stamp, digest and type
 pub record RowView : Type 0 where
   pub exists : Bool
   pub size : ℕ

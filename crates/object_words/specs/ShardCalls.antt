@@ -24,9 +24,11 @@ made (Some s) = Some s
 
 -- ---- prepare
 
+-- the shard takes no change
 abbrev pub prepare_refusal : Shard → Option Why
 prepare_refusal s = change_refusal s
 
+-- the entry has one tag more; a name that has no entry gets one
 abbrev pub prepared : Shard → List ℕ → Tag → Shard
 prepared s name tag =
     let e = entry_at s name in unless_refused (prepare_refusal s) s (with_entry s name (with_tags e (with_tag tag e.tags)))
@@ -47,13 +49,16 @@ settled s name tags version row =
 abbrev pub tag_refusal : EntryView → ℕ → Option Why
 tag_refusal e tag = if has_tag tag e.tags then None else Some NoTag
 
+-- the shard takes no change; then the tag is not there
 abbrev pub complete_refusal : Shard → List ℕ → ℕ → Option Why
 complete_refusal s name tag = first_refusal (change_refusal s) (tag_refusal (entry_at s name) tag)
 
+-- the tag is gone, and the row is stored where its version is greater
 abbrev pub completed : Shard → List ℕ → ℕ → ℕ → RowView → Shard
 completed s name tag version row =
     unless_refused (complete_refusal s name tag) s (settled s name (without_tag tag (entry_at s name).tags) version row)
 
+-- the tag is gone, and nothing is stored
 abbrev pub cancelled : Shard → List ℕ → ℕ → Shard
 cancelled s name tag =
     let e = entry_at s name in
@@ -63,6 +68,7 @@ cancelled s name tag =
 abbrev pub stale_refusal : EntryView → ℕ → Option Why
 stale_refusal e revision = if e.revision == revision then None else Some (Stale e.revision)
 
+-- the shard takes no change; then the entry changed since it was seen
 abbrev pub suggest_refusal : Shard → List ℕ → ℕ → Option Why
 suggest_refusal s name revision = first_refusal (change_refusal s) (stale_refusal (entry_at s name) revision)
 

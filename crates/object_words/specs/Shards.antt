@@ -11,6 +11,7 @@ use Rattle.object_words.specs.Numbers.{greatest}
 use Rattle.object_words.specs.Entries.{EntryView, entry_of, is_kept}
 use Rattle.object_words.specs.Logs.{Log, no_log}
 
+-- entries by name, whether it takes changes, what became of it, and the log of its changes
 pub record Shard : Type 0 where
   pub entries : Named EntryView
   pub hold : Hold
@@ -35,6 +36,7 @@ entry_at s name = entry_of (at s.entries name)
 abbrev pub with_entry : Shard → List ℕ → EntryView → Shard
 with_entry s name e = record s { entries = if is_kept e then with_name s.entries name e else without_name s.entries name }
 
+-- a sum over the values of a list of pairs
 abbrev pub total : {K X : Type 0} → (X → ℕ) → List (K × X) → ℕ
 total f [] = 0
 total f (e ∷ es) = f e.1 + total f es
@@ -43,12 +45,15 @@ total f (e ∷ es) = f e.1 + total f es
 abbrev pub sum_over : (EntryView → ℕ) → Shard → ℕ
 sum_over f s = total f (entries s.entries)
 
+-- an entry whose object exists counts as one
 abbrev pub object_count : EntryView → ℕ
 object_count e = if e.row.exists then 1 else 0
 
+-- an object that exists counts with its size
 abbrev pub byte_count : EntryView → ℕ
 byte_count e = if e.row.exists then e.row.size else 0
 
+-- an entry counts with its tags
 abbrev pub tag_count : EntryView → ℕ
 tag_count e = length e.tags
 

@@ -19,6 +19,7 @@ tags_rise [] = true
 tags_rise (t ∷ []) = true
 tags_rise (t ∷ u ∷ ts) = nat_lt t.tag u.tag && tags_rise (u ∷ ts)
 
+-- the tag of this number is there
 abbrev pub has_tag : ℕ → List Tag → Bool
 has_tag tag tags = list_any (λ t. t.tag == tag) tags
 
@@ -26,6 +27,7 @@ has_tag tag tags = list_any (λ t. t.tag == tag) tags
 abbrev pub with_tag : Tag → List Tag → List Tag
 with_tag t tags = tags ++ t ∷ []
 
+-- the tags without the one of this number
 abbrev pub without_tag : ℕ → List Tag → List Tag
 without_tag tag [] = []
 without_tag tag (t ∷ ts) = if t.tag == tag then ts else (t ∷ without_tag tag ts)
@@ -34,6 +36,7 @@ without_tag tag (t ∷ ts) = if t.tag == tag then ts else (t ∷ without_tag tag
 abbrev pub is_due : ℕ → Tag → Bool
 is_due moment t = nat_le t.deadline moment
 
+-- some tag is due at the moment
 abbrev pub has_due : ℕ → List Tag → Bool
 has_due moment tags = list_any (is_due moment) tags
 

@@ -6,6 +6,7 @@ use Rattle.object_words.specs.Heads.{frames_for}
 use Rattle.object_words.specs.HeadCalls.{space_refusal}
 use Rattle.object_words.specs.Refusals.{unless_refused}
 
+-- the bytes of a stripe
 pub record Tail : Type 0 where
   pub bytes : List ℕ
 
@@ -13,19 +14,23 @@ pub record Tail : Type 0 where
 abbrev pub no_tail : Tail
 no_tail = record { bytes = [] }
 
+-- a tail that is there has bytes
 abbrev pub is_there : Tail → Bool
 is_there tail = not (length tail.bytes == 0)
 
 -- ---- make
 
+-- there is no room for the bytes
 abbrev pub tail_refusal : List ℕ → ℕ → ℕ → Option Why
 tail_refusal bytes free frame = space_refusal free (frames_for frame bytes)
 
+-- the tail with these bytes
 abbrev pub tail_made : Tail → List ℕ → ℕ → ℕ → Tail
 tail_made tail bytes free frame = unless_refused (tail_refusal bytes free frame) tail (record { bytes = bytes })
 
 -- ---- read
 
+-- the tail is not there
 abbrev pub read_refusal : Tail → ℕ → Option Why
 read_refusal tail clock = if is_there tail then None else Some (Gone clock)
 

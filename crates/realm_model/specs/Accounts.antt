@@ -41,6 +41,7 @@ pub record MovedCount : Type 0 where
   pub count : ℕ
   pub last : ℕ
 
+-- a tag's deadline that had passed, and the clock, at the event of this number
 pub record Lateness : Type 0 where
   pub number : ℕ
   pub deadline : ℕ
@@ -64,6 +65,7 @@ pub record SpaceWanted : Type 0 where
   pub free : ℕ
   pub needed : ℕ
 
+-- what an actor's own events were answered, in numbers
 pub record Account : Type 0 where
   -- how many events the actor made
   pub events : ℕ
@@ -81,6 +83,7 @@ pub record Account : Type 0 where
   pub held : Option HoldMet
   pub wanted : Option SpaceWanted
 
+-- an actor that made no event
 abbrev pub blank : Account
 blank = record {
   events = 0;
@@ -97,6 +100,7 @@ blank = record {
 
 -- ---- bucket reads
 
+-- each own bucket read is the last one
 abbrev pub looked_after : Option Looked → Op → Reply → ℕ → Option Looked
 looked_after looked (BucketRead zone name) (Row row) number =
     Some (record { zone = zone; name = name; row = Some row; number = number })
@@ -119,9 +123,11 @@ decided_at y number clock zone container name before after = record {
   after = after;
 }
 
+-- the slot of a name in a bucket map, with all its bytes
 abbrev pub slot_now : Maps → Made → ℕ → ℕ → List ℕ → Slot
 slot_now maps made zone container name = whole_slot made zone (slot_at (maps zone container) name)
 
+-- an own read of a head decides, and so does a change of one, also one that was refused, but for Expired
 abbrev pub decided_after : Account → Maps → Made → Op → Reply → ℕ → ℕ → Option Decided
 decided_after y maps made (HeadRead zone container name) (head_reply head shown_at) number clock =
     let slot = slot_now maps made zone container name in Some (decided_at y number clock zone container name slot slot)
@@ -133,6 +139,7 @@ decided_after y maps made (HeadWrite zone container name guard new when) (No why
     let slot = slot_now maps made zone container name in Some (decided_at y number clock zone container name slot slot)
 decided_after y maps made op reply number clock = y.decided
 
+-- an own read of a head that shows an object decides what a copy has
 abbrev pub source_after : Account → Maps → Made → Op → Reply → ℕ → ℕ → Option Decided
 source_after y maps made (HeadRead zone container name) (head_reply head shown_at) number clock =
     let slot = slot_now maps made zone container name in
@@ -141,10 +148,12 @@ source_after y maps made op reply number clock = y.source
 
 -- ---- counts
 
+-- head changes that were answered Changed
 abbrev pub changes_after : ℕ → Op → Reply → ℕ
 changes_after n (HeadWrite zone container name guard new when) (Changed change) = n + 1
 changes_after n op reply = n
 
+-- completions after which a request may succeed
 abbrev pub completes_after : ℕ → Op → Reply → ℕ
 completes_after n (Complete zone key name tag version row) Done = n + 1
 completes_after n (Complete zone key name tag version row) (No NoTag) = n + 1
@@ -160,11 +169,13 @@ has_shard key row = row.id == container_of key && (row.instance == instance_of k
 abbrev pub looked_since : Option Looked → ℕ → ℕ → Key → Bool
 looked_since looked last zone key = is_so looked (λ l. nat_lt last l.number && (l.zone == zone && is_so l.row (has_shard key)))
 
+-- the shard no longer serves
 abbrev pub is_left : Reply → Bool
 is_left (No (Moved instance)) = true
 is_left (No Closed) = true
 is_left reply = false
 
+-- an answer Moved or Closed counts where the shard was named since the one before
 abbrev pub moved_at : MovedCount → Option Looked → ℕ → Key → Reply → ℕ → MovedCount
 moved_at m looked zone key reply number =
     if is_left reply
@@ -180,11 +191,13 @@ moved_after m looked (Page zone key after limit) reply number = moved_at m looke
 moved_after m looked (Stats zone key) reply number = moved_at m looked zone key reply number
 moved_after m looked op reply number = m
 
+-- nothing but an announcement came since the preparation
 abbrev pub is_straight : Bool → Op → Reply → Bool
 is_straight straight (Prepare zone key name) (Prepared guard) = true
 is_straight straight (Announce zone container instance shard bucket) reply = straight
 is_straight straight op reply = false
 
+-- an answer Expired counts where it came straight after the preparation
 abbrev pub late_at : ExpiredCount → Reply → ℕ → ExpiredCount
 late_at x (No (Expired deadline clock)) number = record {
   count = if x.straight then x.count + 1 else x.count;
@@ -193,21 +206,26 @@ late_at x (No (Expired deadline clock)) number = record {
 }
 late_at x reply number = x
 
+-- a head change may be answered Expired
 abbrev pub lateness_after : ExpiredCount → Op → Reply → ℕ → ExpiredCount
 lateness_after x (HeadWrite zone container name guard new when) reply number = late_at x reply number
 lateness_after x op reply number = x
 
+-- answers Expired, and whether the next one counts
 abbrev pub expired_after : ExpiredCount → Op → Reply → ℕ → ExpiredCount
 expired_after x op reply number = record (lateness_after x op reply number) { straight = is_straight x.straight op reply }
 
+-- the last hold that an own preparation met
 abbrev pub held_after : Option HoldMet → Op → Reply → ℕ → Option HoldMet
 held_after held (Prepare zone key name) (No (Held id)) number = Some (record { number = number; id = id })
 held_after held op reply number = held
 
+-- the frames that were wanted
 abbrev pub wanted_at : Option SpaceWanted → Reply → ℕ → Option SpaceWanted
 wanted_at wanted (No (NoSpace free needed)) number = Some (record { number = number; free = free; needed = needed })
 wanted_at wanted reply number = wanted
 
+-- the last want of frames of an own head change or tail
 abbrev pub wanted_after : Option SpaceWanted → Op → Reply → ℕ → Option SpaceWanted
 wanted_after wanted (HeadWrite zone container name guard new when) reply number = wanted_at wanted reply number
 wanted_after wanted (TailMake zone write part bytes) reply number = wanted_at wanted reply number

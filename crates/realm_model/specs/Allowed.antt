@@ -15,6 +15,7 @@ use Rattle.realm_model.specs.declared.op.Op.TheVariants.{BucketRead, BucketSwap,
 abbrev pub page_limit : ℕ
 page_limit = 1000
 
+-- what an operation needs of its actor's phase
 abbrev pub meets_need : SettingsView → Phase → Op → Bool
 meets_need settings p (BucketRead zone name) = true
 meets_need settings p (BucketSwap zone name expected new) =

@@ -12,10 +12,12 @@ use Rattle.object_words.specs.Shards.{Shard, entry_at}
 use Rattle.realm_model.specs.States.{State}
 use Rattle.realm_model.specs.Facts.{Home, RowFacts}
 
+-- a row of this container, not of another of its name
 abbrev pub with_id : Option Bucket → ℕ → Option Bucket
 with_id None container = None
 with_id (Some row) container = if row.id == container then Some row else None
 
+-- the row under the name that zone 1 gave
 abbrev pub row_at_home : Option Home → State → ℕ → ℕ → Option Bucket
 row_at_home None st zone container = None
 row_at_home (Some home) st zone container = with_id (at (st.root zone).buckets home.name) container
@@ -32,6 +34,7 @@ is_standing rows st container = is_some (row_in rows st 1 container)
 abbrev pub key_of_name : Bucket → List ℕ → Key
 key_of_name row name = shard_key row.id row.instance (shard_of name row.shards)
 
+-- what a shard has of a name; a shard that was never made has nothing
 abbrev pub entry_in : Option Shard → List ℕ → EntryView
 entry_in None name = no_entry
 entry_in (Some s) name = entry_at s name

@@ -4,6 +4,7 @@ use Rattle.std.specs.List.{AllByRecursion, enumerate_from}
 use Rattle.realm_model.specs.Phases.{ActorId}
 use Rattle.realm_model.specs.declared.event.Event.{Event}
 
+-- what a door tells of itself
 pub record DoorView : Type 0 where
   pub pass : ℕ
   -- the number of the present actor among those of the pass, and whether it made an event
@@ -11,6 +12,7 @@ pub record DoorView : Type 0 where
   pub used : Bool
   pub seen : List Event
 
+-- who acts through the door now
 abbrev pub actor_at : DoorView → ActorId
 actor_at d = record { pass = d.pass; count = d.count }
 

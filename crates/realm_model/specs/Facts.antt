@@ -17,6 +17,7 @@ pub record TagNote : Type 0 where
   pub change : Option OwnChange
   pub ended : Bool
 
+-- facts of tags and of the last changes under them
 pub record IndexFacts : Type 0 where
   -- by number: a preparation adds it, a head change gives it its change, a cancel or a completion that was not answered
   -- Moved or Closed ends it
@@ -39,6 +40,7 @@ pub record Instance : Type 0 where
   pub number : ℕ
   pub state : InstanceState
 
+-- facts of containers and of the instances of their index
 pub record RowFacts : Type 0 where
   -- by container: the swap that makes its row in zone 1
   pub homes : ℕ → Option Home
@@ -60,6 +62,7 @@ pub record Ledger : Type 0 where
   pub count : ℕ
   pub place : Place
 
+-- facts of stripes and of who made what
 pub record StripeFacts : Type 0 where
   -- by zone, write and holder: a tail that is made counts; a head change moves the tails that it names and replaces
   pub ledger : ℕ → ℕ → ℕ → Ledger
@@ -68,6 +71,7 @@ pub record StripeFacts : Type 0 where
   -- who made the event of each number
   pub by : ℕ → ActorId
 
+-- facts of the stamps that were given
 pub record StampFacts : Type 0 where
   -- by container, name and stamp: the slot that a local head change left with that stamp
   pub slots : ℕ → List ℕ → Stamp → Option Slot

@@ -13,21 +13,26 @@ use Rattle.realm_model.specs.declared.op.Op.{Op}
 use Rattle.realm_model.specs.declared.event.Reply.{Reply}
 use Rattle.realm_model.specs.declared.event.Event.{Event}
 
+-- what events leave, one after another
 abbrev pub run : SettingsView → World → List Event → World
 run settings w [] = w
 run settings w (e ∷ es) = run settings (happens settings w e) es
 
 -- ---- what a history leaves
 
+-- all that a history leaves
 abbrev pub world_of : SettingsView → List Event → World
 world_of settings history = run settings (start settings) history
 
+-- the objects that a history leaves
 abbrev pub state_of : SettingsView → List Event → State
 state_of settings history = (world_of settings history).state
 
+-- what an actor knows after a history
 abbrev pub phase_of : SettingsView → List Event → ActorId → Phase
 phase_of settings history actor = (world_of settings history).phases actor
 
+-- what an actor's events came to in a history
 abbrev pub account_of : SettingsView → List Event → ActorId → Account
 account_of settings history actor = (world_of settings history).accounts actor
 
@@ -36,6 +41,7 @@ pub record Doings : Type 0 where
   pub phase : Phase
   pub account : Account
 
+-- an actor's doings in a history
 abbrev pub doings_of : SettingsView → List Event → ActorId → Doings
 doings_of settings history actor = record { phase = phase_of settings history actor; account = account_of settings history actor }
 
@@ -50,6 +56,7 @@ done d maps made op reply number clock = record {
 abbrev pub answer_in : SettingsView → World → Op → ℕ → Reply
 answer_in settings w op moment = reply_of settings (at_moment w.state moment) op
 
+-- what an operation at a moment is answered after a history
 abbrev pub answer_after : SettingsView → List Event → Op → ℕ → Reply
 answer_after settings history op moment = answer_in settings (world_of settings history) op moment
 
@@ -60,6 +67,7 @@ pub record IsNext (settings : SettingsView) (w : World) (e : Event) : Type 0 whe
   pub may : allowed settings (w.phases (actor_of e)) e.op ≡ true
   pub answer : e.reply ≡ answer_in settings w e.op e.moment
 
+-- each event is one that may come next
 abbrev pub LegalFrom : SettingsView → World → List Event → Type 0
 LegalFrom settings w [] = Unit {0}
 LegalFrom settings w (e ∷ es) = IsNext settings w e × LegalFrom settings (happens settings w e) es
@@ -75,9 +83,11 @@ abbrev pub answers_from : SettingsView → World → List Event → List Event
 answers_from settings w [] = []
 answers_from settings w (e ∷ es) = record e { reply = answer_in settings w e.op e.moment } ∷ answers_from settings (happens settings w e) es
 
+-- the history with the answers of the step from the start
 abbrev pub with_answers : SettingsView → List Event → List Event
 with_answers settings history = answers_from settings (start settings) history
 
+-- each actor may make its event
 abbrev pub all_allowed_from : SettingsView → World → List Event → Bool
 all_allowed_from settings w [] = true
 all_allowed_from settings w (e ∷ es) =
@@ -87,6 +97,7 @@ all_allowed_from settings w (e ∷ es) =
 abbrev pub all_allowed : SettingsView → List Event → Bool
 all_allowed settings history = all_allowed_from settings (start settings) history
 
+-- the number of the first event that its actor may not make, counted from this number; 0 where there is none
 abbrev pub refused_from : SettingsView → World → List Event → ℕ → ℕ
 refused_from settings w [] number = 0
 refused_from settings w (e ∷ es) number =

@@ -57,12 +57,15 @@ usual = set_to 4194304 4096 16384 120000000
 abbrev pub small : ℕ → SettingsView
 small frames = set_to 16 16 frames 120000000
 
+-- the container's name
 abbrev pub box : List ℕ
 box = codes "box"
 
+-- the object's name
 abbrev pub k : List ℕ
 k = codes "k"
 
+-- the type of what is put without one
 abbrev pub plain : List ℕ
 plain = codes "application/octet-stream"
 
@@ -88,21 +91,27 @@ bucket id version shards = record {
   writers = [];
 }
 
+-- the guard of a tag with this number and deadline
 abbrev pub guard : ℕ → ℕ → Guard
 guard tag deadline = record { tag = tag; deadline = deadline }
 
+-- the tag with this number and deadline
 abbrev pub tag : ℕ → ℕ → Tag
 tag number deadline = record { tag = number; deadline = deadline }
 
+-- the stamp of a moment in zone 1
 abbrev pub stamp : ℕ → Stamp
 stamp micros = record { micros = micros; zone = 1 }
 
+-- the row of an object of this size, stamped in zone 1
 abbrev pub row : ℕ → ℕ → List ℕ → RowView
 row size micros etag = record { exists = true; size = size; stamp = stamp micros; etag = etag; kind = plain }
 
+-- where the bytes of an object are
 abbrev pub manifest : ℕ → ℕ → ℕ → ManifestView
 manifest write stripe size = record { write = write; stripe = stripe; size = size }
 
+-- what a head gets: where the bytes are, the first of them, and the digest
 abbrev pub content : ℕ → ℕ → ℕ → List ℕ → List ℕ → NewHead
 content write stripe size first etag = record {
   manifest = manifest write stripe size;
@@ -112,12 +121,15 @@ content write stripe size first etag = record {
   etag = etag;
 }
 
+-- what a change in zone 1 is told to have left
 abbrev pub change : ℕ → ℕ → RowView → Option ManifestView → Changed
 change version micros row old = record { version = version; stamp = stamp micros; row = row; old = old }
 
+-- the header of a shard that is free
 abbrev pub stats : ℕ → ℕ → ℕ → ShardStats
 stats objects bytes tags = record { objects = objects; bytes = bytes; tags = tags; hold = Free; fence = 0 }
 
+-- no condition
 abbrev pub no_conditions : Conditions
 no_conditions = record { matches = None; none = None; modified = None; unmodified = None }
 
@@ -209,5 +221,6 @@ alphabet_put =
     ∷ by 2 0 (Complete 1 shard k 6 8 (alphabet_row 0)) Done
     ∷ []
 
+-- an actor of the first pass
 abbrev pub actor : ℕ → ActorId
 actor count = record { pass = 1; count = count }

@@ -27,6 +27,7 @@ use Rattle.realm_model.specs.declared.event.Reply.TheVariants.{Done, No, Row, Pr
 
 -- ---- the first event
 
+-- the first event stays the first
 abbrev pub first_after : Option FirstEvent → ℕ → ℕ → Option FirstEvent
 first_after None number clock = Some (record { number = number; clock = clock })
 first_after (Some first) number clock = Some first
@@ -40,6 +41,7 @@ row_known rows name = is_read (at rows name) where
   is_read None = None
   is_read (Some read) = read.row
 
+-- a row was shown, or none, by the event of this number
 abbrev pub with_read : (ℕ → Named RowRead) → ℕ → List ℕ → Option Bucket → ℕ → ℕ → Named RowRead
 with_read rows zone name row number = put rows zone (with_name (rows zone) name (record { row = row; at = number }))
 
@@ -47,6 +49,7 @@ with_read rows zone name row number = put rows zone (with_name (rows zone) name 
 abbrev pub left_by_swap : (ℕ → Named RowRead) → ℕ → List ℕ → Option Bucket → ℕ → Option Bucket
 left_by_swap rows zone name new number = stored_or_none (row_known (rows zone) name) new (is_master zone) number
 
+-- own bucket reads show rows, and own swaps leave them
 abbrev pub rows_after : (ℕ → Named RowRead) → Op → Reply → ℕ → ℕ → Named RowRead
 rows_after rows (BucketRead zone name) (Row row) number = with_read rows zone name (Some row) number
 rows_after rows (BucketRead zone name) (No why) number = with_read rows zone name None number
@@ -56,21 +59,25 @@ rows_after rows op reply number = rows
 
 -- ---- instances
 
+-- the row names its instance, with so many shards
 abbrev pub with_named : (ℕ → ℕ → ℕ → Option ℕ) → ℕ → Option Bucket → ℕ → ℕ → ℕ → Option ℕ
 with_named named zone None = named
 with_named named zone (Some row) =
     put named zone (put (named zone) row.id (put (named zone row.id) row.instance (Some row.shards)))
 
+-- each row that is shown or left names its instance
 abbrev pub named_after : (ℕ → ℕ → ℕ → Option ℕ) → Op → Reply → ℕ → ℕ → ℕ → Option ℕ
 named_after named (BucketRead zone name) (Row row) = with_named named zone (Some row)
 named_after named (BucketSwap zone name expected new) Done = with_named named zone new
 named_after named op reply = named
 
+-- an own read named the shard
 abbrev pub is_named : (ℕ → ℕ → ℕ → Option ℕ) → ℕ → Key → Bool
 is_named named zone key = is_so (named zone (container_of key) (instance_of key)) (λ shards. nat_lt (number_of key) shards)
 
 -- ---- the own tag
 
+-- the tag at another stage
 abbrev pub at_stage : Option OwnTag → Stage → Option OwnTag
 at_stage None stage = None
 at_stage (Some t) stage = Some (record t { stage = stage })
@@ -80,14 +87,17 @@ abbrev pub tried_from : Stage → ℕ → Stage
 tried_from (tried first) number = tried first
 tried_from stage number = tried number
 
+-- the tag may be tried again
 abbrev pub with_try : Option OwnTag → ℕ → Option OwnTag
 with_try None number = None
 with_try (Some t) number = Some (record t { stage = tried_from t.stage number })
 
+-- an announcement of the tag's shard announces it
 abbrev pub announced : Option OwnTag → ℕ → Key → Option OwnTag
 announced None zone key = None
 announced (Some t) zone key = Some (record t { announced = t.announced || (t.zone == zone && is_key t.key key) })
 
+-- the change that was made under the tag
 abbrev pub changed : Option OwnTag → OwnChange → Option OwnTag
 changed None change = None
 changed (Some t) change = Some (record t { change = Some change })
@@ -115,10 +125,12 @@ abbrev pub sighted : ℕ → Option EntryView → Option Sighting → Option Sig
 sighted clock None old = old
 sighted clock (Some e) old = if has_due clock e.tags then Some (record { entry = e; moment = clock; head = None }) else old
 
+-- what the head showed after the entry was seen
 abbrev pub with_head : OwnChange → Option Sighting → Option Sighting
 with_head head None = None
 with_head head (Some s) = Some (record s { head = Some head })
 
+-- own pages show entries, if an own read named the shard; own head reads after them show heads
 abbrev pub seen_after : (ℕ → Key → List ℕ → Option Sighting) → (ℕ → ℕ → ℕ → Option ℕ) → Op → Reply → ℕ → Key → List ℕ → Option Sighting
 seen_after seen named (Page zone key after limit) (Entries page) =
     if is_named named zone key
@@ -132,14 +144,17 @@ seen_after seen named op reply = seen
 
 -- ---- stripes
 
+-- a function that has another value at one zone, write and holder
 abbrev pub put_bundle : {A : Type 0} → (ℕ → ℕ → ℕ → A) → ℕ → ℕ → ℕ → A → ℕ → ℕ → ℕ → A
 put_bundle f zone write holder x = put f zone (put (f zone) write (put (f zone write) holder x))
 
+-- one tail more, of this size
 abbrev pub with_part : Bundle → ℕ → Bundle
 with_part unused size = opened (size ∷ [])
 with_part (opened sizes) size = opened (sizes ++ size ∷ [])
 with_part spent size = spent
 
+-- tails that are made are open, and those that a head change names are spent
 abbrev pub own_after : (ℕ → ℕ → ℕ → Bundle) → Op → Reply → ℕ → ℕ → ℕ → Bundle
 own_after own (TailMake zone write part bytes) Done =
     put_bundle own zone write write (with_part (own zone write write) (length bytes))
@@ -147,28 +162,34 @@ own_after own (HeadWrite zone container name guard new when) (Changed change) =
     if tails_of new.manifest == 0 then own else put_bundle own zone new.manifest.write (holder_of new.manifest) spent
 own_after own op reply = own
 
+-- a manifest was replaced, where it had tails
 abbrev pub with_old : (ℕ → ℕ → ℕ → Option ManifestView) → ℕ → Option ManifestView → ℕ → ℕ → ℕ → Option ManifestView
 with_old olds zone None = olds
 with_old olds zone (Some old) = put_bundle olds zone old.write (holder_of old) (Some old)
 
+-- own head changes replace manifests
 abbrev pub olds_after : (ℕ → ℕ → ℕ → Option ManifestView) → Op → Reply → ℕ → ℕ → ℕ → Option ManifestView
 olds_after olds (HeadWrite zone container name guard new when) (Changed change) = with_old olds zone change.old
 olds_after olds op reply = olds
 
+-- a live slot shows its manifest
 abbrev pub with_manifest : List SeenManifest → ℕ → SeenSlot → ℕ → ℕ → List SeenManifest
 with_manifest seen zone (Live new stamp) number clock =
     (record { zone = zone; manifest = new.manifest; number = number; clock = clock }) ∷ seen
 with_manifest seen zone slot number clock = seen
 
+-- own head reads show manifests
 abbrev pub manifests_after : List SeenManifest → Op → Reply → ℕ → ℕ → List SeenManifest
 manifests_after seen (HeadRead zone container name) (head_reply head shown_at) number clock =
     with_manifest seen zone head.slot number clock
 manifests_after seen op reply number clock = seen
 
+-- each own head read is kept by its number
 abbrev pub reads_after : (ℕ → Option ℕ) → Op → Reply → ℕ → ℕ → Option ℕ
 reads_after reads (HeadRead zone container name) (head_reply head clock) number = put reads number (Some zone)
 reads_after reads op reply number = reads
 
+-- what an own event teaches of stripes
 abbrev pub stripes_after : OwnStripes → Op → Reply → ℕ → ℕ → OwnStripes
 stripes_after s op reply number clock = record {
   own = own_after s.own op reply;
@@ -179,6 +200,7 @@ stripes_after s op reply number clock = record {
 
 -- ---- own shards
 
+-- the own shards of one zone and container change
 abbrev pub with_shards : (ℕ → ℕ → OwnShards) → ℕ → ℕ → (OwnShards → OwnShards) → ℕ → ℕ → OwnShards
 with_shards shards zone container change = put shards zone (put (shards zone) container (change (shards zone container)))
 
@@ -188,6 +210,7 @@ placed_by shards zone expected None = shards
 placed_by shards zone expected (Some new) =
     if expected == 0 then with_shards shards zone new.id (λ own. record own { placed = true }) else shards
 
+-- own shards are made, announced, and put into a row
 abbrev pub shards_after : (ℕ → ℕ → OwnShards) → Phase → Op → Reply → ℕ → ℕ → OwnShards
 shards_after shards p (ShardMake zone key) Done =
     with_shards shards zone (container_of key) (λ own. record own { made = own.made + 1 })

@@ -21,6 +21,7 @@ use Rattle.realm_model.specs.declared.event.Event.{Event}
 abbrev pub Maps : Type 0
 Maps = ℕ → ℕ → Named SeenSlot
 
+-- no name has anything
 abbrev pub no_maps : Maps
 no_maps zone container = none
 
@@ -28,6 +29,7 @@ no_maps zone container = none
 abbrev pub slot_at : Named SeenSlot → List ℕ → SeenSlot
 slot_at map name = unwrap_or (at map name) Nothing
 
+-- a slot at one name
 abbrev pub with_slot : Maps → ℕ → ℕ → List ℕ → SeenSlot → Maps
 with_slot maps zone container name slot = put maps zone (put (maps zone) container (with_name (maps zone container) name slot))
 
@@ -36,6 +38,7 @@ abbrev pub mapped : Maps → Op → Reply → Maps
 mapped maps (HeadWrite zone container name guard new when) (Changed change) = with_slot maps zone container name (Live new change.stamp)
 mapped maps op reply = maps
 
+-- what events leave of the maps, one after another
 abbrev pub mapped_by : Maps → List Event → Maps
 mapped_by maps [] = maps
 mapped_by maps (e ∷ es) = mapped_by (mapped maps e.op e.reply) es
@@ -55,6 +58,7 @@ abbrev pub whole_bytes : Made → ℕ → NewHead → List ℕ
 whole_bytes made zone new =
     new.first ++ flat_map (λ part. unwrap_or (made zone new.manifest.write part) []) (range_with_len 1 (tails_of new.manifest))
 
+-- what is stored under a name, with all its bytes
 abbrev pub content_of : Made → ℕ → NewHead → Content
 content_of made zone new = record { bytes = whole_bytes made zone new; kind = new.kind; meta = new.meta; etag = new.etag }
 

@@ -18,9 +18,11 @@ use Rattle.realm_model.specs.Phases.{FirstEvent, RowRead, OwnChange, Stage, pend
 
 -- ---- numbers
 
+-- the number is one of these and those between them
 abbrev pub is_between : ℕ → ℕ → ℕ → Bool
 is_between low high n = nat_le low n && nat_le n high
 
+-- the actor's first event has this number
 abbrev pub is_first : Phase → ℕ → Bool
 is_first p number = is_so p.first (λ first. first.number == number)
 
@@ -76,11 +78,13 @@ is_form p zone name old new = false
 
 -- ---- the own tag
 
+-- the tag is open
 abbrev pub is_pending : Stage → Bool
 is_pending pending = true
 is_pending (tried number) = false
 is_pending over = false
 
+-- the tag is over
 abbrev pub is_over : Stage → Bool
 is_over pending = false
 is_over (tried number) = false
@@ -91,9 +95,11 @@ abbrev pub has_no_tag : Option OwnTag → Bool
 has_no_tag None = true
 has_no_tag (Some t) = not (is_pending t.stage)
 
+-- the tag is that of the name in the zone
 abbrev pub is_tag_of : OwnTag → ℕ → List ℕ → Bool
 is_tag_of t zone name = t.zone == zone && bytes_eq t.name name
 
+-- the change has this version and row
 abbrev pub is_change : Option OwnChange → ℕ → RowView → Bool
 is_change change version row = is_so change (λ c. c.version == version && same_row c.row row)
 
@@ -103,6 +109,7 @@ is_tried_again t rows key name (tried number) = container_of key == container_of
 is_tried_again t rows key name pending = false
 is_tried_again t rows key name over = false
 
+-- the tag may be completed in this shard
 abbrev pub is_shard_of_tag : OwnTag → Named RowRead → Key → List ℕ → Bool
 is_shard_of_tag t rows key name = is_key t.key key || is_tried_again t rows key name t.stage
 
@@ -121,6 +128,7 @@ may_change_head p zone container name guard =
 abbrev pub is_own_write : Phase → ℕ → ℕ → Bool
 is_own_write p zone write = is_first p write || is_so (p.stripes.reads write) (λ peer. not (peer == zone))
 
+-- the part comes next
 abbrev pub is_next_part : Bundle → ℕ → Bool
 is_next_part unused part = part == 1
 is_next_part (opened sizes) part = part == length sizes + 1
@@ -130,6 +138,7 @@ is_next_part spent part = false
 abbrev pub tail_sizes : ManifestView → List ℕ
 tail_sizes m = map (part_size m) (range_with_len 1 (tails_of m))
 
+-- the tails that were made have these sizes
 abbrev pub has_sizes : Bundle → List ℕ → Bool
 has_sizes unused sizes = false
 has_sizes (opened made) sizes = same_numbers made sizes
@@ -157,6 +166,7 @@ is_seen_range seen zone write part start count =
 
 -- ---- suggestions
 
+-- an entry was seen with this revision at this moment, and its head afterwards with this version and row
 abbrev pub is_suggestion : Option Sighting → ℕ → ℕ → ℕ → RowView → Bool
 is_suggestion sighting revision seen version row =
     is_so sighting (λ s. s.entry.revision == revision && (s.moment == seen && is_change s.head version row))

@@ -9,6 +9,7 @@ use Rattle.realm_model.specs.declared.op.Op.{Op}
 use Rattle.realm_model.specs.declared.event.Reply.{Reply}
 use Rattle.realm_model.specs.declared.event.Event.{Event}
 
+-- an operation with its answer, its number, and the clock at it
 pub record OwnEvent : Type 0 where
   pub op : Op
   pub reply : Reply
@@ -30,9 +31,11 @@ own_from count clock (e ∷ es) actor =
     then (record { op = e.op; reply = e.reply; number = count + 1; clock = now } ∷ rest)
     else rest
 
+-- the actor's events in a history
 abbrev pub own_events : List Event → ActorId → List OwnEvent
 own_events history actor = own_from 0 0 history actor
 
+-- what own events teach, one after another
 abbrev pub learnt_from : Phase → List OwnEvent → Phase
 learnt_from p [] = p
 learnt_from p (e ∷ es) = learnt_from (learnt p e.op e.reply e.number e.clock) es

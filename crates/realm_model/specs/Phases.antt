@@ -85,6 +85,7 @@ pub record OwnShards : Type 0 where
   -- an own swap put them into a row
   pub placed : Bool
 
+-- what an actor knows
 pub record Phase : Type 0 where
   pub first : Option FirstEvent
   -- by zone and name of the container
@@ -98,6 +99,7 @@ pub record Phase : Type 0 where
   -- by zone and container
   pub shards : ℕ → ℕ → OwnShards
 
+-- no tail was made, and none was seen
 abbrev pub no_stripes : OwnStripes
 no_stripes = record {
   own = λ zone write holder. unused;
@@ -106,6 +108,7 @@ no_stripes = record {
   reads = λ number. None;
 }
 
+-- no shard was made
 abbrev pub no_shards : OwnShards
 no_shards = record { made = 0; filled = false; announced = λ shard. false; placed = false }
 

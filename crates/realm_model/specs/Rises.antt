@@ -23,10 +23,12 @@ EntryRises old new = IfSome new (λ e. ((entry_of old).version ≤ e.version) ×
 abbrev pub RowRises : Option Bucket → Option Bucket → Type 0
 RowRises old new = IfSome new (λ row. version_of old ≤ row.version)
 
+-- the entry of a name in a shard, if there is one
 abbrev pub found_in : Option Shard → List ℕ → Option EntryView
 found_in None name = None
 found_in (Some s) name = at s.entries name
 
+-- no object falls behind what it was
 pub record Rises (old new : State) : Type 0 where
   pub heads : (zone : ℕ) (key : Key) → (new.heads zone key ≡ old.heads zone key) ⊎ HeadRises (old.heads zone key) (new.heads zone key)
   pub entries : (zone : ℕ) (key : Key) (name : List ℕ) → EntryRises (found_in (old.shards zone key) name) (found_in (new.shards zone key) name)

@@ -1,6 +1,7 @@
 -- What a realm is set to.
 use Rattle.std.specs.Prelude.{ℕ, ◌*◌, ◌≤◌}
 
+-- the settings as numbers
 pub record SettingsView : Type 0 where
   pub zones : ℕ
   pub stripe : ℕ
@@ -12,6 +13,7 @@ pub record SettingsView : Type 0 where
   pub largest : ℕ
   pub threshold : ℕ
 
+-- settings of these numbers
 abbrev pub settings_of : ℕ → ℕ → ℕ → ℕ → ℕ → ℕ → ℕ → ℕ → ℕ → SettingsView
 settings_of zones stripe frame frames shards tag_life wait largest threshold = record {
   zones = zones; stripe = stripe; frame = frame; frames = frames; shards = shards;

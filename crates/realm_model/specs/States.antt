@@ -42,6 +42,7 @@ number_next st = st.count + 1
 abbrev pub clock_at : ℕ → ℕ → ℕ
 clock_at clock moment = max clock (counted_moment moment)
 
+-- the state when the clock has come to a moment
 abbrev pub at_moment : State → ℕ → State
 at_moment st moment = record st { clock = clock_at st.clock moment }
 
@@ -54,6 +55,7 @@ pub data Touch : Type 0 where
   at_tail : ℕ → Key → Tail → Touch
   at_changes : ℕ → Log → Touch
 
+-- a function that has another value at one zone and key
 abbrev pub put_in : {A : Type 0} → (ℕ → Key → A) → ℕ → Key → A → ℕ → Key → A
 put_in f zone key x = put f zone (put_key (f zone) key x)
 
@@ -61,6 +63,7 @@ put_in f zone key x = put f zone (put_key (f zone) key x)
 abbrev pub free_after : ℕ → ℕ → List ℕ → List ℕ → ℕ
 free_after frame free old new = free + frames_for frame old - frames_for frame new
 
+-- what a touch leaves
 abbrev pub touched : SettingsView → State → Touch → State
 touched settings st nothing = st
 touched settings st (at_root zone root) = record st { root = put st.root zone root }

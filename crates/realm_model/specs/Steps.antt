@@ -29,6 +29,7 @@ use Rattle.realm_model.specs.declared.event.Reply.TheVariants.{Done, No, Row, Pr
 abbrev pub is_master : ℕ → Bool
 is_master zone = zone == 1
 
+-- the answer, or the refusal
 abbrev pub reply_or : Reply → Option Why → Reply
 reply_or reply None = reply
 reply_or reply (Some why) = No why
@@ -43,6 +44,7 @@ abbrev pub change_at : Option Shard → (Shard → Shard) → Option Shard
 change_at None change = None
 change_at (Some s) change = Some (change s)
 
+-- a row that is there, or that none is
 abbrev pub row_reply : Option Bucket → Reply
 row_reply None = No Absent
 row_reply (Some row) = Row row
@@ -55,6 +57,7 @@ new_tag settings st = tag_of (number_next st) st.clock settings.tag_life
 abbrev pub suggest_event_refusal : Shard → List ℕ → ℕ → ℕ → Option Why
 suggest_event_refusal s name revision seen = first_refusal (untimely_refusal s name revision seen) (suggest_refusal s name revision)
 
+-- what an operation is answered
 abbrev pub reply_of : SettingsView → State → Op → Reply
 reply_of settings st (BucketRead zone name) = row_reply (at (st.root zone).buckets name)
 reply_of settings st (BucketSwap zone name expected new) = reply_or Done (swap_refusal (st.root zone) name expected)
@@ -82,6 +85,7 @@ reply_of settings st (TailRead zone write part start count) =
     let tail = st.tails zone (tail_key write part) in reply_or (Bytes (bytes_at tail start count)) (read_refusal tail st.clock)
 reply_of settings st (Announce zone container instance shard bucket) = Position (next (st.changes zone).last)
 
+-- which object an operation touches, and what it becomes
 abbrev pub touch_of : SettingsView → State → Op → Touch
 touch_of settings st (BucketRead zone name) = nothing
 touch_of settings st (BucketSwap zone name expected new) =

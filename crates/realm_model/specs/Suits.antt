@@ -20,14 +20,17 @@ IsBarred Closed = Unit {0}
 IsBarred (Held id) = Unit {0}
 IsBarred why = ⊥
 
+-- a shard that takes no change, or a tag that is not there
 abbrev pub IsUntagged : Why → Type 0
 IsUntagged NoTag = Unit {0}
 IsUntagged why = IsBarred why
 
+-- a shard that takes no change, or an entry that changed
 abbrev pub IsOutdated : Why → Type 0
 IsOutdated (Stale revision) = Unit {0}
 IsOutdated why = IsBarred why
 
+-- a tag whose life is over, a condition that fails, no room
 abbrev pub IsUnwritten : Why → Type 0
 IsUnwritten (Expired deadline clock) = Unit {0}
 IsUnwritten (NotMet stamp) = Unit {0}

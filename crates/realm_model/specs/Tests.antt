@@ -5,21 +5,26 @@ use Rattle.rgw_model.specs.declared.stamp.Stamp.{Stamp}
 use Rattle.object_words.specs.declared.entry.Guard.{Guard}
 use Rattle.object_words.specs.Rows.{RowView}
 
+-- both hold or neither
 abbrev pub same_flag : Bool → Bool → Bool
 same_flag true b = b
 same_flag false b = not b
 
+-- the same moment in the same zone
 abbrev pub same_stamp : Stamp → Stamp → Bool
 same_stamp a b = a.micros == b.micros && a.zone == b.zone
 
+-- the same tag with the same deadline
 abbrev pub same_guard : Guard → Guard → Bool
 same_guard a b = a.tag == b.tag && a.deadline == b.deadline
 
+-- the same row in each field
 abbrev pub same_row : RowView → RowView → Bool
 same_row a b =
     same_flag a.exists b.exists
     && (a.size == b.size && (same_stamp a.stamp b.stamp && (bytes_eq a.etag b.etag && bytes_eq a.kind b.kind)))
 
+-- the same numbers in the same order
 abbrev pub same_numbers : List ℕ → List ℕ → Bool
 same_numbers = pointwise nat_eq
 

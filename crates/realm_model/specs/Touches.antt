@@ -6,22 +6,27 @@ use Rattle.realm_model.specs.States.{State, Touch, nothing, at_root, at_shard, a
 use Rattle.realm_model.specs.declared.op.Op.{Op}
 use Rattle.realm_model.specs.declared.op.Op.TheVariants.{BucketRead, Page, Stats, HeadRead, TailRead}
 
+-- the root of the zone is touched
 abbrev pub is_at_root : Touch → ℕ → Bool
 is_at_root (at_root zone root) z = zone == z
 is_at_root touch z = false
 
+-- the shard is touched
 abbrev pub is_at_shard : Touch → ℕ → Key → Bool
 is_at_shard (at_shard zone key shard) z k = zone == z && is_key key k
 is_at_shard touch z k = false
 
+-- the head is touched
 abbrev pub is_at_head : Touch → ℕ → Key → Bool
 is_at_head (at_head zone key head) z k = zone == z && is_key key k
 is_at_head touch z k = false
 
+-- the tail is touched
 abbrev pub is_at_tail : Touch → ℕ → Key → Bool
 is_at_tail (at_tail zone key tail) z k = zone == z && is_key key k
 is_at_tail touch z k = false
 
+-- the data log of the zone is touched
 abbrev pub is_at_changes : Touch → ℕ → Bool
 is_at_changes (at_changes zone log) z = zone == z
 is_at_changes touch z = false

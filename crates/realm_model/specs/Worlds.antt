@@ -23,6 +23,7 @@ use Rattle.realm_model.specs.declared.event.Reply.{Reply}
 use Rattle.realm_model.specs.declared.event.Reply.TheVariants.{Done, No, Prepared, Changed}
 use Rattle.realm_model.specs.declared.event.Event.{Event}
 
+-- all that a history leaves
 pub record World : Type 0 where
   -- the objects, the number of events and the clock: what the step of each event leaves
   pub state : State
@@ -41,28 +42,35 @@ pub record World : Type 0 where
   -- stamps: changed by head changes
   pub stamps : StampFacts
 
+-- both are one actor
 abbrev pub same_actor : ActorId → ActorId → Bool
 same_actor a b = a.pass == b.pass && a.count == b.count
 
+-- a function that has another value at one actor
 abbrev pub put_actor : {A : Type 0} → (ActorId → A) → ActorId → A → ActorId → A
 put_actor f actor x a = if same_actor a actor then x else f a
 
+-- a function that has another value at one name
 abbrev pub put_name : {A : Type 0} → (List ℕ → A) → List ℕ → A → List ℕ → A
 put_name f name x n = if bytes_eq n name then x else f n
 
+-- a function that has another value at one stamp
 abbrev pub put_stamp : {A : Type 0} → (Stamp → A) → Stamp → A → Stamp → A
 put_stamp f stamp x s = if same_stamp s stamp then x else f s
 
 -- ---- tags and last changes
 
+-- a change was made under the tag
 abbrev pub changed_note : Option TagNote → OwnChange → Option TagNote
 changed_note None change = None
 changed_note (Some note) change = Some (record note { change = Some change })
 
+-- the tag was completed or cancelled
 abbrev pub ended_note : Option TagNote → Option TagNote
 ended_note None = None
 ended_note (Some note) = Some (record note { ended = true })
 
+-- preparations give tags, head changes are made under them, completions and cancels end them
 abbrev pub tags_after : (ℕ → Option TagNote) → ActorId → Op → Reply → ℕ → Option TagNote
 tags_after tags actor (Prepare zone key name) (Prepared guard) =
     put tags guard.tag
@@ -83,11 +91,13 @@ tags_after tags actor (Complete zone key name tag version row) reply = put tags 
 tags_after tags actor (Cancel zone key name tag) reply = put tags tag (ended_note (tags tag))
 tags_after tags actor op reply = tags
 
+-- a head change is the last one of its name
 abbrev pub last_after : (ℕ → ℕ → List ℕ → Option ℕ) → Op → Reply → ℕ → ℕ → List ℕ → Option ℕ
 last_after last (HeadWrite zone container name guard new when) (Changed change) =
     put last zone (put (last zone) container (put_name (last zone container) name (Some guard.tag)))
 last_after last op reply = last
 
+-- what an event adds to the facts of tags
 abbrev pub index_after : IndexFacts → ActorId → Op → Reply → IndexFacts
 index_after x actor op reply = record { tags = tags_after x.tags actor op reply; last = last_after x.last op reply }
 
@@ -99,10 +109,12 @@ with_home homes zone name expected None number = homes
 with_home homes zone name expected (Some new) number =
     if is_master zone && expected == 0 then put homes new.id (Some (record { name = name; at = number })) else homes
 
+-- a swap that is done in zone 1 and expects no row makes a container
 abbrev pub homes_after : (ℕ → Option Home) → Op → Reply → ℕ → ℕ → Option Home
 homes_after homes (BucketSwap zone name expected new) Done number = with_home homes zone name expected new number
 homes_after homes op reply number = homes
 
+-- a row that is made names its instance
 abbrev pub with_instance : (ℕ → ℕ → ℕ → Option Instance) → ℕ → ℕ → Option Bucket → ℕ → ℕ → ℕ → Option Instance
 with_instance instances zone expected None = instances
 with_instance instances zone expected (Some new) =
@@ -110,10 +122,12 @@ with_instance instances zone expected (Some new) =
     then put_bundle instances zone new.id new.instance (Some (record { shards = new.shards; number = new.number; state = idle }))
     else instances
 
+-- swaps put instances into rows
 abbrev pub instances_after : (ℕ → ℕ → ℕ → Option Instance) → Op → Reply → ℕ → ℕ → ℕ → Option Instance
 instances_after instances (BucketSwap zone name expected new) Done = with_instance instances zone expected new
 instances_after instances op reply = instances
 
+-- what an event adds to the facts of containers
 abbrev pub rows_after : RowFacts → Op → Reply → ℕ → RowFacts
 rows_after x op reply number = record {
   homes = homes_after x.homes op reply number;
@@ -122,6 +136,7 @@ rows_after x op reply number = record {
 
 -- ---- stripes
 
+-- no tail was made
 abbrev pub is_nowhere : Place → Bool
 is_nowhere nowhere = true
 is_nowhere place = false
@@ -130,6 +145,7 @@ is_nowhere place = false
 abbrev pub counted_part : Ledger → ActorId → ℕ → Ledger
 counted_part l actor part = record { count = part; place = if is_nowhere l.place then making actor else l.place }
 
+-- the tails of a manifest are at another place
 abbrev pub moved_to : (ℕ → ℕ → ℕ → Ledger) → ℕ → Option ManifestView → Place → ℕ → ℕ → ℕ → Ledger
 moved_to ledger zone None place = ledger
 moved_to ledger zone (Some m) place =
@@ -139,6 +155,7 @@ moved_to ledger zone (Some m) place =
 abbrev pub tailed : ManifestView → Option ManifestView
 tailed m = if tails_of m == 0 then None else Some m
 
+-- a tail that is made counts; a head change names some and replaces others
 abbrev pub ledger_after : (ℕ → ℕ → ℕ → Ledger) → ActorId → Op → Reply → ℕ → ℕ → ℕ → Ledger
 ledger_after ledger actor (TailMake zone write part bytes) Done =
     put_bundle ledger zone write write (counted_part (ledger zone write write) actor part)
@@ -146,10 +163,12 @@ ledger_after ledger actor (HeadWrite zone container name guard new when) (Change
     moved_to (moved_to ledger zone change.old (replaced actor)) zone (tailed new.manifest) (in_head container name)
 ledger_after ledger actor op reply = ledger
 
+-- a tail is made with its bytes
 abbrev pub made_after : Made → Op → Reply → Made
 made_after made (TailMake zone write part bytes) Done = put_bundle made zone write part (Some bytes)
 made_after made op reply = made
 
+-- what an event adds to the facts of stripes
 abbrev pub stripes_after : StripeFacts → ActorId → Op → Reply → ℕ → StripeFacts
 stripes_after x actor op reply number = record {
   ledger = ledger_after x.ledger actor op reply;
@@ -159,6 +178,7 @@ stripes_after x actor op reply number = record {
 
 -- ---- stamps
 
+-- a local head change leaves a slot with its stamp
 abbrev pub slots_after : (ℕ → List ℕ → Stamp → Option Slot) → Made → Op → Reply → ℕ → List ℕ → Stamp → Option Slot
 slots_after slots made (HeadWrite zone container name guard new when) (Changed change) =
     put slots container
@@ -166,6 +186,7 @@ slots_after slots made (HeadWrite zone container name guard new when) (Changed c
     (put_stamp (slots container name) change.stamp (Some (whole_slot made zone (Live new change.stamp)))))
 slots_after slots made op reply = slots
 
+-- what an event adds to the facts of stamps
 abbrev pub stamps_after : StampFacts → Made → Op → Reply → StampFacts
 stamps_after x made op reply = record { slots = slots_after x.slots made op reply }
 
@@ -188,6 +209,7 @@ start settings = record {
   stamps = record { slots = λ container name stamp. None };
 }
 
+-- who made the event
 abbrev pub actor_of : Event → ActorId
 actor_of e = record { pass = e.pass; count = e.count }
 
