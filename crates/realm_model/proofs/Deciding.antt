@@ -3,6 +3,9 @@ use Rattle.std.proofs.Common.{◌≡◌, ℕ, ◌+◌, ◌⊎◌, inl, inr, Bool
 use Rattle.std.proofs.lemmas.List.{append-nil}
 use Rattle.std.specs.Prelude.{unwrap_or}
 use Rattle.object_words.specs.declared.why.Why.TheVariants.{Absent, Raced, Held, Moved, Closed, NoTag, Stale, Fenced, NotEmpty, Unsettled, Expired, NotMet, Older, NoSpace, Gone, Trimmed}
+use Rattle.object_words.specs.declared.entry.Guard.{Guard}
+use Rattle.object_words.specs.declared.head.NewHead.{NewHead}
+use Rattle.object_words.specs.declared.head.Conditions.{Conditions}
 use Rattle.object_words.specs.declared.head.SeenSlot.{SeenSlot}
 use Rattle.object_words.specs.declared.head.SeenSlot.TheVariants.{Nothing, Live}
 use Rattle.object_words.specs.Heads.{is_live}
@@ -13,7 +16,7 @@ use Rattle.realm_model.specs.Settings.{SettingsView}
 use Rattle.realm_model.specs.States.{number_next, clock_at}
 use Rattle.realm_model.specs.Phases.{ActorId}
 use Rattle.realm_model.specs.Maps.{Maps, Made, mapped, mapped_by, no_maps, slot_at, with_slot, heads, whole_slot}
-use Rattle.realm_model.specs.Accounts.{Account, Decided, blank, slot_now, decided_at, decided_after, source_after, accounted}
+use Rattle.realm_model.specs.Accounts.{Account, Decided, blank, slot_now, decided_at, tried_at, decided_after, source_after, target_after, accounted}
 use Rattle.realm_model.specs.Worlds.{World, start, same_actor, actor_of, happens}
 use Rattle.realm_model.specs.Histories.{run, world_of, state_of, account_of}
 use Rattle.realm_model.specs.Decisions.{Stands}
@@ -49,10 +52,9 @@ module _ (y : Account) (maps : Maps) (made : Made) (number clock : ℕ) (d : Dec
         } in
       subst (λ x. Decides maps made op reply number clock x) is here
 
-  decided_cases : (op : Op) (reply : Reply) → decided_after y maps made op reply number clock ≡ Some d → (y.decided ≡ Some d) ⊎ Decides maps made op reply number clock d
-  decided_cases (HeadRead zone container name) (head_reply head shown_at) is =
-      inr (unchanged (HeadRead zone container name) (head_reply head shown_at) zone container name refl (let e = is in cc))
-  decided_cases (HeadWrite zone container name guard new when) (Changed change) is =
+  -- a change of a head, where it decides
+  tried_cases : (zone container : ℕ) (name : List ℕ) (guard : Guard) (new : NewHead) (when : Conditions) (reply : Reply) (old : Option Decided) → tried_at y maps made zone container name new reply number clock old ≡ Some d → (old ≡ Some d) ⊎ Decides maps made (HeadWrite zone container name guard new when) reply number clock d
+  tried_cases zone container name guard new when (Changed change) old is =
       let op = HeadWrite zone container name guard new when in
       let slot = slot_now maps made zone container name in
       let after = whole_slot made zone (Live new change.stamp) in
@@ -63,10 +65,20 @@ module _ (y : Account) (maps : Maps) (made : Made) (number clock : ℕ) (d : Dec
         } in
       let same : decided_at y number clock zone container name slot after ≡ d = cc in
       inr (subst (λ x. Decides maps made op (Changed change) number clock x) same here)
-  decided_cases (HeadWrite zone container name guard new when) (No (Expired deadline late)) is = inl is
-  decided_cases (HeadWrite zone container name guard new when) (No why) is =
+  tried_cases zone container name guard new when (No (Expired deadline late)) old is = inl is
+  tried_cases zone container name guard new when (No why) old is =
       inr (unchanged (HeadWrite zone container name guard new when) (No why) zone container name refl (let e = is in cc))
+  tried_cases zone container name guard new when reply old is = inl is
+
+  decided_cases : (op : Op) (reply : Reply) → decided_after y maps made op reply number clock ≡ Some d → (y.decided ≡ Some d) ⊎ Decides maps made op reply number clock d
+  decided_cases (HeadRead zone container name) (head_reply head shown_at) is =
+      inr (unchanged (HeadRead zone container name) (head_reply head shown_at) zone container name refl (let e = is in cc))
+  decided_cases (HeadWrite zone container name guard new when) reply is = tried_cases zone container name guard new when reply y.decided is
   decided_cases op reply is = inl is
+
+  target_cases : (op : Op) (reply : Reply) → target_after y maps made op reply number clock ≡ Some d → (y.target ≡ Some d) ⊎ Decides maps made op reply number clock d
+  target_cases (HeadWrite zone container name guard new when) reply is = tried_cases zone container name guard new when reply y.target is
+  target_cases op reply is = inl is
 
   source_cases : (op : Op) (reply : Reply) → source_after y maps made op reply number clock ≡ Some d → (y.source ≡ Some d) ⊎ Decides maps made op reply number clock d
   source_cases (HeadRead zone container name) (head_reply head shown_at) is =
@@ -111,14 +123,16 @@ module _ (settings : SettingsView) where
       }
 
   -- what decides in an account stands
-  OneStands : List Event → ActorId → Account → Type 0
-  OneStands history actor y = (d : Decided) → ((y.decided ≡ Some d) ⊎ (y.source ≡ Some d)) → Stands settings history actor d
+  record OneStands (history : List Event) (actor : ActorId) (y : Account) : Type 0 where
+    decided : (d : Decided) → y.decided ≡ Some d → Stands settings history actor d
+    source : (d : Decided) → y.source ≡ Some d → Stands settings history actor d
+    target : (d : Decided) → y.target ≡ Some d → Stands settings history actor d
 
   AllStand : List Event → Type 0
   AllStand history = (actor : ActorId) → OneStands history actor (account_of settings history actor)
 
   all_stand_next : (history : List Event) (e : Event) → AllStand history → AllStand (history ++ e ∷ [])
-  unfolding AllStand OneStands
+  unfolding AllStand
   all_stand_next history e stand actor =
       let w = world_of settings history in
       let one = e ∷ [] in
@@ -126,19 +140,29 @@ module _ (settings : SettingsView) where
       let y = w.accounts maker in
       let number = number_next w.state in
       let clock = clock_at w.state.clock e.moment in
-      let older : (a : ActorId) (d : Decided) → ((w.accounts a).decided ≡ Some d) ⊎ ((w.accounts a).source ≡ Some d) → Stands settings (history ++ one) a d =
-        λ a d is. stands_longer history one a d (stand a d is) in
-      let newer : (d : Decided) → ((accounted y w.maps w.stripes.made e.op e.reply number clock).decided ≡ Some d) ⊎ ((accounted y w.maps w.stripes.made e.op e.reply number clock).source ≡ Some d) → Stands settings (history ++ one) maker d =
-        λ d is. elim is [
-          | inl decided ↦ elim (decided_cases y w.maps w.stripes.made number clock d e.op e.reply decided) [
-              | inl before ↦ older maker d (inl before)
-              | inr now ↦ stands_now history e d now
-            ]
-          | inr source ↦ elim (source_cases y w.maps w.stripes.made number clock d e.op e.reply source) [
-              | inl before ↦ older maker d (inr before)
-              | inr now ↦ stands_now history e d now
-            ]
-        ] in
+      let later : (a : ActorId) (d : Decided) → Stands settings history a d → Stands settings (history ++ one) a d =
+        λ a d is. stands_longer history one a d is in
+      let older : (a : ActorId) → OneStands (history ++ one) a (w.accounts a) =
+        λ a. record {
+          decided = λ d is. later a d ((stand a).decided d is);
+          source = λ d is. later a d ((stand a).source d is);
+          target = λ d is. later a d ((stand a).target d is);
+        } in
+      let newer : OneStands (history ++ one) maker (accounted y w.maps w.stripes.made e.op e.reply number clock) =
+        record {
+          decided = λ d is. elim (decided_cases y w.maps w.stripes.made number clock d e.op e.reply is) [
+            | inl before ↦ later maker d ((stand maker).decided d before)
+            | inr now ↦ stands_now history e d now
+          ];
+          source = λ d is. elim (source_cases y w.maps w.stripes.made number clock d e.op e.reply is) [
+            | inl before ↦ later maker d ((stand maker).source d before)
+            | inr now ↦ stands_now history e d now
+          ];
+          target = λ d is. elim (target_cases y w.maps w.stripes.made number clock d e.op e.reply is) [
+            | inl before ↦ later maker d ((stand maker).target d before)
+            | inr now ↦ stands_now history e d now
+          ];
+        } in
       let all = put_actor_cases (OneStands (history ++ one)) w.accounts maker _ newer older actor in
       subst (OneStands (history ++ one) actor) (sym (ap (λ x. x.accounts actor) (run-append settings (start settings) history one))) all
 
@@ -147,14 +171,19 @@ module _ (settings : SettingsView) where
   all_stand_from history (e ∷ es) stand =
       subst AllStand (append_assoc history (e ∷ []) es) (all_stand_from (history ++ e ∷ []) es (all_stand_next history e stand))
 
-  nothing_decides : AllStand []
-  unfolding AllStand OneStands
-  nothing_decides actor d is = elim is [ inl none ↦ cc | inr none ↦ cc ]
+  all_stand : (history : List Event) → AllStand history
+  unfolding AllStand
+  all_stand history =
+      all_stand_from [] history (λ actor. record { decided = λ d is. cc; source = λ d is. cc; target = λ d is. cc })
 
   pub decided_stands : (history : List Event) (actor : ActorId) (d : Decided) → (account_of settings history actor).decided ≡ Some d → Stands settings history actor d
-  unfolding AllStand OneStands
-  decided_stands history actor d is = all_stand_from [] history nothing_decides actor d (inl is)
+  unfolding AllStand
+  decided_stands history actor = (all_stand history actor).decided
 
   pub source_stands : (history : List Event) (actor : ActorId) (d : Decided) → (account_of settings history actor).source ≡ Some d → Stands settings history actor d
-  unfolding AllStand OneStands
-  source_stands history actor d is = all_stand_from [] history nothing_decides actor d (inr is)
+  unfolding AllStand
+  source_stands history actor = (all_stand history actor).source
+
+  pub target_stands : (history : List Event) (actor : ActorId) (d : Decided) → (account_of settings history actor).target ≡ Some d → Stands settings history actor d
+  unfolding AllStand
+  target_stands history actor = (all_stand history actor).target

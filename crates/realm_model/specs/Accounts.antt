@@ -3,6 +3,7 @@ use Rattle.std.specs.Prelude.{ℕ, ◌+◌, ◌==◌, ◌&&◌, Bool, true, fals
 use Rattle.rgw_types.specs.declared.pool_key.Key.{Key}
 use Rattle.rgw_model.specs.declared.slot.Slot.{Slot}
 use Rattle.object_words.specs.declared.bucket.Bucket.{Bucket}
+use Rattle.object_words.specs.declared.head.NewHead.{NewHead}
 use Rattle.object_words.specs.declared.head.SeenSlot.{SeenSlot}
 use Rattle.object_words.specs.declared.head.SeenSlot.TheVariants.{Live}
 use Rattle.object_words.specs.declared.why.Why.{Why}
@@ -72,8 +73,10 @@ pub record Account : Type 0 where
   pub looked : Option Looked
   -- the deciding event of an object request: the last own read of a head, or change of one that was not answered Expired
   pub decided : Option Decided
-  -- the last own read of a head that showed an object, which decides what a copy has
+  -- the two deciding events of a copy: the last own read of a head that showed an object, and the last own change of a
+  -- head that was not answered Expired
   pub source : Option Decided
+  pub target : Option Decided
   -- head changes that were answered Changed
   pub changes : ℕ
   -- completions that were answered Done, NoTag, Held or Closed
@@ -90,6 +93,7 @@ blank = record {
   looked = None;
   decided = None;
   source = None;
+  target = None;
   changes = 0;
   completes = 0;
   moved = record { count = 0; last = 0 };
@@ -127,17 +131,29 @@ decided_at y number clock zone container name before after = record {
 abbrev pub slot_now : Maps → Made → ℕ → ℕ → List ℕ → Slot
 slot_now maps made zone container name = whole_slot made zone (slot_at (maps zone container) name)
 
--- an own read of a head decides, and so does a change of one, also one that was refused, but for Expired
+-- a change of a head decides, also one that was refused, but for Expired
+abbrev pub tried_at : Account → Maps → Made → ℕ → ℕ → List ℕ → NewHead → Reply → ℕ → ℕ → Option Decided → Option Decided
+tried_at y maps made zone container name new (Changed change) number clock old =
+    let slot = slot_now maps made zone container name in
+    Some (decided_at y number clock zone container name slot (whole_slot made zone (Live new change.stamp)))
+tried_at y maps made zone container name new (No (Expired deadline late)) number clock old = old
+tried_at y maps made zone container name new (No why) number clock old =
+    let slot = slot_now maps made zone container name in Some (decided_at y number clock zone container name slot slot)
+tried_at y maps made zone container name new reply number clock old = old
+
+-- own reads of heads decide, and so do changes
 abbrev pub decided_after : Account → Maps → Made → Op → Reply → ℕ → ℕ → Option Decided
 decided_after y maps made (HeadRead zone container name) (head_reply head shown_at) number clock =
     let slot = slot_now maps made zone container name in Some (decided_at y number clock zone container name slot slot)
-decided_after y maps made (HeadWrite zone container name guard new when) (Changed change) number clock =
-    let slot = slot_now maps made zone container name in
-    Some (decided_at y number clock zone container name slot (whole_slot made zone (Live new change.stamp)))
-decided_after y maps made (HeadWrite zone container name guard new when) (No (Expired deadline late)) number clock = y.decided
-decided_after y maps made (HeadWrite zone container name guard new when) (No why) number clock =
-    let slot = slot_now maps made zone container name in Some (decided_at y number clock zone container name slot slot)
+decided_after y maps made (HeadWrite zone container name guard new when) reply number clock =
+    tried_at y maps made zone container name new reply number clock y.decided
 decided_after y maps made op reply number clock = y.decided
+
+-- an own change of a head decides what became of the target of a copy
+abbrev pub target_after : Account → Maps → Made → Op → Reply → ℕ → ℕ → Option Decided
+target_after y maps made (HeadWrite zone container name guard new when) reply number clock =
+    tried_at y maps made zone container name new reply number clock y.target
+target_after y maps made op reply number clock = y.target
 
 -- an own read of a head that shows an object decides what a copy has
 abbrev pub source_after : Account → Maps → Made → Op → Reply → ℕ → ℕ → Option Decided
@@ -240,6 +256,7 @@ accounted y maps made op reply number clock = record {
   looked = looked_after y.looked op reply number;
   decided = decided_after y maps made op reply number clock;
   source = source_after y maps made op reply number clock;
+  target = target_after y maps made op reply number clock;
   changes = changes_after y.changes op reply;
   completes = completes_after y.completes op reply;
   moved = moved_after y.moved y.looked op reply number;

@@ -127,6 +127,8 @@ pub fn deciding_events_stand()
         → (account_of settings history actor).decided ≡ Some d → Stands settings history actor d }
     ensures source { (settings : SettingsView) (history : List EventOf) (actor : ActorId) (d : Decided)
         → (account_of settings history actor).source ≡ Some d → Stands settings history actor d }
+    ensures target { (settings : SettingsView) (history : List EventOf) (actor : ActorId) (d : Decided)
+        → (account_of settings history actor).target ≡ Some d → Stands settings history actor d }
 {}
 
 /// Events of other passes, and then an own one, add its number to those of the pass, and no other.
