@@ -1,5 +1,5 @@
 -- A finite map by name is known by its answers.
-use Rattle.std.proofs.Common.{◌≡◌, ℕ, T, Bool, true, false, cond, not, List, Option, Some, None, refl, sym, ap, ◌∙◌}
+use Rattle.std.proofs.Common.{◌≡◌, ℕ, T, Bool, true, false, cond, not, List, Some, None, refl, sym, ap, ◌∙◌}
 use mathlib.Core.HLevel.{Σ_prop_path}
 use lib.Dec.{T_prop}
 use Rattle.std.specs.Ordering.{eq_by_cmp, is_eq}
@@ -7,7 +7,7 @@ use Rattle.std.specs.Cmp.{alike_right, eq_by_cmp_equiv, tied_itself}
 use Rattle.std.specs.Cmp.Lexicographic.{nat_list_cmp_total}
 use Rattle.std.specs.FinMap.{from_sorted, get, get-from_sorted, nat_cmp-IsAntisymmetric, slice_cmp-IsAntisymmetric}
 use Rattle.std.specs.FinMap.Entries.{find-put, find-where_key, is_sorted, same_entries}
-use Rattle.object_words.specs.Names.{name_cmp, Named, none, at, with_name, without_name, where_name, entries}
+use Rattle.object_words.specs.Names.{name_cmp, Named, none, at, with_name, without_name, entries}
 
 -- both are one name
 abbrev pub is_name_of : List ℕ → List ℕ → Bool

@@ -3,7 +3,6 @@ use Rattle.std.specs.Prelude.{ℕ, ◌==◌, Bool, true, false, List, [], length
 use Rattle.std.specs.Int.{div_ceil}
 use Rattle.rgw_model.specs.declared.stamp.Stamp.{Stamp}
 use Rattle.rgw_types.specs.Stripes.{ManifestView, tails_of}
-use Rattle.object_words.specs.declared.head.NewHead.{NewHead}
 use Rattle.object_words.specs.declared.head.SeenSlot.{SeenSlot}
 use Rattle.object_words.specs.declared.head.SeenSlot.TheVariants.{Nothing, Live, Mark}
 use Rattle.object_words.specs.Rows.{RowView, no_row}

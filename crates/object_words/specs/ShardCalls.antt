@@ -1,6 +1,6 @@
 -- What each call does to a shard: why it is refused, and what it leaves, which is the shard as it was where it is refused
 -- (developer documents of the bucket index: prepare, complete, suggest).
-use Rattle.std.specs.Prelude.{ℕ, ◌==◌, ◌&&◌, not, Bool, nat_lt, nat_le, List, take, length, Option, Some, None, if◌then◌else◌}
+use Rattle.std.specs.Prelude.{ℕ, ◌==◌, ◌&&◌, not, nat_lt, nat_le, List, take, length, Option, Some, None, if◌then◌else◌}
 use Rattle.std.specs.Ordering.{is_lt}
 use Rattle.object_words.specs.declared.entry.Tag.{Tag}
 use Rattle.object_words.specs.declared.entry.EntryPage.{EntryPage}

@@ -1,6 +1,6 @@
 -- A shard of a container's index: entries by name, whether it takes changes, its log (Ceph manual, Data Layout and
 -- Dynamic Bucket Index Resharding).
-use Rattle.std.specs.Prelude.{ℕ, ◌+◌, Bool, if◌then◌else◌, min, List, [], ◌∷◌, length, Option, None}
+use Rattle.std.specs.Prelude.{ℕ, ◌+◌, if◌then◌else◌, min, List, [], ◌∷◌, length, Option, None}
 use Rattle.object_words.specs.declared.shard.Hold.{Hold}
 use Rattle.object_words.specs.declared.shard.Hold.TheVariants.{Free}
 use Rattle.object_words.specs.declared.shard.Fate.{Fate}

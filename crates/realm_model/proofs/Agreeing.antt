@@ -1,28 +1,26 @@
 -- The bucket maps of a history are what its heads hold.
-use Rattle.std.proofs.Common.{◌≡◌, ℕ, ◌==◌, Bool, true, false, cond, List, [], ◌∷◌, ◌++◌, Option, Some, None, refl, sym, ◌∙◌, ap, subst, arith}
+use Rattle.std.proofs.Common.{◌≡◌, ℕ, ◌==◌, true, false, cond, List, [], ◌∷◌, Some, None, refl, sym, ◌∙◌, subst}
 use Rattle.std.specs.Prelude.{unwrap_or}
 use Rattle.rgw_types.specs.declared.pool_key.Key.{Key}
-use Rattle.rgw_types.specs.declared.pool_key.Key.TheVariants.{Head as head_of}
 use Rattle.object_words.specs.declared.head.SeenSlot.{SeenSlot}
 use Rattle.object_words.specs.declared.head.SeenSlot.TheVariants.{Nothing, Live}
-use Rattle.object_words.specs.declared.why.Why.{Why}
 use Rattle.object_words.specs.Keys.{is_key, head_key, put, put_key}
 use Rattle.object_words.specs.Names.{Named, at, with_name}
 use Rattle.object_words.specs.Heads.{Head}
-use Rattle.object_words.specs.HeadCalls.{write_refusal, written, stamp_next, change_of}
+use Rattle.object_words.specs.HeadCalls.{write_refusal, stamp_next, change_of}
 use Rattle.object_words.specs.Refusals.{unless_refused}
 use Rattle.object_words.proofs.KeyLemmas.{same_key, key_itself, same_text, number_itself}
 use Rattle.object_words.proofs.NameLemmas.{is_name_of, name_itself, at-none, at-with_name}
 use Rattle.realm_model.specs.Settings.{SettingsView}
 use Rattle.realm_model.specs.States.{State, number_next, at_moment, put_in, touched}
 use Rattle.realm_model.specs.Steps.{reply_or, reply_of, touch_of, after}
-use Rattle.realm_model.specs.Maps.{Maps, no_maps, slot_at, with_slot, mapped, mapped_by, heads}
+use Rattle.realm_model.specs.Maps.{Maps, slot_at, with_slot, mapped, mapped_by, heads}
 use Rattle.realm_model.specs.Worlds.{World, start, happens}
 use Rattle.realm_model.specs.Histories.{run, state_of, LegalFrom, Legal}
 use Rattle.realm_model.specs.declared.op.Op.{Op}
 use Rattle.realm_model.specs.declared.op.Op.TheVariants.{BucketRead, BucketSwap, ShardMake, Prepare, Complete, Cancel, Page, Suggest, Stats, HeadRead, HeadWrite, TailMake, TailRead, Announce}
 use Rattle.realm_model.specs.declared.event.Reply.{Reply}
-use Rattle.realm_model.specs.declared.event.Reply.TheVariants.{No, Changed}
+use Rattle.realm_model.specs.declared.event.Reply.TheVariants.{Changed}
 use Rattle.realm_model.specs.declared.event.Event.{Event}
 use Rattle.realm_model.proofs.ObjectLemmas.{number_same}
 use Rattle.realm_model.proofs.TouchLemmas.{put_in_same}

@@ -1,8 +1,7 @@
 -- Numbers that a state keeps are below those that its next event gives. It holds after any events, legal or not.
-use Rattle.std.proofs.Common.{◌≡◌, ℕ, ◌+◌, ◌<◌, ◌≤◌, ◌^◌, ◌⊎◌, inl, inr, min, max, Bool, true, false, cond, List, [], ◌∷◌, Option, Some, None, refl, sym, ◌∙◌, ap, subst, arith, nat_lt}
-use Rattle.std.specs.Prelude.{IfSome, IsSomeAnd}
+use Rattle.std.proofs.Common.{◌≡◌, ℕ, ◌+◌, ◌<◌, ◌≤◌, ◌^◌, ◌⊎◌, inl, inr, Bool, true, false, cond, List, Option, Some, None, refl, sym, subst, arith, nat_lt}
+use Rattle.std.specs.Prelude.{IfSome}
 use Rattle.std.proofs.lemmas.Bool.Decides.{nat_tests}
-use Rattle.rgw_types.specs.declared.pool_key.Key.{Key}
 use Rattle.rgw_model.specs.declared.stamp.Stamp.{Stamp}
 use Rattle.rgw_model.specs.Stamps.{IsEarlier, counted_moment, stamp_above}
 use Rattle.object_words.specs.declared.bucket.Bucket.{Bucket}
@@ -12,27 +11,20 @@ use Rattle.object_words.specs.declared.head.NewHead.{NewHead}
 use Rattle.object_words.specs.declared.head.Conditions.{Conditions}
 use Rattle.object_words.specs.declared.head.SeenSlot.TheVariants.{Live}
 use Rattle.object_words.specs.declared.why.Why.{Why}
-use Rattle.object_words.specs.Keys.{put, put_key, head_key, tail_key}
-use Rattle.object_words.specs.Names.{at, with_name, without_name}
+use Rattle.object_words.specs.Names.{at}
 use Rattle.object_words.specs.Numbers.{greatest, next}
 use Rattle.object_words.specs.Rows.{RowView}
-use Rattle.object_words.specs.Tags.{with_tag, without_tag, tags_due_taken}
-use Rattle.object_words.specs.Entries.{EntryView, no_entry, entry_of, with_tags, stored_if_newer, is_kept}
+use Rattle.object_words.specs.Entries.{EntryView, entry_of, with_tags, stored_if_newer, is_kept}
 use Rattle.object_words.specs.Refusals.{unless_refused}
-use Rattle.object_words.specs.Shards.{Shard, new_shard, entry_at, with_entry}
-use Rattle.object_words.specs.ShardCalls.{made, prepare_refusal, prepared, settled, complete_refusal, completed, cancelled, suggest_refusal, suggested, logged_if_newer}
+use Rattle.object_words.specs.Shards.{Shard, entry_at, with_entry}
+use Rattle.object_words.specs.ShardCalls.{made, settled, logged_if_newer}
 use Rattle.object_words.specs.Heads.{Head, seen_stamp}
-use Rattle.object_words.specs.HeadCalls.{write_refusal, written, stamp_next}
+use Rattle.object_words.specs.HeadCalls.{write_refusal, written}
 use Rattle.object_words.specs.Roots.{Root, version_of, swap_refusal, swapped, with_bucket, stored_or_none}
 use Rattle.object_words.proofs.NameLemmas.{is_name_of, at-none, at-with_name, at-without_name}
 use Rattle.object_words.proofs.KeyLemmas.{same_text}
-use Rattle.realm_model.specs.Settings.{SettingsView}
-use Rattle.realm_model.specs.States.{State, opening, number_next, at_moment, put_in, Touch, nothing, at_root, at_shard, at_head, at_tail, at_changes, touched}
-use Rattle.realm_model.specs.Steps.{change_at, new_tag, suggest_event_refusal, is_master, touch_of, counted, after}
-use Rattle.realm_model.specs.Rises.{HeadRises, EntryRises, RowRises, found_in, Rises}
-use Rattle.realm_model.specs.declared.op.Op.{Op}
-use Rattle.realm_model.specs.declared.op.Op.TheVariants.{BucketRead, BucketSwap, ShardMake, Prepare, Complete, Cancel, Page, Suggest, Stats, HeadRead, HeadWrite, TailMake, TailRead, Announce}
-use Rattle.realm_model.proofs.ObjectLemmas.{put_cases, put_in_cases}
+use Rattle.realm_model.specs.Steps.{change_at}
+use Rattle.realm_model.specs.Rises.{HeadRises, EntryRises, RowRises, found_in}
 use Rattle.realm_model.proofs.EntryLemmas.{kept_or_none, at-with_entry}
 
 -- ---- entries

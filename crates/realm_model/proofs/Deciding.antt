@@ -1,29 +1,27 @@
 -- The deciding event of an account stands in the history.
-use Rattle.std.proofs.Common.{◌≡◌, ℕ, ◌+◌, ◌⊎◌, inl, inr, Bool, true, false, cond, List, [], ◌∷◌, ◌++◌, length, Option, Some, None, refl, sym, ◌∙◌, ap, subst, arith, append_assoc}
+use Rattle.std.proofs.Common.{◌≡◌, ℕ, ◌⊎◌, inl, inr, true, false, cond, List, [], ◌∷◌, ◌++◌, Option, Some, refl, sym, ◌∙◌, ap, subst, arith, append_assoc}
 use Rattle.std.proofs.lemmas.List.{append-nil}
-use Rattle.std.specs.Prelude.{unwrap_or}
-use Rattle.object_words.specs.declared.why.Why.TheVariants.{Absent, Raced, Held, Moved, Closed, NoTag, Stale, Fenced, NotEmpty, Unsettled, Expired, NotMet, Older, NoSpace, Gone, Trimmed}
+use Rattle.object_words.specs.declared.why.Why.TheVariants.{Expired}
 use Rattle.object_words.specs.declared.entry.Guard.{Guard}
 use Rattle.object_words.specs.declared.head.NewHead.{NewHead}
 use Rattle.object_words.specs.declared.head.Conditions.{Conditions}
 use Rattle.object_words.specs.declared.head.SeenSlot.{SeenSlot}
-use Rattle.object_words.specs.declared.head.SeenSlot.TheVariants.{Nothing, Live}
+use Rattle.object_words.specs.declared.head.SeenSlot.TheVariants.{Live}
 use Rattle.object_words.specs.Heads.{is_live}
-use Rattle.object_words.specs.Names.{at, with_name}
 use Rattle.object_words.proofs.KeyLemmas.{number_itself}
 use Rattle.object_words.proofs.NameLemmas.{name_itself, at-with_name}
 use Rattle.realm_model.specs.Settings.{SettingsView}
 use Rattle.realm_model.specs.States.{number_next, clock_at}
 use Rattle.realm_model.specs.Phases.{ActorId}
 use Rattle.realm_model.specs.Maps.{Maps, Made, mapped, mapped_by, no_maps, slot_at, with_slot, heads, whole_slot}
-use Rattle.realm_model.specs.Accounts.{Account, Decided, blank, slot_now, decided_at, tried_at, decided_after, source_after, target_after, accounted}
-use Rattle.realm_model.specs.Worlds.{World, start, same_actor, actor_of, happens}
-use Rattle.realm_model.specs.Histories.{run, world_of, state_of, account_of}
+use Rattle.realm_model.specs.Accounts.{Account, Decided, slot_now, decided_at, tried_at, decided_after, source_after, target_after, accounted}
+use Rattle.realm_model.specs.Worlds.{start, actor_of}
+use Rattle.realm_model.specs.Histories.{world_of, account_of}
 use Rattle.realm_model.specs.Decisions.{Stands}
 use Rattle.realm_model.specs.declared.op.Op.{Op}
-use Rattle.realm_model.specs.declared.op.Op.TheVariants.{BucketRead, BucketSwap, ShardMake, Prepare, Complete, Cancel, Page, Suggest, Stats, HeadRead, HeadWrite, TailMake, TailRead, Announce}
+use Rattle.realm_model.specs.declared.op.Op.TheVariants.{HeadRead, HeadWrite}
 use Rattle.realm_model.specs.declared.event.Reply.{Reply}
-use Rattle.realm_model.specs.declared.event.Reply.TheVariants.{Done, No, Head as head_reply, Changed}
+use Rattle.realm_model.specs.declared.event.Reply.TheVariants.{No, Head as head_reply, Changed}
 use Rattle.realm_model.specs.declared.event.Event.{Event}
 use Rattle.realm_model.proofs.Runs.{run-append, count_from}
 use Rattle.realm_model.proofs.ObjectLemmas.{put_actor_cases}
@@ -46,10 +44,12 @@ module _ (y : Account) (maps : Maps) (made : Made) (number clock : ℕ) (d : Dec
   unchanged op reply zone container name same is =
       let slot = slot_now maps made zone container name in
       let here : Decides maps made op reply number clock (decided_at y number clock zone container name slot slot) =
-        record {
-          number = refl; clock = refl; before = refl;
-          after = ap (λ m. slot_now m made zone container name) (sym same);
-        } in
+      record {
+        number = refl;
+        clock = refl;
+        before = refl;
+        after = ap (λ m. slot_now m made zone container name) (sym same);
+      } in
       subst (λ x. Decides maps made op reply number clock x) is here
 
   -- a change of a head, where it decides
@@ -59,10 +59,12 @@ module _ (y : Account) (maps : Maps) (made : Made) (number clock : ℕ) (d : Dec
       let slot = slot_now maps made zone container name in
       let after = whole_slot made zone (Live new change.stamp) in
       let here : Decides maps made op (Changed change) number clock (decided_at y number clock zone container name slot after) =
-        record {
-          number = refl; clock = refl; before = refl;
-          after = ap (whole_slot made zone) (sym (slot-with_slot maps zone container name (Live new change.stamp)));
-        } in
+      record {
+        number = refl;
+        clock = refl;
+        before = refl;
+        after = ap (whole_slot made zone) (sym (slot-with_slot maps zone container name (Live new change.stamp)));
+      } in
       let same : decided_at y number clock zone container name slot after ≡ d = cc in
       inr (subst (λ x. Decides maps made op (Changed change) number clock x) same here)
   tried_cases zone container name guard new when (No (Expired deadline late)) old is = inl is
@@ -98,9 +100,15 @@ mapped_by-append maps (x ∷ xs) ys = mapped_by-append (mapped maps x.op x.reply
 module _ (settings : SettingsView) where
   stands_longer : (history more : List Event) (actor : ActorId) (d : Decided) → Stands settings history actor d → Stands settings (history ++ more) actor d
   stands_longer history more actor d s = record {
-    earlier = s.earlier; event = s.event; later = s.later ++ more;
+    earlier = s.earlier;
+    event = s.event;
+    later = s.later ++ more;
     stands = ap (λ xs. xs ++ more) s.stands ∙ append_assoc (s.earlier ++ s.event ∷ []) s.later more;
-    own = s.own; number = s.number; clock = s.clock; before = s.before; after = s.after;
+    own = s.own;
+    number = s.number;
+    clock = s.clock;
+    before = s.before;
+    after = s.after;
   }
 
   stands_now : (history : List Event) (e : Event) (d : Decided) → let w = world_of settings history in Decides w.maps w.stripes.made e.op e.reply (number_next w.state) (clock_at w.state.clock e.moment) d → Stands settings (history ++ e ∷ []) (actor_of e) d
@@ -111,9 +119,11 @@ module _ (settings : SettingsView) where
       let number = is.number in
       let made = w.stripes.made in
       let longer : mapped w.maps e.op e.reply ≡ heads (history ++ e ∷ []) =
-        ap (λ m. mapped m e.op e.reply) maps ∙ sym (mapped_by-append no_maps history (e ∷ [])) in
+      ap (λ m. mapped m e.op e.reply) maps ∙ sym (mapped_by-append no_maps history (e ∷ [])) in
       record {
-        earlier = history; event = e; later = [];
+        earlier = history;
+        event = e;
+        later = [];
         stands = sym (append-nil (history ++ e ∷ []));
         own = refl;
         number = omega (arith, number, count);
@@ -141,28 +151,28 @@ module _ (settings : SettingsView) where
       let number = number_next w.state in
       let clock = clock_at w.state.clock e.moment in
       let later : (a : ActorId) (d : Decided) → Stands settings history a d → Stands settings (history ++ one) a d =
-        λ a d is. stands_longer history one a d is in
+      λ a d is. stands_longer history one a d is in
       let older : (a : ActorId) → OneStands (history ++ one) a (w.accounts a) =
-        λ a. record {
-          decided = λ d is. later a d ((stand a).decided d is);
-          source = λ d is. later a d ((stand a).source d is);
-          target = λ d is. later a d ((stand a).target d is);
-        } in
+      λ a. record {
+        decided = λ d is. later a d ((stand a).decided d is);
+        source = λ d is. later a d ((stand a).source d is);
+        target = λ d is. later a d ((stand a).target d is);
+      } in
       let newer : OneStands (history ++ one) maker (accounted y w.maps w.stripes.made e.op e.reply number clock) =
-        record {
-          decided = λ d is. elim (decided_cases y w.maps w.stripes.made number clock d e.op e.reply is) [
-            | inl before ↦ later maker d ((stand maker).decided d before)
-            | inr now ↦ stands_now history e d now
-          ];
-          source = λ d is. elim (source_cases y w.maps w.stripes.made number clock d e.op e.reply is) [
-            | inl before ↦ later maker d ((stand maker).source d before)
-            | inr now ↦ stands_now history e d now
-          ];
-          target = λ d is. elim (target_cases y w.maps w.stripes.made number clock d e.op e.reply is) [
-            | inl before ↦ later maker d ((stand maker).target d before)
-            | inr now ↦ stands_now history e d now
-          ];
-        } in
+      record {
+        decided = λ d is. elim (decided_cases y w.maps w.stripes.made number clock d e.op e.reply is) [
+          | inl before ↦ later maker d ((stand maker).decided d before)
+          | inr now ↦ stands_now history e d now
+        ];
+        source = λ d is. elim (source_cases y w.maps w.stripes.made number clock d e.op e.reply is) [
+          | inl before ↦ later maker d ((stand maker).source d before)
+          | inr now ↦ stands_now history e d now
+        ];
+        target = λ d is. elim (target_cases y w.maps w.stripes.made number clock d e.op e.reply is) [
+          | inl before ↦ later maker d ((stand maker).target d before)
+          | inr now ↦ stands_now history e d now
+        ];
+      } in
       let all = put_actor_cases (OneStands (history ++ one)) w.accounts maker _ newer older actor in
       subst (OneStands (history ++ one) actor) (sym (ap (λ x. x.accounts actor) (run-append settings (start settings) history one))) all
 

@@ -22,6 +22,6 @@ doings-next settings history e =
     let phase = put_actor_here w.phases actor (learnt (w.phases actor) e.op e.reply number clock) in
     let account = put_actor_here w.accounts actor (accounted (w.accounts actor) w.maps w.stripes.made e.op e.reply number clock) in
     let one : doings (happens settings w e) ≡ done (doings w) w.maps w.stripes.made e.op e.reply number clock =
-      λ i. record { phase = phase i; account = account i } in
+    λ i. record { phase = phase i; account = account i } in
     ap doings (run-append settings (start settings) history (e ∷ [])) ∙ one
     ∙ ap (λ maps. done (doings w) maps w.stripes.made e.op e.reply number clock) (maps-run settings (start settings) history)

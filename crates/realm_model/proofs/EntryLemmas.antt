@@ -1,5 +1,5 @@
 -- What a shard has of a name after one entry changed.
-use Rattle.std.proofs.Common.{◌≡◌, ℕ, Bool, true, false, cond, List, Option, Some, None, refl, sym, ◌∙◌, ap}
+use Rattle.std.proofs.Common.{◌≡◌, ℕ, true, false, cond, List, Option, Some, None}
 use Rattle.object_words.specs.Names.{at, with_name, without_name}
 use Rattle.object_words.specs.Entries.{EntryView, is_kept}
 use Rattle.object_words.specs.Shards.{Shard, with_entry}

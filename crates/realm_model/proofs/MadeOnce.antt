@@ -1,12 +1,11 @@
 -- A tail is made once.
-use Rattle.std.proofs.Common.{◌≡◌, ℕ, ◌+◌, ◌==◌, ◌<◌, ◌≤◌, ◌&&◌, ◌||◌, ◌⊎◌, inl, inr, Bool, true, false, cond, List, [], ◌∷◌, ◌++◌, length, length-append, Option, Some, None, refl, sym, ◌∙◌, ap, subst, arith}
+use Rattle.std.proofs.Common.{◌≡◌, ℕ, ◌+◌, ◌==◌, ◌≤◌, inl, inr, true, false, cond, List, [], ◌∷◌, ◌++◌, length, length-append, Option, Some, None, refl, sym, ◌∙◌, ap, subst, arith}
 use Rattle.std.specs.Prelude.{IfSome, unwrap_or}
 use Rattle.rgw_types.specs.declared.pool_key.Key.{Key}
 use Rattle.rgw_types.specs.Stripes.{tails_of}
-use Rattle.object_words.specs.declared.why.Why.{Why}
 use Rattle.object_words.specs.Keys.{is_key, tail_key, put, put_key}
 use Rattle.object_words.specs.Refusals.{unless_refused}
-use Rattle.object_words.specs.Tails.{Tail, no_tail, tail_refusal, tail_made}
+use Rattle.object_words.specs.Tails.{Tail, no_tail, tail_refusal}
 use Rattle.object_words.proofs.KeyLemmas.{same_key, key_itself, number_itself}
 use Rattle.realm_model.specs.Settings.{SettingsView}
 use Rattle.realm_model.specs.States.{State, at_moment, put_in, touched}
@@ -17,18 +16,18 @@ use Rattle.realm_model.specs.Needs.{is_between, is_own_write, is_next_part, hold
 use Rattle.realm_model.specs.Allowed.{meets_need, allowed}
 use Rattle.realm_model.specs.Learnt.{put_bundle, with_part, own_after, learnt}
 use Rattle.realm_model.specs.Maps.{Made}
-use Rattle.realm_model.specs.Worlds.{World, start, same_actor, put_actor, actor_of, made_after, happens}
+use Rattle.realm_model.specs.Worlds.{World, start, put_actor, actor_of, made_after, happens}
 use Rattle.realm_model.specs.Histories.{run, world_of, state_of, IsNext, LegalFrom, Legal}
 use Rattle.realm_model.specs.declared.op.Op.{Op}
 use Rattle.realm_model.specs.declared.op.Op.TheVariants.{BucketRead, BucketSwap, ShardMake, Prepare, Complete, Cancel, Page, Suggest, Stats, HeadRead, HeadWrite, TailMake, TailRead, Announce}
 use Rattle.realm_model.specs.declared.event.Reply.{Reply}
-use Rattle.realm_model.specs.declared.event.Reply.TheVariants.{Done, No, Changed}
+use Rattle.realm_model.specs.declared.event.Reply.TheVariants.{Done, Changed}
 use Rattle.realm_model.specs.declared.event.Event.{Event}
 use Rattle.realm_model.proofs.Computing.{left_of, right_of}
 use Rattle.realm_model.proofs.Runs.{touched-count, last_is_next, legal_front}
-use Rattle.realm_model.proofs.ObjectLemmas.{number_same, put_cases, put_bundle_cases, put_actor_cases, put_actor_here}
+use Rattle.realm_model.proofs.ObjectLemmas.{number_same, put_bundle_cases, put_actor_cases, put_actor_here}
 use Rattle.realm_model.proofs.TouchLemmas.{put_in_same}
-use Rattle.realm_model.proofs.Makers.{IsBy, KnowsOwn, fresh_knows, by_before, by_now, knows_more, knows_learnt, own_write}
+use Rattle.realm_model.proofs.Makers.{IsBy, KnowsOwn, fresh_knows, by_before, knows_more, knows_learnt, own_write}
 
 -- ---- parts that a bundle has used
 

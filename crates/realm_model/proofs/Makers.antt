@@ -1,22 +1,21 @@
 -- Who may make a tail: each number of a write belongs to one actor.
-use Rattle.std.proofs.Common.{◌≡◌, ℕ, ◌+◌, ◌==◌, ◌<◌, ◌≤◌, ◌&&◌, ◌||◌, ◌⊎◌, inl, inr, not, Bool, true, false, cond, List, [], ◌∷◌, ◌++◌, length, length-append, Option, Some, None, refl, sym, ◌∙◌, ap, subst, arith}
+use Rattle.std.proofs.Common.{◌≡◌, ℕ, ◌+◌, ◌==◌, ◌≤◌, ◌||◌, ◌⊎◌, inl, inr, not, Bool, true, false, cond, List, length, Option, Some, None, refl, ◌∙◌, subst, arith}
 use Rattle.std.specs.Prelude.{IfSome}
-use Rattle.std.proofs.lemmas.Bool.Decides.{nat_tests}
-use Rattle.rgw_types.specs.Stripes.{ManifestView, tails_of}
+use Rattle.rgw_types.specs.Stripes.{tails_of}
 use Rattle.object_words.specs.Keys.{put}
 use Rattle.object_words.proofs.KeyLemmas.{number_itself}
 use Rattle.manifest.specs.Ranges.{part_size}
 use Rattle.realm_model.specs.Settings.{SettingsView}
 use Rattle.realm_model.specs.Tests.{is_so}
 use Rattle.realm_model.specs.Ops.{zone_of}
-use Rattle.realm_model.specs.Phases.{ActorId, FirstEvent, Bundle, unused, opened, spent, OwnStripes, Phase, fresh}
-use Rattle.realm_model.specs.Needs.{is_between, is_first, is_own_write, is_next_part, has_sizes, tail_sizes, holder_of, has_parts, may_change_head}
+use Rattle.realm_model.specs.Phases.{ActorId, FirstEvent, Bundle, unused, spent, Phase, fresh}
+use Rattle.realm_model.specs.Needs.{is_between, is_first, is_own_write, has_sizes, tail_sizes, holder_of, has_parts, may_change_head}
 use Rattle.realm_model.specs.Allowed.{meets_need, allowed}
-use Rattle.realm_model.specs.Learnt.{first_after, put_bundle, with_part, own_after, reads_after, learnt}
+use Rattle.realm_model.specs.Learnt.{first_after, put_bundle, own_after, reads_after, learnt}
 use Rattle.realm_model.specs.declared.op.Op.{Op}
-use Rattle.realm_model.specs.declared.op.Op.TheVariants.{BucketRead, BucketSwap, ShardMake, Prepare, Complete, Cancel, Page, Suggest, Stats, HeadRead, HeadWrite, TailMake, TailRead, Announce}
+use Rattle.realm_model.specs.declared.op.Op.TheVariants.{HeadRead, HeadWrite, TailMake}
 use Rattle.realm_model.specs.declared.event.Reply.{Reply}
-use Rattle.realm_model.specs.declared.event.Reply.TheVariants.{Done, No, Row, Prepared, Entries, Stats as stats_reply, Head as head_reply, Changed, Bytes, Position}
+use Rattle.realm_model.specs.declared.event.Reply.TheVariants.{Done, Head as head_reply, Changed}
 use Rattle.realm_model.proofs.Computing.{left_of, right_of}
 use Rattle.realm_model.proofs.ObjectLemmas.{number_same, put_cases, put_bundle_cases}
 

@@ -1,5 +1,5 @@
 -- The numbers of a pass's own events.
-use Rattle.std.proofs.Common.{◌≡◌, ◌≢◌, ℕ, ◌+◌, ◌==◌, Bool, true, false, cond, List, [], ◌∷◌, ◌++◌, length, map, filter, refl, sym, ◌∙◌, ap, subst, arith, append_assoc, length-append}
+use Rattle.std.proofs.Common.{◌≡◌, ℕ, ◌+◌, ◌==◌, true, false, cond, List, [], ◌∷◌, ◌++◌, length, map, filter, refl, ◌∙◌, ap, subst, arith}
 use Rattle.std.proofs.lemmas.List.{append-nil}
 use Rattle.std.specs.List.{enumerate_from}
 use Rattle.object_words.proofs.KeyLemmas.{number_itself}
@@ -38,5 +38,5 @@ mine-next pass seen between e none own =
     let place : 1 + length (seen ++ between) ≡ length (seen ++ between) + 1 = omega arith in
     let is_own : (e.pass == pass) ≡ true = subst (λ p. (e.pass == p) ≡ true) own (number_itself e.pass) in
     let one : mine_from (1 + length (seen ++ between)) pass (e ∷ []) ≡ (length (seen ++ between) + 1) ∷ [] =
-      rw is_own (ap (λ n. n ∷ []) place) in
+    rw is_own (ap (λ n. n ∷ []) place) in
     first ∙ ap (λ ns. ns ++ mine_from (1 + length (seen ++ between)) pass (e ∷ [])) second ∙ ap (λ ns. mine pass seen ++ ns) one

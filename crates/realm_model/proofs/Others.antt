@@ -1,9 +1,9 @@
 -- What an actor knows follows from its own events.
-use Rattle.std.proofs.Common.{◌≡◌, ℕ, ◌+◌, ◌==◌, Bool, true, false, cond, max, List, [], ◌∷◌, ◌++◌, refl, sym, ◌∙◌, ap, ap₂, subst, arith}
+use Rattle.std.proofs.Common.{◌≡◌, ℕ, ◌+◌, ◌==◌, true, false, cond, max, List, [], ◌∷◌, ◌++◌, refl, sym, ◌∙◌, ap, arith}
 use Rattle.std.proofs.lemmas.Bool.Decides.{nat_tests}
 use Rattle.rgw_model.specs.Stamps.{counted_moment}
 use Rattle.realm_model.specs.Settings.{SettingsView}
-use Rattle.realm_model.specs.States.{State, at_moment}
+use Rattle.realm_model.specs.States.{at_moment}
 use Rattle.realm_model.specs.Steps.{touch_of}
 use Rattle.realm_model.specs.Phases.{ActorId, Phase, fresh}
 use Rattle.realm_model.specs.Learnt.{learnt}

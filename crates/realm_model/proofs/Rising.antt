@@ -1,27 +1,24 @@
 -- No event lowers a stamp, a version or a revision.
-use Rattle.std.proofs.Common.{◌≡◌, ℕ, ◌+◌, ◌<◌, ◌≤◌, ◌^◌, ◌⊎◌, inl, inr, max, List, [], ◌∷◌, ◌++◌, length, Option, Some, None, refl, sym, ◌∙◌, ap, subst, arith}
+use Rattle.std.proofs.Common.{ℕ, ◌+◌, ◌<◌, ◌≤◌, ◌^◌, List, [], ◌∷◌, ◌++◌, length, Some, sym, subst, arith}
 use Rattle.rgw_types.specs.declared.pool_key.Key.{Key}
-use Rattle.rgw_model.specs.Stamps.{counted_moment}
-use Rattle.object_words.specs.Keys.{put, put_key, head_key, tail_key}
+use Rattle.object_words.specs.Keys.{head_key}
 use Rattle.object_words.specs.Names.{at}
 use Rattle.object_words.specs.Tags.{with_tag, without_tag, tags_due_taken}
-use Rattle.object_words.specs.Shards.{Shard, entry_at}
-use Rattle.object_words.specs.ShardCalls.{made, prepare_refusal, complete_refusal, suggest_refusal, suggested, settled}
-use Rattle.object_words.specs.Heads.{Head}
-use Rattle.object_words.specs.Roots.{Root}
+use Rattle.object_words.specs.Shards.{entry_at}
+use Rattle.object_words.specs.ShardCalls.{prepare_refusal, complete_refusal, suggest_refusal, settled}
 use Rattle.object_words.proofs.NameLemmas.{at-none}
 use Rattle.realm_model.specs.Settings.{SettingsView}
-use Rattle.realm_model.specs.States.{State, opening, number_next, at_moment, put_in, Touch, nothing, at_root, at_shard, at_head, at_tail, at_changes, touched}
-use Rattle.realm_model.specs.Steps.{change_at, new_tag, suggest_event_refusal, is_master, touch_of, counted, after}
+use Rattle.realm_model.specs.States.{State, opening, at_moment, Touch, nothing, at_root, at_shard, at_head, at_tail, at_changes, touched}
+use Rattle.realm_model.specs.Steps.{new_tag, suggest_event_refusal, is_master, touch_of, after}
 use Rattle.realm_model.specs.Worlds.{World, start, happens}
 use Rattle.realm_model.specs.Histories.{run, state_of}
-use Rattle.realm_model.specs.Rises.{HeadRises, EntryRises, RowRises, found_in, Rises}
+use Rattle.realm_model.specs.Rises.{Rises}
 use Rattle.realm_model.specs.declared.op.Op.{Op}
 use Rattle.realm_model.specs.declared.op.Op.TheVariants.{BucketRead, BucketSwap, ShardMake, Prepare, Complete, Cancel, Page, Suggest, Stats, HeadRead, HeadWrite, TailMake, TailRead, Announce}
 use Rattle.realm_model.specs.declared.event.Event.{Event}
 use Rattle.realm_model.proofs.Runs.{count_from, state-next, touched-count, touched-clock}
 use Rattle.realm_model.proofs.ObjectLemmas.{put_cases, put_in_cases}
-use Rattle.realm_model.proofs.Bounds.{late, counted_early, HeadFits, RowFits, RevisionFits, ShardFits, ShardSteps, HeadSteps, RootSteps, head_more, head_stays, written_steps, root_stays, swapped_steps, shard_stays, changed_steps, made_steps, tags_step, settled_steps, unless}
+use Rattle.realm_model.proofs.Bounds.{late, counted_early, HeadFits, RowFits, ShardFits, ShardSteps, HeadSteps, RootSteps, head_stays, written_steps, root_stays, swapped_steps, shard_stays, changed_steps, made_steps, tags_step, settled_steps, unless}
 
 -- the numbers that a state keeps are below the next ones
 pub record Bounded (st : State) : Type 0 where

@@ -1,10 +1,10 @@
 -- Histories one behind another.
-use Rattle.std.proofs.Common.{◌≡◌, ℕ, ◌+◌, List, [], ◌∷◌, ◌++◌, length, refl, sym, ◌∙◌, ap, subst, arith}
+use Rattle.std.proofs.Common.{◌≡◌, ◌+◌, List, [], ◌∷◌, ◌++◌, length, refl, ◌∙◌, ap, arith}
 use Rattle.realm_model.specs.Settings.{SettingsView}
 use Rattle.realm_model.specs.States.{State, at_moment, Touch, nothing, at_root, at_shard, at_head, at_tail, at_changes, touched}
 use Rattle.realm_model.specs.Steps.{touch_of, after}
 use Rattle.realm_model.specs.Worlds.{World, start, happens}
-use Rattle.realm_model.specs.Histories.{run, answer_in, answer_after, world_of, state_of, IsNext, LegalFrom, Legal}
+use Rattle.realm_model.specs.Histories.{run, world_of, state_of, IsNext, LegalFrom, Legal}
 use Rattle.realm_model.specs.Owns.{clock_after}
 use Rattle.realm_model.specs.declared.event.Event.{Event}
 

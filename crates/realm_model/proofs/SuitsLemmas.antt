@@ -1,7 +1,6 @@
 -- The answer of the step suits its operation.
-use Rattle.std.proofs.Common.{◌≡◌, ℕ, Bool, true, false, cond, List, Option, Some, None, refl}
+use Rattle.std.proofs.Common.{ℕ, Bool, true, false, cond, List, Option, Some, None}
 use Rattle.std.specs.Prelude.{IfSome, nat_lt, nat_le, ◌==◌, ◌&&◌, not}
-use Rattle.object_words.specs.declared.bucket.Bucket.{Bucket}
 use Rattle.object_words.specs.declared.entry.Guard.{Guard}
 use Rattle.object_words.specs.declared.head.NewHead.{NewHead}
 use Rattle.object_words.specs.declared.head.Conditions.{Conditions}
@@ -10,11 +9,10 @@ use Rattle.object_words.specs.declared.shard.Fate.TheVariants as Fates
 use Rattle.object_words.specs.declared.shard.Hold.{Hold}
 use Rattle.object_words.specs.declared.shard.Hold.TheVariants.{Free, Reshard, Closing}
 use Rattle.object_words.specs.declared.why.Why.{Why}
-use Rattle.object_words.specs.declared.why.Why.TheVariants.{Absent, Raced, Held, Moved, Closed, NoTag, Stale, Expired, NotMet, NoSpace, Gone}
+use Rattle.object_words.specs.declared.why.Why.TheVariants.{Raced, Moved, Closed, NoTag, Stale, Expired, NoSpace, Gone}
 use Rattle.object_words.specs.Keys.{head_key, tail_key}
 use Rattle.object_words.specs.Names.{at}
 use Rattle.object_words.specs.Tags.{has_tag, has_due}
-use Rattle.object_words.specs.Entries.{EntryView}
 use Rattle.object_words.specs.Shards.{Shard, entry_at}
 use Rattle.object_words.specs.Refusals.{first_refusal, fate_refusal, hold_refusal, change_refusal}
 use Rattle.object_words.specs.ShardCalls.{tag_refusal, complete_refusal, stale_refusal, suggest_refusal, untimely_refusal}
@@ -135,8 +133,8 @@ reply_suits settings st (Page zone key after limit) =
 reply_suits settings st (Suggest zone key name revision seen version row) =
     shard_suits (Suggest zone key name revision seen version row) (st.shards zone key) _ tt
     (λ s.
-      answer_suits (Suggest zone key name revision seen version row) _ (suggest_event_refusal s name revision seen) tt
-      (suggest_outdated s name revision seen))
+    answer_suits (Suggest zone key name revision seen version row) _ (suggest_event_refusal s name revision seen) tt
+    (suggest_outdated s name revision seen))
 reply_suits settings st (Stats zone key) =
     shard_suits (Stats zone key) (st.shards zone key) _ tt
     (λ s. answer_suits (Stats zone key) _ (fate_refusal s.fate) tt (fate_left s.fate))

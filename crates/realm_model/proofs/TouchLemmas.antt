@@ -1,19 +1,19 @@
 -- An operation that is refused leaves its object as it was.
-use Rattle.std.proofs.Common.{◌≡◌, ℕ, ◌+◌, ◌-◌, List, Option, Some, None, refl, ap, ◌∙◌, arith}
+use Rattle.std.proofs.Common.{◌≡◌, ℕ, List, Option, Some, None, refl, ap, ◌∙◌, arith}
 use Rattle.rgw_types.specs.declared.pool_key.Key.{Key}
 use Rattle.object_words.specs.declared.why.Why.{Why}
-use Rattle.object_words.specs.Keys.{put, put_key, head_key, tail_key}
-use Rattle.object_words.specs.Refusals.{unless_refused, fate_refusal}
+use Rattle.object_words.specs.Keys.{put, head_key, tail_key}
+use Rattle.object_words.specs.Refusals.{unless_refused}
 use Rattle.object_words.specs.Shards.{Shard}
-use Rattle.object_words.specs.Heads.{Head, first_bytes, frames_for}
-use Rattle.object_words.specs.Roots.{Root, swap_refusal, swapped}
-use Rattle.object_words.specs.Tails.{Tail, tail_refusal, tail_made, bytes_at, read_refusal}
+use Rattle.object_words.specs.Heads.{Head, first_bytes}
+use Rattle.object_words.specs.Roots.{Root, swap_refusal}
+use Rattle.object_words.specs.Tails.{Tail, tail_refusal}
 use Rattle.object_words.specs.ShardCalls.{prepare_refusal, complete_refusal}
-use Rattle.object_words.specs.HeadCalls.{write_refusal, written}
+use Rattle.object_words.specs.HeadCalls.{write_refusal}
 use Rattle.object_words.proofs.KeyLemmas.{put_same, put_key_same}
 use Rattle.realm_model.specs.Settings.{SettingsView}
-use Rattle.realm_model.specs.States.{State, number_next, put_in, free_after, Touch, at_root, at_shard, at_head, at_tail, touched}
-use Rattle.realm_model.specs.Steps.{reply_or, on_shard, change_at, new_tag, suggest_event_refusal, reply_of, touch_of}
+use Rattle.realm_model.specs.States.{State, put_in, free_after, at_root, at_shard, at_head, at_tail, touched}
+use Rattle.realm_model.specs.Steps.{reply_or, on_shard, change_at, suggest_event_refusal, reply_of, touch_of}
 use Rattle.realm_model.specs.declared.op.Op.{Op}
 use Rattle.realm_model.specs.declared.op.Op.TheVariants.{BucketRead, BucketSwap, ShardMake, Prepare, Complete, Cancel, Page, Suggest, Stats, HeadRead, HeadWrite, TailMake, TailRead, Announce}
 use Rattle.realm_model.specs.declared.event.Reply.{Reply}

@@ -4,9 +4,7 @@ use Rattle.rgw_types.specs.declared.pool_key.Key.{Key}
 use Rattle.rgw_model.specs.declared.slot.Slot.{Slot}
 use Rattle.object_words.specs.declared.bucket.Bucket.{Bucket}
 use Rattle.object_words.specs.declared.head.NewHead.{NewHead}
-use Rattle.object_words.specs.declared.head.SeenSlot.{SeenSlot}
 use Rattle.object_words.specs.declared.head.SeenSlot.TheVariants.{Live}
-use Rattle.object_words.specs.declared.why.Why.{Why}
 use Rattle.object_words.specs.declared.why.Why.TheVariants.{Moved, Closed, Held, NoTag, Expired, NoSpace}
 use Rattle.object_words.specs.Keys.{container_of, instance_of, number_of}
 use Rattle.object_words.specs.Heads.{is_live}

@@ -1,10 +1,10 @@
 -- Where the event stands that decides the reply to an object request: its actor's last own read of a head, or change of one
 -- that was not answered Expired; where it made none, its last bucket read.
-use Rattle.std.specs.Prelude.{◌≡◌, ℕ, ◌+◌, List, [], ◌∷◌, ◌++◌, length}
+use Rattle.std.specs.Prelude.{◌≡◌, ◌+◌, List, [], ◌∷◌, ◌++◌, length}
 use Rattle.realm_model.specs.Settings.{SettingsView}
 use Rattle.realm_model.specs.States.{clock_at}
 use Rattle.realm_model.specs.Phases.{ActorId}
-use Rattle.realm_model.specs.Maps.{slot_at, heads, whole_slot}
+use Rattle.realm_model.specs.Maps.{heads}
 use Rattle.realm_model.specs.Accounts.{Decided, slot_now}
 use Rattle.realm_model.specs.Worlds.{actor_of}
 use Rattle.realm_model.specs.Histories.{world_of, state_of}

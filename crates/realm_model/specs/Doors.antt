@@ -1,5 +1,5 @@
 -- What a door tells: through which pass its actors act, who acts now, and which front of the one history it has seen.
-use Rattle.std.specs.Prelude.{◌≡◌, ◌≢◌, ℕ, ◌==◌, Bool, List, [], ◌∷◌, ◌++◌, map, filter}
+use Rattle.std.specs.Prelude.{◌≡◌, ◌≢◌, ℕ, ◌==◌, Bool, List, ◌++◌, map, filter}
 use Rattle.std.specs.List.{AllByRecursion, enumerate_from}
 use Rattle.realm_model.specs.Phases.{ActorId}
 use Rattle.realm_model.specs.declared.event.Event.{Event}

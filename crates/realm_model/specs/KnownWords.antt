@@ -206,7 +206,7 @@ hello_at_head moment =
     ∷ by 2 moment (Prepare 1 shard k) (Prepared (guard 5 (moment + 120000000)))
     ∷ by 2 moment (Announce 1 1 1 0 box) (Position 1)
     ∷ by 2 moment (HeadWrite 1 1 k (guard 5 (moment + 120000000)) (hello 4) no_conditions)
-        (changed_reply (change 7 moment (hello_row moment) None))
+    (changed_reply (change 7 moment (hello_row moment) None))
     ∷ []
 
 -- a writer puts the letters a to z under k into a container that was made before

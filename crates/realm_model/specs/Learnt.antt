@@ -1,15 +1,14 @@
 -- What an actor knows after an own event, kind of fact by kind of fact. Each event comes with its number and the clock
 -- at it.
-use Rattle.std.specs.Prelude.{ℕ, ◌+◌, ◌==◌, ◌&&◌, ◌||◌, not, Bool, true, false, nat_lt, List, [], ◌∷◌, ◌++◌, bytes_eq, length, Option, Some, None, if◌then◌else◌}
+use Rattle.std.specs.Prelude.{ℕ, ◌+◌, ◌==◌, ◌&&◌, ◌||◌, Bool, true, false, nat_lt, List, [], ◌∷◌, ◌++◌, bytes_eq, length, Option, Some, None, if◌then◌else◌}
 use Rattle.std.specs.FinMap.Entries.{find}
 use Rattle.rgw_types.specs.declared.pool_key.Key.{Key}
 use Rattle.rgw_types.specs.Stripes.{ManifestView, tails_of}
 use Rattle.object_words.specs.declared.bucket.Bucket.{Bucket}
-use Rattle.object_words.specs.declared.entry.EntryPage.{EntryPage}
 use Rattle.object_words.specs.declared.head.SeenSlot.{SeenSlot}
 use Rattle.object_words.specs.declared.head.SeenSlot.TheVariants.{Live}
 use Rattle.object_words.specs.declared.why.Why.TheVariants.{Moved, Closed}
-use Rattle.object_words.specs.Keys.{put, put_key, is_key, shard_key, container_of, instance_of, number_of}
+use Rattle.object_words.specs.Keys.{put, is_key, shard_key, container_of, instance_of, number_of}
 use Rattle.object_words.specs.Names.{name_cmp, Named, at, with_name}
 use Rattle.object_words.specs.Tags.{has_due}
 use Rattle.object_words.specs.Entries.{EntryView}

@@ -1,11 +1,11 @@
 -- The bucket maps of a history: for each zone and container the slots that its head changes left at each name. No index
 -- and no log is looked at.
-use Rattle.std.specs.Prelude.{ℕ, List, [], ◌∷◌, ◌++◌, flat_map, unwrap_or, Option, Some, None}
+use Rattle.std.specs.Prelude.{ℕ, List, [], ◌∷◌, ◌++◌, flat_map, unwrap_or, Option}
 use Rattle.std.specs.List.{range_with_len}
 use Rattle.rgw_model.specs.declared.slot.Slot.{Slot}
 use Rattle.rgw_model.specs.declared.slot.Slot.TheVariants as Slots
 use Rattle.rgw_model.specs.declared.slot.Content.{Content}
-use Rattle.rgw_types.specs.Stripes.{ManifestView, tails_of}
+use Rattle.rgw_types.specs.Stripes.{tails_of}
 use Rattle.object_words.specs.declared.head.NewHead.{NewHead}
 use Rattle.object_words.specs.declared.head.SeenSlot.{SeenSlot}
 use Rattle.object_words.specs.declared.head.SeenSlot.TheVariants.{Nothing, Live, Mark}

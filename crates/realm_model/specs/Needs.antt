@@ -11,10 +11,9 @@ use Rattle.object_words.specs.Keys.{is_key, shard_key, container_of, instance_of
 use Rattle.object_words.specs.Names.{Named, at, entries}
 use Rattle.object_words.specs.Hashes.{shard_of}
 use Rattle.object_words.specs.Rows.{RowView}
-use Rattle.object_words.specs.Roots.{version_of, shares_all}
-use Rattle.realm_model.specs.Settings.{SettingsView}
+use Rattle.object_words.specs.Roots.{shares_all}
 use Rattle.realm_model.specs.Tests.{same_guard, same_row, same_numbers, is_so}
-use Rattle.realm_model.specs.Phases.{FirstEvent, RowRead, OwnChange, Stage, pending, tried, over, OwnTag, Sighting, Bundle, unused, opened, spent, SeenManifest, OwnShards, Phase}
+use Rattle.realm_model.specs.Phases.{RowRead, OwnChange, Stage, pending, tried, over, OwnTag, Sighting, Bundle, unused, opened, spent, SeenManifest, Phase}
 
 -- ---- numbers
 

@@ -1,10 +1,10 @@
 -- Frames run out: of one frame at the head, when the tail has it; of two at the next object's head.
-use Rattle.std.specs.Prelude.{codes, List, [], ◌∷◌, ◌++◌, None}
+use Rattle.std.specs.Prelude.{codes, List, [], ◌∷◌, ◌++◌}
 use Rattle.object_words.specs.declared.why.Why.TheVariants.{NoSpace}
-use Rattle.realm_model.specs.declared.op.Op.TheVariants.{Prepare, Announce, HeadWrite, Complete, Cancel, TailMake}
-use Rattle.realm_model.specs.declared.event.Reply.TheVariants.{Done, No, Prepared, Position, Changed}
+use Rattle.realm_model.specs.declared.op.Op.TheVariants.{Prepare, Announce, HeadWrite, Cancel, TailMake}
+use Rattle.realm_model.specs.declared.event.Reply.TheVariants.{Done, No, Prepared, Position}
 use Rattle.realm_model.specs.declared.event.Event.{Event}
-use Rattle.realm_model.specs.KnownWords.{by, made, alphabet_put, reads, shard, box, k, guard, change, hex, content, alphabet, alphabet_row, no_conditions}
+use Rattle.realm_model.specs.KnownWords.{by, made, alphabet_put, reads, shard, box, k, guard, hex, content, alphabet, no_conditions}
 
 -- one letter, in stripes of 16 bytes
 abbrev pub letter : Event

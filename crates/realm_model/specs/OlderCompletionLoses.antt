@@ -3,7 +3,7 @@ use Rattle.std.specs.Prelude.{List, [], ◌∷◌, ◌++◌, None}
 use Rattle.realm_model.specs.declared.op.Op.TheVariants.{Prepare, Announce, HeadWrite, Complete, Stats as stats_op}
 use Rattle.realm_model.specs.declared.event.Reply.TheVariants.{Done, Prepared, Position, Changed, Stats}
 use Rattle.realm_model.specs.declared.event.Event.{Event}
-use Rattle.realm_model.specs.KnownWords.{by, hello_at_head, reads, shard, box, k, guard, change, hello, hello_row, empty, empty_row, no_conditions, stats}
+use Rattle.realm_model.specs.KnownWords.{by, hello_at_head, reads, shard, box, k, guard, change, hello_row, empty, empty_row, no_conditions, stats}
 
 abbrev pub history : List Event
 history =

@@ -1,8 +1,8 @@
 -- An actor's own events, each with its number and the clock at it.
-use Rattle.std.specs.Prelude.{◌≡◌, ℕ, ◌+◌, Bool, false, List, [], ◌∷◌, if◌then◌else◌}
+use Rattle.std.specs.Prelude.{◌≡◌, ℕ, ◌+◌, false, List, [], ◌∷◌, if◌then◌else◌}
 use Rattle.std.specs.List.{AllByRecursion}
 use Rattle.realm_model.specs.States.{clock_at}
-use Rattle.realm_model.specs.Phases.{ActorId, Phase, fresh}
+use Rattle.realm_model.specs.Phases.{ActorId, Phase}
 use Rattle.realm_model.specs.Learnt.{learnt}
 use Rattle.realm_model.specs.Worlds.{same_actor, actor_of}
 use Rattle.realm_model.specs.declared.op.Op.{Op}

@@ -1,5 +1,5 @@
 -- What an actor knows from its own events, by kind of fact.
-use Rattle.std.specs.Prelude.{ℕ, Bool, true, false, List, [], Option, Some, None}
+use Rattle.std.specs.Prelude.{ℕ, Bool, false, List, [], Option, None}
 use Rattle.rgw_types.specs.declared.pool_key.Key.{Key}
 use Rattle.rgw_types.specs.Stripes.{ManifestView}
 use Rattle.object_words.specs.declared.bucket.Bucket.{Bucket}

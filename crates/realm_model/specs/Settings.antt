@@ -16,8 +16,15 @@ pub record SettingsView : Type 0 where
 -- settings of these numbers
 abbrev pub settings_of : ℕ → ℕ → ℕ → ℕ → ℕ → ℕ → ℕ → ℕ → ℕ → SettingsView
 settings_of zones stripe frame frames shards tag_life wait largest threshold = record {
-  zones = zones; stripe = stripe; frame = frame; frames = frames; shards = shards;
-  tag_life = tag_life; wait = wait; largest = largest; threshold = threshold;
+  zones = zones;
+  stripe = stripe;
+  frame = frame;
+  frames = frames;
+  shards = shards;
+  tag_life = tag_life;
+  wait = wait;
+  largest = largest;
+  threshold = threshold;
 }
 
 -- a second, in microseconds

@@ -1,5 +1,5 @@
 -- The objects of all zones, and what becomes of them when an event touches one.
-use Rattle.std.specs.Prelude.{ℕ, ◌+◌, ◌-◌, max, List, Option, Some, None}
+use Rattle.std.specs.Prelude.{ℕ, ◌+◌, ◌-◌, max, List, Option}
 use Rattle.rgw_types.specs.declared.pool_key.Key.{Key}
 use Rattle.rgw_model.specs.Stamps.{counted_moment}
 use Rattle.object_words.specs.Keys.{put, put_key}

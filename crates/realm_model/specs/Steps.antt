@@ -1,6 +1,5 @@
 -- What one operation answers, and which object it changes. An operation touches at most one object.
 use Rattle.std.specs.Prelude.{ℕ, ◌+◌, ◌==◌, Bool, List, Option, Some, None}
-use Rattle.rgw_types.specs.declared.pool_key.Key.{Key}
 use Rattle.object_words.specs.declared.bucket.Bucket.{Bucket}
 use Rattle.object_words.specs.declared.entry.Tag.{Tag}
 use Rattle.object_words.specs.declared.log.LogWhat.TheVariants.{Shard as shard_row}
@@ -14,12 +13,11 @@ use Rattle.object_words.specs.Logs.{logged}
 use Rattle.object_words.specs.Shards.{Shard, stats_of}
 use Rattle.object_words.specs.Refusals.{first_refusal, unless_refused, fate_refusal}
 use Rattle.object_words.specs.ShardCalls.{made, prepare_refusal, prepared, complete_refusal, completed, cancelled, suggest_refusal, untimely_refusal, suggested, page_of}
-use Rattle.object_words.specs.Heads.{Head}
 use Rattle.object_words.specs.HeadCalls.{seen, write_refusal, written, change_of}
-use Rattle.object_words.specs.Roots.{Root, swap_refusal, swapped}
-use Rattle.object_words.specs.Tails.{Tail, tail_refusal, tail_made, read_refusal, bytes_at}
+use Rattle.object_words.specs.Roots.{swap_refusal, swapped}
+use Rattle.object_words.specs.Tails.{tail_refusal, tail_made, read_refusal, bytes_at}
 use Rattle.realm_model.specs.Settings.{SettingsView}
-use Rattle.realm_model.specs.States.{State, number_next, at_moment, Touch, nothing, at_root, at_shard, at_head, at_tail, at_changes, touched}
+use Rattle.realm_model.specs.States.{State, number_next, Touch, nothing, at_root, at_shard, at_head, at_tail, at_changes, touched}
 use Rattle.realm_model.specs.declared.op.Op.{Op}
 use Rattle.realm_model.specs.declared.op.Op.TheVariants.{BucketRead, BucketSwap, ShardMake, Prepare, Complete, Cancel, Page, Suggest, Stats as stats_op, HeadRead, HeadWrite, TailMake, TailRead, Announce}
 use Rattle.realm_model.specs.declared.event.Reply.{Reply}

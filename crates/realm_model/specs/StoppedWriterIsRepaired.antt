@@ -1,11 +1,11 @@
 -- A writer stops between the change of the head and the completion of the entry. A listing reads the head; a check at the
 -- tag's deadline puts the entry right.
-use Rattle.std.specs.Prelude.{List, [], ◌∷◌, ◌++◌, None}
+use Rattle.std.specs.Prelude.{List, [], ◌∷◌, ◌++◌}
 use Rattle.object_words.specs.Rows.{no_row}
-use Rattle.realm_model.specs.declared.op.Op.TheVariants.{Prepare, Announce, HeadWrite, Page, HeadRead, Suggest, Stats as stats_op}
-use Rattle.realm_model.specs.declared.event.Reply.TheVariants.{Done, Prepared, Position, Changed, Entries, Head as head_reply, Stats}
+use Rattle.realm_model.specs.declared.op.Op.TheVariants.{Page, HeadRead, Suggest, Stats as stats_op}
+use Rattle.realm_model.specs.declared.event.Reply.TheVariants.{Done, Entries, Head as head_reply, Stats}
 use Rattle.realm_model.specs.declared.event.Event.{Event}
-use Rattle.realm_model.specs.KnownWords.{by, hello_at_head, reads, shard, box, k, guard, tag, change, hello, hello_row, no_conditions, one_entry, shows, stats}
+use Rattle.realm_model.specs.KnownWords.{by, hello_at_head, reads, shard, k, tag, hello, hello_row, one_entry, shows, stats}
 
 abbrev pub history : List Event
 history =

@@ -1,5 +1,4 @@
 -- Which kinds of answer an operation may have.
-use Rattle.std.specs.Prelude.{ℕ}
 use Rattle.object_words.specs.declared.why.Why.{Why}
 use Rattle.object_words.specs.declared.why.Why.TheVariants.{Absent, Raced, Held, Moved, Closed, NoTag, Stale, Expired, NotMet, NoSpace, Gone}
 use Rattle.realm_model.specs.declared.op.Op.{Op}

@@ -1,11 +1,11 @@
 -- An object of two stripes is read: its head, and a range of its tail. A second one that may only be made anew is refused.
-use Rattle.std.specs.Prelude.{codes, List, [], ◌∷◌, ◌++◌, Some, None}
+use Rattle.std.specs.Prelude.{codes, List, [], ◌∷◌, ◌++◌, Some}
 use Rattle.object_words.specs.declared.why.Why.TheVariants.{NotMet}
 use Rattle.object_words.specs.declared.head.EtagRule.TheVariants.{Any}
-use Rattle.realm_model.specs.declared.op.Op.TheVariants.{Prepare, Announce, HeadWrite, Complete, Cancel, HeadRead, TailMake, TailRead}
-use Rattle.realm_model.specs.declared.event.Reply.TheVariants.{Done, No, Prepared, Position, Changed, Bytes, Head as head_reply}
+use Rattle.realm_model.specs.declared.op.Op.TheVariants.{Prepare, Announce, HeadWrite, Cancel, HeadRead, TailMake, TailRead}
+use Rattle.realm_model.specs.declared.event.Reply.TheVariants.{Done, No, Prepared, Position, Bytes, Head as head_reply}
 use Rattle.realm_model.specs.declared.event.Event.{Event}
-use Rattle.realm_model.specs.KnownWords.{by, alphabet_put, reads, shard, box, k, guard, stamp, change, alphabet, alphabet_row, no_conditions, shows}
+use Rattle.realm_model.specs.KnownWords.{by, alphabet_put, reads, shard, box, k, guard, stamp, alphabet, no_conditions, shows}
 
 abbrev pub history : List Event
 history =

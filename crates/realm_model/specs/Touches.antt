@@ -2,7 +2,7 @@
 use Rattle.std.specs.Prelude.{◌≡◌, ℕ, ◌==◌, ◌&&◌, Bool, true, false}
 use Rattle.rgw_types.specs.declared.pool_key.Key.{Key}
 use Rattle.object_words.specs.Keys.{is_key}
-use Rattle.realm_model.specs.States.{State, Touch, nothing, at_root, at_shard, at_head, at_tail, at_changes}
+use Rattle.realm_model.specs.States.{State, Touch, at_root, at_shard, at_head, at_tail, at_changes}
 use Rattle.realm_model.specs.declared.op.Op.{Op}
 use Rattle.realm_model.specs.declared.op.Op.TheVariants.{BucketRead, Page, Stats, HeadRead, TailRead}
 

@@ -1,5 +1,5 @@
 -- All that a history leaves: the objects, what each actor knows, and facts of the history.
-use Rattle.std.specs.Prelude.{ℕ, ◌+◌, ◌==◌, ◌&&◌, Bool, true, false, List, bytes_eq, length, Option, Some, None, if◌then◌else◌}
+use Rattle.std.specs.Prelude.{ℕ, ◌==◌, ◌&&◌, Bool, true, false, List, bytes_eq, Option, Some, None, if◌then◌else◌}
 use Rattle.rgw_model.specs.declared.slot.Slot.{Slot}
 use Rattle.rgw_model.specs.declared.stamp.Stamp.{Stamp}
 use Rattle.rgw_types.specs.Stripes.{ManifestView, tails_of}
@@ -16,7 +16,7 @@ use Rattle.realm_model.specs.Needs.{holder_of}
 use Rattle.realm_model.specs.Learnt.{put_bundle, learnt}
 use Rattle.realm_model.specs.Maps.{Maps, Made, no_maps, mapped, whole_slot}
 use Rattle.realm_model.specs.Accounts.{Account, blank, accounted}
-use Rattle.realm_model.specs.Facts.{TagNote, IndexFacts, Home, Instance, InstanceState, idle, RowFacts, Place, nowhere, making, in_head, replaced, Ledger, StripeFacts, StampFacts}
+use Rattle.realm_model.specs.Facts.{TagNote, IndexFacts, Home, Instance, idle, RowFacts, Place, nowhere, making, in_head, replaced, Ledger, StripeFacts, StampFacts}
 use Rattle.realm_model.specs.declared.op.Op.{Op}
 use Rattle.realm_model.specs.declared.op.Op.TheVariants.{BucketSwap, Prepare, Complete, Cancel, HeadWrite, TailMake}
 use Rattle.realm_model.specs.declared.event.Reply.{Reply}

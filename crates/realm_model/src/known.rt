@@ -90,8 +90,11 @@ pub fn tails_are_read()
     ensures free { (state_of (words.small 16) tails.history).free 1 ≡ 13 }
     ensures slot { slot_now (heads tails.history) (world_of (words.small 16) tails.history).stripes.made 1 1 words.k
         ≡ slots.Live (record {
-            bytes = codes "abcdefghijklmnopqrstuvwxyz"; kind = words.plain; meta = [];
-            etag = words.hex (codes "c3fcd3d76192e4007dfb496cca67e13b") }) (words.stamp 0) }
+          bytes = codes "abcdefghijklmnopqrstuvwxyz";
+          kind = words.plain;
+          meta = [];
+          etag = words.hex (codes "c3fcd3d76192e4007dfb496cca67e13b");
+        }) (words.stamp 0) }
     ensures named { (world_of (words.small 16) tails.history).stripes.ledger 1 4 4
         ≡ record { count = 1; place = in_head 1 words.k } }
     ensures unnamed { (world_of (words.small 16) tails.history).stripes.ledger 1 14 14

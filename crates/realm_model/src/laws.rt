@@ -116,8 +116,8 @@ pub fn an_own_event_is_done()
     ensures { (settings : SettingsView) (history : List EventOf) (e : EventOf)
         → doings_of settings (history ++ e ∷ []) (actor_of e)
         ≡ done (doings_of settings history (actor_of e)) (heads history)
-            (world_of settings history).stripes.made e.op e.reply
-            (number_next (state_of settings history)) (clock_at (state_of settings history).clock e.moment) }
+        (world_of settings history).stripes.made e.op e.reply
+        (number_next (state_of settings history)) (clock_at (state_of settings history).clock e.moment) }
 {}
 
 /// The event that decides a reply stands in the history, with the slots of the bucket map just before
