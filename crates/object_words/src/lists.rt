@@ -1,0 +1,15 @@
+//! The lists of this crate.
+use crate::{Entry, LogRow, Tag};
+use rgw_types::{Items, Text};
+
+/// Tags, by rising number.
+pub type Tags = Items<Tag>;
+
+/// Entries, by rising name.
+pub type Entries = Items<Entry>;
+
+/// Rows of a log, by rising position.
+pub type LogRows = Items<LogRow>;
+
+/// Texts.
+pub type Texts = Items<Text>;

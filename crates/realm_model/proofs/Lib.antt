@@ -1,0 +1,15 @@
+pub mod Runs
+pub mod Computing
+pub mod Others
+pub mod TouchLemmas
+pub mod ObjectLemmas
+pub mod EntryLemmas
+pub mod Bounds
+pub mod Rising
+pub mod Agreeing
+pub mod Makers
+pub mod MadeOnce
+pub mod SuitsLemmas
+pub mod Doing
+pub mod Deciding
+pub mod Minding

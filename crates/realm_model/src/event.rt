@@ -1,0 +1,34 @@
+use crate::Op;
+use object_words::{Bucket, Changed, EntryPage, Guard, HeadSeen, ShardStats, Why};
+use rgw_types::Bytes;
+
+/// What an operation is answered.
+#[derive(Debug, Drop)]
+pub enum Reply {
+    Done,
+    /// The operation was refused, and left its object as it was.
+    No(Why),
+    /// The row of a container.
+    Row(Bucket),
+    /// The tag of a change that was prepared.
+    Prepared(Guard),
+    Entries(EntryPage),
+    Stats(ShardStats),
+    /// What a head shows, and the clock.
+    Head(HeadSeen, u64),
+    Changed(Changed),
+    Bytes(Bytes),
+    /// A position in the data log.
+    Position(u64),
+}
+
+/// An operation of an actor at a moment, with its answer. It stands in definitions alone: no value of it
+/// is made.
+#[derive(Debug, Drop)]
+pub struct Event {
+    pub pass: u64,
+    pub count: u64,
+    pub op: Op,
+    pub moment: u64,
+    pub reply: Reply,
+}

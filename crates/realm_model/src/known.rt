@@ -1,0 +1,102 @@
+//! Known histories, computed: each is legal, each answer is the step's, and they leave what they should.
+#![tactic(auto, unfolding(object_words::specs::Names::at, object_words::specs::Names::none, object_words::specs::Names::with_name, object_words::specs::Names::where_name, object_words::specs::Names::without_name, object_words::specs::Names::entries))]
+
+ghost use Rattle.std.specs.Prelude.{◌≡◌, ◌∷◌, [], true, codes, Some, None};
+ghost use Rattle.rgw_model.specs.declared.slot.Slot.TheVariants as slots;
+ghost use Rattle.object_words.specs.declared.head.SeenSlot.TheVariants.{Live};
+ghost use Rattle.object_words.specs.Keys.{head_key};
+ghost use Rattle.object_words.specs.Entries.{no_entry};
+ghost use Rattle.object_words.specs.Heads.{no_head};
+ghost use Rattle.realm_model.specs.Containers.{entry_in};
+ghost use Rattle.realm_model.specs.Maps.{heads};
+ghost use Rattle.realm_model.specs.Accounts.{slot_now};
+ghost use Rattle.realm_model.specs.Facts.{in_head, making};
+ghost use Rattle.realm_model.specs.Histories.{with_answers, all_allowed, world_of, state_of, account_of};
+ghost use Rattle.realm_model.specs.KnownWords as words;
+ghost use Rattle.realm_model.specs.StoppedWriterIsRepaired as stopped;
+ghost use Rattle.realm_model.specs.ExpiredTagIsPreparedAgain as expired;
+ghost use Rattle.realm_model.specs.OlderCompletionLoses as older;
+ghost use Rattle.realm_model.specs.LateSuggestionIsRefused as late;
+ghost use Rattle.realm_model.specs.NoSpace as no_space;
+ghost use Rattle.realm_model.specs.TailsAreRead as tails;
+
+/// What a writer left that stopped before its end is put right by a check.
+pub fn stopped_writer_is_repaired()
+    ensures answers { with_answers words.usual stopped.history ≡ stopped.history }
+    ensures allowed { all_allowed words.usual stopped.history ≡ true }
+    ensures entry { entry_in ((state_of words.usual stopped.history).shards 1 words.shard) words.k
+        ≡ record { version = 7; revision = 2; row = words.hello_row 1000000; tags = [] } }
+    ensures head { (state_of words.usual stopped.history).heads 1 (head_key 1 words.k)
+        ≡ record { version = 7; slot = Live (words.hello 4) (words.stamp 1000000) } }
+    ensures free { (state_of words.usual stopped.history).free 1 ≡ 16383 }
+    ensures last { (world_of words.usual stopped.history).index.last 1 1 words.k ≡ Some 5 }
+    ensures unfinished { (account_of words.usual stopped.history (words.actor 2)).completes ≡ 0 }
+{}
+
+/// A tag whose deadline has passed is cancelled and prepared again.
+pub fn expired_tag_is_prepared_again()
+    ensures answers { with_answers words.usual expired.history ≡ expired.history }
+    ensures allowed { all_allowed words.usual expired.history ≡ true }
+    ensures entry { entry_in ((state_of words.usual expired.history).shards 1 words.shard) words.k
+        ≡ record { version = 12; revision = 2; row = words.hello_row 120000000; tags = [] } }
+    ensures head { (state_of words.usual expired.history).heads 1 (head_key 1 words.k)
+        ≡ record { version = 12; slot = Live (words.hello 4) (words.stamp 120000000) } }
+    ensures expired { (account_of words.usual expired.history (words.actor 2)).expired.count ≡ 1 }
+    ensures changes { (account_of words.usual expired.history (words.actor 2)).changes ≡ 1 }
+    ensures completes { (account_of words.usual expired.history (words.actor 2)).completes ≡ 1 }
+{}
+
+/// A writer that completes last loses, where the other's change was later.
+pub fn older_completion_loses()
+    ensures answers { with_answers words.usual older.history ≡ older.history }
+    ensures allowed { all_allowed words.usual older.history ≡ true }
+    ensures entry { entry_in ((state_of words.usual older.history).shards 1 words.shard) words.k
+        ≡ record { version = 11; revision = 4; row = words.empty_row 1; tags = [] } }
+    ensures head { (state_of words.usual older.history).heads 1 (head_key 1 words.k)
+        ≡ record { version = 11; slot = Live (words.empty 8) (words.stamp 1) } }
+    ensures free { (state_of words.usual older.history).free 1 ≡ 16384 }
+{}
+
+/// A suggestion is refused where the entry changed since it was seen.
+pub fn late_suggestion_is_refused()
+    ensures answers { with_answers words.usual late.history ≡ late.history }
+    ensures allowed { all_allowed words.usual late.history ≡ true }
+    ensures entry { entry_in ((state_of words.usual late.history).shards 1 words.shard) words.k
+        ≡ record { version = 14; revision = 4; row = words.empty_row 120000000; tags = [] } }
+{}
+
+/// A change of a head is refused where its bytes find no frame, with the numbers.
+pub fn no_space()
+    ensures head_answers { with_answers (words.small 1) no_space.at_the_head ≡ no_space.at_the_head }
+    ensures head_allowed { all_allowed (words.small 1) no_space.at_the_head ≡ true }
+    ensures head_entry { entry_in ((state_of (words.small 1) no_space.at_the_head).shards 1 words.shard) words.k ≡ no_entry }
+    ensures head_head { (state_of (words.small 1) no_space.at_the_head).heads 1 (head_key 1 words.k) ≡ no_head }
+    ensures head_wanted { (account_of (words.small 1) no_space.at_the_head (words.actor 2)).wanted
+        ≡ Some (record { number = 8; free = 0; needed = 1 }) }
+
+    ensures next_answers { with_answers (words.small 2) no_space.at_the_next ≡ no_space.at_the_next }
+    ensures next_allowed { all_allowed (words.small 2) no_space.at_the_next ≡ true }
+    ensures next_entry { entry_in ((state_of (words.small 2) no_space.at_the_next).shards 1 words.shard) words.k
+        ≡ record { version = 8; revision = 2; row = words.alphabet_row 0; tags = [] } }
+    ensures next_free { (state_of (words.small 2) no_space.at_the_next).free 1 ≡ 0 }
+{}
+
+/// A range of an object is read from its tail, and a condition on a change is tested.
+pub fn tails_are_read()
+    ensures answers { with_answers (words.small 16) tails.history ≡ tails.history }
+    ensures allowed { all_allowed (words.small 16) tails.history ≡ true }
+    ensures entry { entry_in ((state_of (words.small 16) tails.history).shards 1 words.shard) words.k
+        ≡ record { version = 8; revision = 4; row = words.alphabet_row 0; tags = [] } }
+    ensures free { (state_of (words.small 16) tails.history).free 1 ≡ 13 }
+    ensures slot { slot_now (heads tails.history) (world_of (words.small 16) tails.history).stripes.made 1 1 words.k
+        ≡ slots.Live (record {
+          bytes = codes "abcdefghijklmnopqrstuvwxyz";
+          kind = words.plain;
+          meta = [];
+          etag = words.hex (codes "c3fcd3d76192e4007dfb496cca67e13b");
+        }) (words.stamp 0) }
+    ensures named { (world_of (words.small 16) tails.history).stripes.ledger 1 4 4
+        ≡ record { count = 1; place = in_head 1 words.k } }
+    ensures unnamed { (world_of (words.small 16) tails.history).stripes.ledger 1 14 14
+        ≡ record { count = 1; place = making (words.actor 4) } }
+{}
