@@ -1,0 +1,3 @@
+pub mod PieceLemmas
+pub mod TagLemmas
+pub mod EntryLemmas

@@ -1,0 +1,86 @@
+-- Tags in bytes.
+use Rattle.std.proofs.Common.{◌≡◌, ℕ, zero, suc, ◌+◌, ◌*◌, ◌<◌, ◌≤◌, ◌&&◌, Bool, true, false, nat_lt, List, [], ◌∷◌, ◌++◌, length, take, drop, get_or, refl, sym, ap, ap₂, ◌∙◌, arith, subst, append_assoc, length-append}
+use Rattle.std.specs.Int.{w64, from_be_bytes}
+use Rattle.std.specs.List.{AllByRecursion}
+use Rattle.std.proofs.lemmas.List.{drop-drop, drop_at, length-drop, get_or-drop}
+use Rattle.object_words.specs.declared.entry.Tag.{Tag}
+use Rattle.object_words.specs.Tags.{tags_rise}
+use Rattle.index_entry.specs.Numbers.{number_bytes}
+use Rattle.index_entry.specs.Layouts.{IsTag, tag_bytes, tags_bytes}
+use Rattle.index_entry.proofs.PieceLemmas.{AreBytes, ANumber, a_number, length-number_bytes}
+
+pub length-tag_bytes : (t : Tag) → length (tag_bytes t) ≡ 16
+length-tag_bytes t = omega (arith, length-append (number_bytes t.tag) (number_bytes t.deadline), length-number_bytes t.tag, length-number_bytes t.deadline)
+
+pub length-tags_bytes : (ts : List Tag) → length (tags_bytes ts) ≡ 16 * length ts
+length-tags_bytes [] = refl
+length-tags_bytes (t ∷ ts) = let rest = length-tags_bytes ts in omega (arith, rest, length-append (tag_bytes t) (tags_bytes ts), length-tag_bytes t)
+
+drop_none : (n : ℕ) → drop {A = ℕ} n [] ≡ []
+drop_none zero = refl
+drop_none (suc n) = refl
+
+pub drop-tags_bytes : (i : ℕ) (ts : List Tag) → drop (16 * i) (tags_bytes ts) ≡ tags_bytes (drop i ts)
+drop-tags_bytes zero ts = refl
+drop-tags_bytes (suc i) [] = drop_none (16 * suc i)
+drop-tags_bytes (suc i) (t ∷ ts) =
+    let split : 16 * suc i ≡ 16 + 16 * i = omega arith in
+    ap (λ z. drop z (tag_bytes t ++ tags_bytes ts)) split ∙ sym (drop-drop (16 * i) 16 (tag_bytes t ++ tags_bytes ts))
+    ∙ ap (drop (16 * i)) (drop_at (tag_bytes t) (tags_bytes ts) 16 (length-tag_bytes t)) ∙ drop-tags_bytes i ts
+
+rest_fit : (n : ℕ) (ts : List Tag) → AllByRecursion IsTag ts → AllByRecursion IsTag (drop n ts)
+rest_fit zero ts fit = fit
+rest_fit (suc n) [] fit = tt
+rest_fit (suc n) (t ∷ ts) fit = rest_fit n ts fit.1
+
+first_read : (bs : List ℕ) (at : ℕ) (ts : List Tag) (x d : Tag) → AllByRecursion IsTag ts → 0 < length ts → drop at bs ≡ tags_bytes ts
+    → ((t : Tag) (rest : List ℕ) → IsTag t → drop at bs ≡ tag_bytes t ++ rest → x ≡ t) → x ≡ get_or ts 0 d
+first_read bs at [] x d fit some here read = absurd (omega (arith, some))
+first_read bs at (t ∷ ts) x d fit some here read = read t (tags_bytes ts) fit.0 here
+
+get_or-first : (ts : List Tag) (place : ℕ) (d : Tag) → get_or (drop place ts) 0 d ≡ get_or ts place d
+get_or-first ts zero d = refl
+get_or-first [] (suc place) d = refl
+get_or-first (t ∷ ts) (suc place) d = get_or-first ts place d
+
+-- the tag that is read at a place of tags
+pub tag_read : (bs : List ℕ) (start at place : ℕ) (ts : List Tag) (x d : Tag) → AllByRecursion IsTag ts → place < length ts → drop start bs ≡ tags_bytes ts → at ≡ start + 16 * place
+    → ((t : Tag) (rest : List ℕ) → IsTag t → drop at bs ≡ tag_bytes t ++ rest → x ≡ t) → x ≡ get_or ts place d
+tag_read bs start at place ts x d fit some here there read =
+    let e : drop at bs ≡ tags_bytes (drop place ts) = ap (λ z. drop z bs) there ∙ sym (drop-drop (16 * place) start bs) ∙ ap (drop (16 * place)) here ∙ drop-tags_bytes place ts in
+    first_read bs at (drop place ts) x d (rest_fit place ts fit) (omega (arith, length-drop place ts)) e read ∙ get_or-first ts place d
+
+-- one comparison
+pub rise_step : (ts : List Tag) (p : ℕ) (d : Tag) → p + 1 < length ts → tags_rise (drop p ts) ≡ (nat_lt (get_or ts p d).tag (get_or ts (p + 1) d).tag && tags_rise (drop (p + 1) ts))
+rise_step [] p d some = absurd (omega (arith, some))
+rise_step (t ∷ []) p d some = absurd (omega (arith, some))
+rise_step (t ∷ u ∷ ts) zero d some = refl
+rise_step (t ∷ u ∷ ts) (suc p) d some = let e : suc p + 1 ≡ suc (p + 1) = omega arith in rw e (rise_step (u ∷ ts) p d (omega (arith, some)))
+
+pub rise_last : (ts : List Tag) (p : ℕ) → length ts ≤ p + 1 → tags_rise (drop p ts) ≡ true
+rise_last [] zero few = refl
+rise_last [] (suc p) few = refl
+rise_last (t ∷ []) zero few = refl
+rise_last (t ∷ u ∷ ts) zero few = absurd (omega (arith, few))
+rise_last (t ∷ ts) (suc p) few = rise_last ts p (omega (arith, few))
+
+-- bytes of whole tags are tags
+pub record AreTags (bs : List ℕ) (n : ℕ) : Type 0 where
+  pub tags : List Tag
+  pub fit : AllByRecursion IsTag tags
+  pub count : length tags ≡ n
+  pub here : bs ≡ tags_bytes tags
+
+pub some_tags : (n : ℕ) (bs : List ℕ) → AreBytes bs → length bs ≡ 16 * n → AreTags bs n
+some_tags zero [] fit long = record { tags = []; fit = tt; count = refl; here = refl }
+some_tags zero (b ∷ bs) fit long = absurd (omega (arith, long))
+some_tags (suc n) bs fit long =
+    let a = a_number bs 0 fit (omega (arith, long)) in
+    let b = a_number bs 8 fit (omega (arith, long)) in
+    let more = some_tags n (drop 16 bs) (λ i. omega (arith, fit (16 + i), get_or-drop 16 bs i 0)) (omega (arith, long, length-drop 16 bs)) in
+    record {
+      tags = record { tag = a.number; deadline = b.number } ∷ more.tags;
+      fit = ((a.fits, b.fits), more.fit);
+      count = omega (arith, more.count);
+      here = a.read ∙ ap (λ z. number_bytes a.number ++ z) (b.read ∙ ap (λ z. number_bytes b.number ++ z) more.here) ∙ sym (append_assoc (number_bytes a.number) (number_bytes b.number) (tags_bytes more.tags));
+    }
