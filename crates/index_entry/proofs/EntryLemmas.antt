@@ -1,11 +1,15 @@
 -- Entries in bytes.
-use Rattle.std.proofs.Common.{◌≡◌, ℕ, ◌+◌, ◌^◌, ◌<◌, ◌≤◌, Bool, true, false, List, [], ◌∷◌, ◌++◌, length, take, drop, get_or, refl, sym, ap, ap₂, ◌∙◌, arith, subst, append_assoc, length-append}
+use Rattle.std.proofs.Common.{◌≡◌, ℕ, zero, suc, ◌+◌, ◌^◌, ◌<◌, ◌≤◌, ◌*◌, ◌==◌, Bool, true, false, true≢false, List, replicate, Option, Some, None, is_some, unwrap_or, [], ◌∷◌, ◌++◌, length, take, drop, get_or, refl, sym, ap, ap₂, ◌∙◌, arith, subst, append_assoc, length-append}
 use Rattle.std.specs.Str.{IsUtf8}
 use Rattle.std.specs.List.{AllByRecursion}
 use Rattle.std.proofs.lemmas.List.{drop_more, length-drop, length-take, get_or-drop}
 use Rattle.object_words.specs.Rows.{RowView, IsRow, no_row}
 use Rattle.index_entry.specs.Numbers.{number_bytes, short_bytes}
-use Rattle.index_entry.specs.Layouts.{IsWritten, live_bytes, row_bytes, flag}
+use Rattle.object_words.specs.declared.entry.Tag.{Tag}
+use Rattle.object_words.specs.Entries.{EntryView}
+use Rattle.index_entry.specs.declared.entry.EntryFront.{EntryFront}
+use Rattle.index_entry.specs.Layouts.{IsEntry, IsWritten, entry_bytes, front_bytes, front_of, live_bytes, row_bytes, tags_bytes, flag}
+use Rattle.index_entry.proofs.TagLemmas.{length-tags_bytes}
 use Rattle.index_entry.proofs.PieceLemmas.{AreBytes, a_number, all_fit, begins, behind, taken, part_fits, length-number_bytes, length-short_bytes}
 
 -- the bytes of a row of an object that exists, piece by piece
@@ -97,3 +101,133 @@ are_read bs row rest etag_long exists here =
       long = omega (arith, whole, live, length-drop 19 bs);
       end = omega (arith, live);
     }
+
+zeros_fit : (n : ℕ) → AllByRecursion (λ b. b < 256) (replicate n 0)
+zeros_fit zero = tt
+zeros_fit (suc n) = (omega arith, zeros_fit n)
+
+pub no_row_written : IsWritten no_row
+no_row_written = record {
+  bounds = record { kind_high = omega arith; zone_low = omega arith; zone_high = omega arith; blank = λ no. refl };
+  size_fits = omega arith;
+  micros_fits = omega arith;
+  etag_long = refl;
+  etag_fits = zeros_fit 16;
+  kind_text = ([], (refl, refl));
+}
+
+pub begins_so : (bs : List ℕ) (f : ℕ) → 27 ≤ length bs → get_or bs 0 0 ≡ 238 → get_or bs 1 0 ≡ 1 → get_or bs 2 0 ≡ f → bs ≡ 238 ∷ 1 ∷ f ∷ drop 3 bs
+begins_so [] f long a b d = absurd (omega (arith, long))
+begins_so (x ∷ []) f long a b d = absurd (omega (arith, long))
+begins_so (x ∷ y ∷ []) f long a b d = absurd (omega (arith, long))
+begins_so (x ∷ y ∷ z ∷ bs) f long a b d = λ i. a i ∷ b i ∷ d i ∷ bs
+
+pub flag_read : (b : Bool) → (flag b == 1) ≡ b
+flag_read true = refl
+flag_read false = refl
+
+pub flag_one : (b : Bool) → flag b ≡ 1 → b ≡ true
+flag_one true is = refl
+flag_one false is = absurd (omega (arith, is))
+
+pub flag_other : (b : Bool) → (flag b ≡ 1 → ⊥) → b ≡ false
+flag_other true not = absurd (not refl)
+flag_other false not = refl
+
+pub none_some : {A : Type 0} (x : A) → None ≡ Some x → ⊥
+none_some x e = true≢false (sym (ap is_some e))
+
+pub same_some : (x y : ℕ) → Some x ≡ Some y → x ≡ y
+same_some x y e = ap (λ o. unwrap_or o 0) e
+
+-- where the parts of an entry are, whose row ends there
+pub record EntryRead (bs : List ℕ) (e : EntryView) (end : ℕ) : Type 0 where
+  pub start : bs ≡ 238 ∷ 1 ∷ flag e.row.exists ∷ drop 3 bs
+  pub at_3 : drop 3 bs ≡ number_bytes e.version ++ drop 11 bs
+  pub at_11 : drop 11 bs ≡ number_bytes e.revision ++ drop 19 bs
+  pub at_19 : drop 19 bs ≡ row_bytes e.row ++ drop end bs
+  pub at_end : drop end bs ≡ number_bytes (length e.tags) ++ drop (end + 8) bs
+  pub at_tags : drop (end + 8) bs ≡ tags_bytes e.tags
+
+body_split : (a b r n t : List ℕ) → (a ++ (b ++ (r ++ n))) ++ t ≡ a ++ (b ++ (r ++ (n ++ t)))
+body_split a b r n t = append_assoc a (b ++ (r ++ n)) t ∙ ap (λ z. a ++ z) (append_assoc b (r ++ n) t ∙ ap (λ z. b ++ z) (append_assoc r n t))
+
+pub entry_split : (e : EntryView) → entry_bytes e
+    ≡ 238 ∷ 1 ∷ flag e.row.exists ∷ (number_bytes e.version ++ (number_bytes e.revision ++ (row_bytes e.row ++ (number_bytes (length e.tags) ++ tags_bytes e.tags))))
+entry_split e = ap (λ z. 238 ∷ 1 ∷ flag e.row.exists ∷ z) (body_split (number_bytes e.version) (number_bytes e.revision) (row_bytes e.row) (number_bytes (length e.tags)) (tags_bytes e.tags))
+
+pub entry_read : (bs : List ℕ) (e : EntryView) (end : ℕ) → end ≡ 19 + length (row_bytes e.row) → bs ≡ entry_bytes e → EntryRead bs e end
+entry_read bs e end is here =
+    let whole = here ∙ entry_split e in
+    let at_3 = ap (drop 3) whole in
+    let at_11 = behind bs 3 8 11 _ _ at_3 (length-number_bytes e.version) refl in
+    let at_19 = behind bs 11 8 19 _ _ at_11 (length-number_bytes e.revision) refl in
+    let at_end = behind bs 19 (length (row_bytes e.row)) end _ _ at_19 refl is in
+    let at_tags = behind bs end 8 (end + 8) _ _ at_end (length-number_bytes (length e.tags)) refl in
+    record {
+      start = whole ∙ ap (λ z. 238 ∷ 1 ∷ flag e.row.exists ∷ z) (sym at_3);
+      at_3 = at_3 ∙ ap (λ z. number_bytes e.version ++ z) (sym at_11);
+      at_11 = at_11 ∙ ap (λ z. number_bytes e.revision ++ z) (sym at_19);
+      at_19 = at_19 ∙ ap (λ z. row_bytes e.row ++ z) (sym at_end);
+      at_end = at_end ∙ ap (λ z. number_bytes (length e.tags) ++ z) (sym at_tags);
+      at_tags = at_tags;
+    }
+
+pub entry_found : (bs : List ℕ) (e : EntryView) (end : ℕ) → EntryRead bs e end → bs ≡ entry_bytes e
+entry_found bs e end r =
+    let at_19 = r.at_19 ∙ ap (λ z. row_bytes e.row ++ z) (r.at_end ∙ ap (λ z. number_bytes (length e.tags) ++ z) r.at_tags) in
+    let at_3 = r.at_3 ∙ ap (λ z. number_bytes e.version ++ z) (r.at_11 ∙ ap (λ z. number_bytes e.revision ++ z) at_19) in
+    r.start ∙ ap (λ z. 238 ∷ 1 ∷ flag e.row.exists ∷ z) at_3 ∙ sym (entry_split e)
+
+pub exists_read : (bs : List ℕ) (e : EntryView) (end : ℕ) → EntryRead bs e end → (get_or bs 2 0 == 1) ≡ e.row.exists
+exists_read bs e end r = ap (λ z. get_or z 2 0 == 1) r.start ∙ flag_read e.row.exists
+
+pub row_read : (bs : List ℕ) (version revision : ℕ) (row : RowView) (rest : List ℕ)
+    → bs ≡ 238 ∷ 1 ∷ flag row.exists ∷ (number_bytes version ++ (number_bytes revision ++ (row_bytes row ++ rest))) → (get_or bs 2 0 ≡ flag row.exists) × (drop 19 bs ≡ row_bytes row ++ rest)
+row_read bs version revision row rest here =
+    let at_11 = behind bs 3 8 11 _ _ (ap (drop 3) here) (length-number_bytes version) refl in
+    (ap (λ z. get_or z 2 0) here, behind bs 11 8 19 _ _ at_11 (length-number_bytes revision) refl)
+
+pub same_front : (f g : EntryFront) → f.version ≡ g.version → f.revision ≡ g.revision → f.exists ≡ g.exists → f.size ≡ g.size → f.tags ≡ g.tags → f.tags_start ≡ g.tags_start → f ≡ g
+same_front f g v r x s t n = λ i. record { version = v i; revision = r i; exists = x i; size = s i; tags = t i; tags_start = n i }
+
+pub length-front_bytes : (version revision : ℕ) (row : RowView) (tags : ℕ) → length (front_bytes version revision row tags) ≡ 27 + length (row_bytes row)
+length-front_bytes version revision row tags =
+    omega (arith, length-append (number_bytes version) (number_bytes revision ++ (row_bytes row ++ number_bytes tags)), length-append (number_bytes revision) (row_bytes row ++ number_bytes tags),
+      length-append (row_bytes row) (number_bytes tags), length-number_bytes version, length-number_bytes revision, length-number_bytes tags)
+
+pub length-entry_bytes : (e : EntryView) → length (entry_bytes e) ≡ 27 + length (row_bytes e.row) + 16 * length e.tags
+length-entry_bytes e =
+    omega (arith, length-append (front_bytes e.version e.revision e.row (length e.tags)) (tags_bytes e.tags), length-front_bytes e.version e.revision e.row (length e.tags), length-tags_bytes e.tags)
+
+row_most_of : (b : Bool) (row : RowView) → row.exists ≡ b → IsWritten row → length (row_bytes row) ≤ 291
+row_most_of true row exists is = omega (arith, ap length (exists_bytes row exists), length-live_bytes row is.etag_long, is.bounds.kind_high)
+row_most_of false row exists is = rw exists (omega arith)
+
+pub row_most : (row : RowView) → IsWritten row → length (row_bytes row) ≤ 291
+row_most row is = row_most_of row.exists row refl is
+
+pub length-begin : (bs : List ℕ) (version revision : ℕ) (row : RowView) (rest : List ℕ)
+    → bs ≡ 238 ∷ 1 ∷ flag row.exists ∷ (number_bytes version ++ (number_bytes revision ++ (row_bytes row ++ rest))) → length bs ≡ 19 + length (row_bytes row) + length rest
+length-begin bs version revision row rest here =
+    ap length here ∙ omega (arith, length-append (number_bytes version) (number_bytes revision ++ (row_bytes row ++ rest)), length-append (number_bytes revision) (row_bytes row ++ rest),
+      length-append (row_bytes row) rest, length-number_bytes version, length-number_bytes revision)
+
+pub length-entry : (bs : List ℕ) (e : EntryView) → bs ≡ entry_bytes e → length bs ≡ 27 + length (row_bytes e.row) + 16 * length e.tags
+length-entry bs e here = ap length here ∙ length-entry_bytes e
+
+-- where the row of an entry ends
+pub end_known : (bs : List ℕ) (found : Option ℕ) (end : ℕ) → found ≡ Some end
+    → ((version revision : ℕ) (row : RowView) (rest : List ℕ) → IsWritten row → 8 ≤ length rest
+        → bs ≡ 238 ∷ 1 ∷ flag row.exists ∷ (number_bytes version ++ (number_bytes revision ++ (row_bytes row ++ rest))) → found ≡ Some (19 + length (row_bytes row)))
+    → (e : EntryView) → IsEntry e → bs ≡ entry_bytes e → end ≡ 19 + length (row_bytes e.row)
+end_known bs found end was exact e is here =
+    let rest = number_bytes (length e.tags) ++ tags_bytes e.tags in
+    same_some _ _ (sym was ∙ exact e.version e.revision e.row rest is.row_fits
+      (omega (arith, length-append (number_bytes (length e.tags)) (tags_bytes e.tags), length-number_bytes (length e.tags))) (here ∙ entry_split e))
+
+pub live_flat : (a b d e f : List ℕ) (z : ℕ) → (((((a ++ b) ++ (z ∷ [])) ++ d) ++ e) ++ f) ≡ a ++ (b ++ (z ∷ (d ++ (e ++ f))))
+live_flat a b d e f z = simp append_assoc refl
+
+pub front_flat : (a b r n : List ℕ) (x y z : ℕ) → (((((x ∷ y ∷ z ∷ []) ++ a) ++ b) ++ r) ++ n) ≡ x ∷ y ∷ z ∷ (a ++ (b ++ (r ++ n)))
+front_flat a b r n x y z = simp append_assoc refl

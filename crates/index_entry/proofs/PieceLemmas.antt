@@ -1,5 +1,5 @@
 -- Pieces of bytes, one after another.
-use Rattle.std.proofs.Common.{◌≡◌, ℕ, zero, suc, ◌+◌, ◌-◌, ◌^◌, ◌<◌, ◌≤◌, List, [], ◌∷◌, ◌++◌, length, take, drop, get_or, refl, sym, ap, ap₂, ◌∙◌, arith, inl, inr, append_assoc, length-append}
+use Rattle.std.proofs.Common.{◌≡◌, ℕ, zero, suc, ◌+◌, ◌-◌, ◌^◌, ◌<◌, ◌≤◌, List, [], ◌∷◌, ◌++◌, length, take, drop, get_or, refl, sym, ap, ap₂, ◌∙◌, arith, inl, inr, subst, append_assoc, length-append}
 use Rattle.std.specs.Int.{w16, w64, to_be_bytes, from_be_bytes}
 use Rattle.std.specs.List.{AllByRecursion}
 use Rattle.std.proofs.lemmas.Bool.{cases_lt}
@@ -59,9 +59,17 @@ pub all_fit : (bs : List ℕ) → AreBytes bs → AllByRecursion (λ b. b < 256)
 all_fit [] fit = tt
 all_fit (b ∷ bs) fit = (fit 0, all_fit bs (λ i. fit (suc i)))
 
--- one piece more
-pub one_more : (a p x q : List ℕ) → a ≡ (p ++ x) ++ q → a ≡ p ++ (x ++ q)
-one_more a p x q e = e ∙ append_assoc p x q
+-- these bytes were written behind others, in place of as many
+abbrev pub IsPut : List ℕ → List ℕ → List ℕ → List ℕ → Type 0
+IsPut p q done out = out ≡ (p ++ done) ++ drop (length done) q
+
+-- and a piece behind them
+pub put_more : (p q done x out : List ℕ) → out ≡ ((p ++ done) ++ x) ++ drop (length x) (drop (length done) q) → IsPut p q (done ++ x) out
+put_more p q done x out is =
+    is ∙ ap₂ (λ a b. a ++ b) (append_assoc p done x) (drop-drop (length x) (length done) q ∙ ap (λ n. drop n q) (sym (length-append done x)))
+
+pub put_as : (p q done x out : List ℕ) → done ≡ x → IsPut p q done out → IsPut p q x out
+put_as p q done x out same is = subst (λ z. IsPut p q z out) same is
 
 -- a number that eight bytes are
 pub record ANumber (bs : List ℕ) (at : ℕ) : Type 0 where

@@ -1,8 +1,9 @@
 -- Tags in bytes.
-use Rattle.std.proofs.Common.{◌≡◌, ℕ, zero, suc, ◌+◌, ◌*◌, ◌<◌, ◌≤◌, ◌&&◌, Bool, true, false, nat_lt, List, [], ◌∷◌, ◌++◌, length, take, drop, get_or, refl, sym, ap, ap₂, ◌∙◌, arith, subst, append_assoc, length-append}
+use Rattle.std.proofs.Common.{◌≡◌, ℕ, zero, suc, ◌+◌, ◌-◌, ◌*◌, ◌<◌, ◌≤◌, ◌&&◌, Bool, true, false, nat_lt, List, [], ◌∷◌, ◌++◌, length, take, drop, get_or, refl, sym, ap, ap₂, ◌∙◌, arith, subst, append_assoc, length-append}
 use Rattle.std.specs.Int.{w64, from_be_bytes}
 use Rattle.std.specs.List.{AllByRecursion}
 use Rattle.std.proofs.lemmas.List.{drop-drop, drop_at, length-drop, get_or-drop}
+use Rattle.std.proofs.lemmas.Bool.Decides.{nat_tests}
 use Rattle.object_words.specs.declared.entry.Tag.{Tag}
 use Rattle.object_words.specs.Tags.{tags_rise}
 use Rattle.index_entry.specs.Numbers.{number_bytes}
@@ -84,3 +85,26 @@ some_tags (suc n) bs fit long =
       count = omega (arith, more.count);
       here = a.read ∙ ap (λ z. number_bytes a.number ++ z) (b.read ∙ ap (λ z. number_bytes b.number ++ z) more.here) ∙ sym (append_assoc (number_bytes a.number) (number_bytes b.number) (tags_bytes more.tags));
     }
+
+below : (a b : ℕ) → a < b → nat_lt a b ≡ true
+below a b h = grind (arith, nat_tests)
+
+not_below : (a b : ℕ) → b ≤ a → nat_lt a b ≡ false
+not_below a b h = grind (arith, nat_tests)
+
+rise_at : (ts : List Tag) (place : ℕ) (x y d : Tag) → 1 ≤ place → place < length ts → x ≡ get_or ts (place - 1) d → y ≡ get_or ts place d
+    → tags_rise (drop (place - 1) ts) ≡ (nat_lt x.tag y.tag && tags_rise (drop place ts))
+rise_at ts place x y d some less ex ey =
+    let e : place - 1 + 1 ≡ place = omega arith in
+    rise_step ts (place - 1) d (omega arith) ∙ ap (λ k. nat_lt (get_or ts (place - 1) d).tag (get_or ts k d).tag && tags_rise (drop k ts)) e
+    ∙ ap₂ (λ (u v : Tag). nat_lt u.tag v.tag && tags_rise (drop place ts)) (sym ex) (sym ey)
+
+-- a comparison that holds is passed
+pub rise_kept : (ts : List Tag) (place : ℕ) (x y d : Tag) → 1 ≤ place → place < length ts → x ≡ get_or ts (place - 1) d → y ≡ get_or ts place d
+    → x.tag < y.tag → tags_rise (drop (place - 1) ts) ≡ tags_rise (drop place ts)
+rise_kept ts place x y d some less ex ey h = rise_at ts place x y d some less ex ey ∙ ap (λ b. b && tags_rise (drop place ts)) (below x.tag y.tag h)
+
+-- a comparison that does not hold settles it
+pub rise_lost : (ts : List Tag) (place : ℕ) (x y d : Tag) → 1 ≤ place → place < length ts → x ≡ get_or ts (place - 1) d → y ≡ get_or ts place d
+    → y.tag ≤ x.tag → tags_rise (drop (place - 1) ts) ≡ false
+rise_lost ts place x y d some less ex ey h = rise_at ts place x y d some less ex ey ∙ ap (λ b. b && tags_rise (drop place ts)) (not_below x.tag y.tag h)

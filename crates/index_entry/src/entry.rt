@@ -68,9 +68,10 @@ fn size_of_row(bytes: &[u8], exists: bool) -> u64
 /// Where the row of an entry ends, if the bytes begin as those of an entry do.
 fn row_end(bytes: &[u8]) -> Option<usize>
     ensures found { IfSome result (λ end. (row : RowView) × IsWritten row × (end ≡ 19 + length (row_bytes row)) × (end + 8 ≤ length bytes.now)
-        × (drop 0 bytes.now ≡ 238 ∷ 1 ∷ flag row.exists ∷ drop 3 bytes.now) × (drop 19 bytes.now ≡ row_bytes row ++ drop end bytes.now)) }
-    ensures exact { (row : RowView) (more rest : List ℕ) → IsWritten row → 8 ≤ length rest → length more ≡ 16
-        → bytes.now ≡ 238 ∷ 1 ∷ flag row.exists ∷ (more ++ (row_bytes row ++ rest)) → result ≡ Some (19 + length (row_bytes row)) }
+        × (bytes.now ≡ 238 ∷ 1 ∷ flag row.exists ∷ drop 3 bytes.now) × (drop 19 bytes.now ≡ row_bytes row ++ drop end bytes.now)) }
+    ensures exact { (version revision : ℕ) (row : RowView) (rest : List ℕ) → IsWritten row → 8 ≤ length rest
+        → bytes.now ≡ 238 ∷ 1 ∷ flag row.exists ∷ (number_bytes version ++ (number_bytes revision ++ (row_bytes row ++ rest)))
+        → result ≡ Some (19 + length (row_bytes row)) }
 {
     if bytes.len() < 27 || bytes[0] != KIND || bytes[1] != LAYOUT {
         return None;
@@ -114,7 +115,10 @@ fn has_tags(bytes: &[u8], start: usize, count: u64) -> bool
         → drop start bytes.now ≡ tags_bytes tags → IsTrue result }
 {
     let rest = bytes.len() - start;
-    rest % TAG_LEN == 0 && (rest / TAG_LEN) as u64 == count && is_rising(bytes, start, rest / TAG_LEN)
+    if rest % TAG_LEN != 0 || (rest / TAG_LEN) as u64 != count {
+        return false;
+    }
+    is_rising(bytes, start, rest / TAG_LEN)
 }
 
 /// Whether the numbers of so many tags from a place on rise.
@@ -151,12 +155,19 @@ pub fn tag_at(bytes: &[u8], place: u64) -> Tag
     requires { (e : EntryView) × IsEntry e × (bytes.now ≡ entry_bytes e) × (place < length e.tags) }
     ensures { (e : EntryView) → IsEntry e → bytes.now ≡ entry_bytes e → place < length e.tags → (d : TagOf) → result ≡ slice_index_or e.tags place d }
 {
-    let start = if bytes[2] == 1 {
+    tag_in(bytes, tags_start(bytes) + TAG_LEN * place as usize)
+}
+
+/// Where the tags of an entry begin.
+fn tags_start(bytes: &[u8]) -> usize
+    requires { (e : EntryView) × IsEntry e × (bytes.now ≡ entry_bytes e) }
+    ensures { (e : EntryView) → IsEntry e → bytes.now ≡ entry_bytes e → result ≡ 27 + length (row_bytes e.row) }
+{
+    if bytes[2] == 1 {
         62 + usize::from(u16_at(bytes, 52))
     } else {
         27
-    };
-    tag_in(bytes, start + TAG_LEN * place as usize)
+    }
 }
 
 /// Writes the bytes of an entry before its tags, of which there are so many, and gives how many bytes
@@ -182,13 +193,16 @@ fn put_row(out: &mut [u8], at: usize, row: &EntryRow) -> usize
     ensures bounds { IsWritten row.now }
 {
     let kind = row.kind.as_text().as_str();
+    let size = row.size;
+    let stamp = row.stamp;
+    let etag = row.etag;
     if !row.exists {
         return at;
     }
-    let at = put(out, at, &row.size.to_be_bytes());
-    let at = put(out, at, &row.stamp.micros.to_be_bytes());
-    let at = put(out, at, &[row.stamp.zone]);
-    let at = put(out, at, &row.etag);
+    let at = put(out, at, &size.to_be_bytes());
+    let at = put(out, at, &stamp.micros.to_be_bytes());
+    let at = put(out, at, &[stamp.zone]);
+    let at = put(out, at, &etag);
     let at = put(out, at, &(kind.len() as u16).to_be_bytes());
     put(out, at, kind.as_bytes())
 }
