@@ -1,5 +1,6 @@
 -- Entries in bytes.
 use Rattle.std.proofs.Common.{◌≡◌, ℕ, zero, suc, ◌+◌, ◌^◌, ◌<◌, ◌≤◌, ◌*◌, ◌==◌, Bool, true, false, true≢false, List, replicate, Option, Some, None, is_some, unwrap_or, [], ◌∷◌, ◌++◌, length, take, drop, get_or, refl, sym, ap, ap₂, ◌∙◌, arith, subst, append_assoc, length-append}
+use mir.Val.{bool_byte}
 use Rattle.std.specs.Str.{IsUtf8}
 use Rattle.std.specs.List.{AllByRecursion}
 use Rattle.std.proofs.lemmas.List.{drop_more, length-drop, length-take, get_or-drop}
@@ -231,3 +232,7 @@ live_flat a b d e f z = simp append_assoc refl
 
 pub front_flat : (a b r n : List ℕ) (x y z : ℕ) → (((((x ∷ y ∷ z ∷ []) ++ a) ++ b) ++ r) ++ n) ≡ x ∷ y ∷ z ∷ (a ++ (b ++ (r ++ n)))
 front_flat a b r n x y z = simp append_assoc refl
+
+pub flag_byte : (b : Bool) → bool_byte b ≡ flag b
+flag_byte true = refl
+flag_byte false = refl

@@ -93,3 +93,9 @@ number_slice bs at n is = let e : at + 8 - at ≡ 8 = omega arith in is ∙ ap (
 
 pub short_slice : (bs : List ℕ) (at n : ℕ) → n ≡ from_be_bytes w16 (take (at + 2 - at) (drop at bs)) → n ≡ from_be_bytes w16 (take 2 (drop at bs))
 short_slice bs at n is = let e : at + 2 - at ≡ 2 = omega arith in is ∙ ap (λ k. from_be_bytes w16 (take k (drop at bs))) e
+
+pub put_long : (p x : List ℕ) (at end : ℕ) → length p ≡ at → end ≡ at + length x → length (p ++ x) ≡ end
+put_long p x at end long is = omega (arith, length-append p x, long, is)
+
+pub next_long : (p done x : List ℕ) (at end : ℕ) → length (p ++ done) ≡ at → end ≡ at + length x → length (p ++ (done ++ x)) ≡ end
+next_long p done x at end long is = omega (arith, length-append p done, length-append p (done ++ x), length-append done x, long, is)

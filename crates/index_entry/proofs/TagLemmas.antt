@@ -2,7 +2,7 @@
 use Rattle.std.proofs.Common.{◌≡◌, ℕ, zero, suc, ◌+◌, ◌-◌, ◌*◌, ◌<◌, ◌≤◌, ◌&&◌, Bool, true, false, nat_lt, List, [], ◌∷◌, ◌++◌, length, take, drop, get_or, refl, sym, ap, ap₂, ◌∙◌, arith, subst, append_assoc, length-append}
 use Rattle.std.specs.Int.{w64, from_be_bytes}
 use Rattle.std.specs.List.{AllByRecursion}
-use Rattle.std.proofs.lemmas.List.{drop-drop, drop_at, length-drop, get_or-drop}
+use Rattle.std.proofs.lemmas.List.{drop-drop, drop_at, length-drop, get_or-drop, take_more, append-nil}
 use Rattle.std.proofs.lemmas.Bool.Decides.{nat_tests}
 use Rattle.object_words.specs.declared.entry.Tag.{Tag}
 use Rattle.object_words.specs.Tags.{tags_rise}
@@ -108,3 +108,24 @@ rise_kept ts place x y d some less ex ey h = rise_at ts place x y d some less ex
 pub rise_lost : (ts : List Tag) (place : ℕ) (x y d : Tag) → 1 ≤ place → place < length ts → x ≡ get_or ts (place - 1) d → y ≡ get_or ts place d
     → y.tag ≤ x.tag → tags_rise (drop (place - 1) ts) ≡ false
 rise_lost ts place x y d some less ex ey h = rise_at ts place x y d some less ex ey ∙ ap (λ b. b && tags_rise (drop place ts)) (not_below x.tag y.tag h)
+
+pub tags_bytes-append : (ts us : List Tag) → tags_bytes (ts ++ us) ≡ tags_bytes ts ++ tags_bytes us
+tags_bytes-append [] us = refl
+tags_bytes-append (t ∷ ts) us = ap (λ z. tag_bytes t ++ z) (tags_bytes-append ts us) ∙ sym (append_assoc (tag_bytes t) (tags_bytes ts) (tags_bytes us))
+
+-- one tag more behind a front
+pub one_tag_more : (front bytes : List ℕ) (ts : List Tag) (place : ℕ) (t : Tag) → place < length ts → t ≡ get_or ts place t
+    → bytes ≡ front ++ tags_bytes (take place ts) → bytes ++ tag_bytes t ≡ front ++ tags_bytes (take (place + 1) ts)
+one_tag_more front bytes ts place t some is here =
+    let last : tags_bytes (t ∷ []) ≡ tag_bytes t = append-nil (tag_bytes t) in
+    let more : tags_bytes (take (place + 1) ts) ≡ tags_bytes (take place ts) ++ tag_bytes t =
+      ap tags_bytes (take_more ts place t some ∙ ap (λ (u : Tag). take place ts ++ u ∷ []) (sym is)) ∙ tags_bytes-append (take place ts) (t ∷ []) ∙ ap (λ z. tags_bytes (take place ts) ++ z) last in
+    ap (λ z. z ++ tag_bytes t) here ∙ append_assoc front (tags_bytes (take place ts)) (tag_bytes t) ∙ ap (λ z. front ++ z) (sym more)
+
+AllByRecursion-push : (ts : List Tag) (t : Tag) → AllByRecursion IsTag ts → IsTag t → AllByRecursion IsTag (ts ++ t ∷ [])
+AllByRecursion-push [] t all fits = (fits, tt)
+AllByRecursion-push (u ∷ us) t all fits = (all.0, AllByRecursion-push us t all.1 fits)
+
+pub one_tag_fits : (ts : List Tag) (place : ℕ) (t : Tag) → place < length ts → t ≡ get_or ts place t → AllByRecursion IsTag (take place ts) → IsTag t → AllByRecursion IsTag (take (place + 1) ts)
+one_tag_fits ts place t some is all fits =
+    subst (AllByRecursion IsTag) (sym (take_more ts place t some ∙ ap (λ (u : Tag). take place ts ++ u ∷ []) (sym is))) (AllByRecursion-push (take place ts) t all fits)

@@ -17,10 +17,10 @@ const KIND: u8 = 0xee;
 const LAYOUT: u8 = 1;
 
 /// How many bytes a tag has.
-const TAG_LEN: usize = 16;
+pub const TAG_LEN: usize = 16;
 
 /// The most bytes that an entry has before its tags.
-const FRONT_MOST: usize = 318;
+pub const FRONT_MOST: usize = 318;
 
 /// What an entry says before its tags, without its type: how many tags it has, and at which byte they
 /// begin.
@@ -170,6 +170,21 @@ fn tags_start(bytes: &[u8]) -> usize
     }
 }
 
+/// The bytes of a tag: its number and its deadline, in eight bytes each.
+#[tactic(auto, unfolding(crate::specs::Numbers::number_bytes))]
+pub fn write_tag(tag: &Tag) -> [u8; 16]
+    ensures form { result ≡ tag_bytes tag.now }
+    ensures fits { IsTag tag.now }
+{
+    let number = tag.tag.to_be_bytes();
+    let deadline = tag.deadline.to_be_bytes();
+    [
+        number[0], number[1], number[2], number[3], number[4], number[5], number[6], number[7],
+        deadline[0], deadline[1], deadline[2], deadline[3], deadline[4], deadline[5], deadline[6],
+        deadline[7],
+    ]
+}
+
 /// Writes the bytes of an entry before its tags, of which there are so many, and gives how many bytes
 /// these are. Takes no memory.
 pub fn write_front(version: u64, revision: u64, row: &EntryRow, tags: u64, out: &mut [u8; 318]) -> usize
@@ -194,15 +209,26 @@ fn put_row(out: &mut [u8], at: usize, row: &EntryRow) -> usize
 {
     let kind = row.kind.as_text().as_str();
     let size = row.size;
-    let stamp = row.stamp;
-    let etag = row.etag;
+    let micros = row.stamp.micros;
+    let zone = row.stamp.zone;
     if !row.exists {
         return at;
     }
     let at = put(out, at, &size.to_be_bytes());
-    let at = put(out, at, &stamp.micros.to_be_bytes());
-    let at = put(out, at, &[stamp.zone]);
-    let at = put(out, at, &etag);
+    let at = put(out, at, &micros.to_be_bytes());
+    let at = put(out, at, &[zone]);
+    let at = put_etag(out, at, &row.etag);
     let at = put(out, at, &(kind.len() as u16).to_be_bytes());
     put(out, at, kind.as_bytes())
+}
+
+/// Writes an ETag at a place, and gives the place behind it.
+fn put_etag(out: &mut [u8], at: usize, etag: &[u8; 16]) -> usize
+    requires { at + 16 ≤ length out.old }
+    ensures long { length etag.now ≡ 16 }
+    ensures end { result ≡ at + length etag.now }
+    ensures fits { AllByRecursion (λ b. b < 256) etag.now }
+    ensures written { (p q : List ℕ) → length p ≡ at → out.old ≡ p ++ q → out.new ≡ (p ++ etag.now) ++ drop (length etag.now) q }
+{
+    put(out, at, etag)
 }

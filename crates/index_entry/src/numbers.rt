@@ -1,6 +1,7 @@
 //! Numbers in bytes, and pieces of bytes in arrays.
 ghost use Rattle.std.specs.Prelude.{◌≡◌, ◌+◌, ◌^◌, ◌<◌, ◌≤◌, ◌↔◌, ◌++◌, ℕ, List, IsTrue, length, drop};
 ghost use Rattle.std.specs.Str.{IsUtf8};
+ghost use Rattle.std.specs.List.{AllByRecursion};
 ghost use Rattle.index_entry.specs.Numbers.{number_bytes, short_bytes};
 
 /// The number in the eight bytes from a place on.
@@ -36,6 +37,7 @@ pub(crate) fn is_text(bytes: &[u8]) -> bool
 pub(crate) fn put(out: &mut [u8], at: usize, piece: &[u8]) -> usize
     requires { at + length piece.now ≤ length out.old }
     ensures end { result ≡ at + length piece.now }
+    ensures fits { AllByRecursion (λ b. b < 256) piece.now }
     ensures written { (p q : List ℕ) → length p ≡ at → out.old ≡ p ++ q → out.new ≡ (p ++ piece.now) ++ drop (length piece.now) q }
 {
     let end = at + piece.len();
