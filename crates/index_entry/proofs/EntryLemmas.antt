@@ -76,7 +76,7 @@ pub record AreRead (bs : List ℕ) (row : RowView) (rest : List ℕ) : Type 0 wh
   pub size_here : drop 19 bs ≡ number_bytes row.size ++ drop 27 bs
   pub zone_here : get_or bs 35 0 ≡ row.stamp.zone
   pub micros_here : drop 27 bs ≡ number_bytes row.stamp.micros ++ drop 35 bs
-  pub etag_here : take 16 (drop 36 bs) ≡ row.etag
+  pub etag_next : drop 36 bs ≡ row.etag ++ drop 52 bs
   pub len_here : drop 52 bs ≡ short_bytes (length row.kind) ++ (row.kind ++ rest)
   pub kind_here : take (length row.kind) (drop 54 bs) ≡ row.kind
   pub long : length bs ≡ 54 + length row.kind + length rest
@@ -96,7 +96,7 @@ are_read bs row rest etag_long exists here =
       size_here = at_19 ∙ ap (λ z. number_bytes row.size ++ z) (sym at_27);
       zone_here = sym (get_or-drop 35 bs 0 0) ∙ ap (λ z. get_or z 0 0) at_35;
       micros_here = at_27 ∙ ap (λ z. number_bytes row.stamp.micros ++ z) (sym at_35);
-      etag_here = taken bs 36 16 _ _ at_36 etag_long;
+      etag_next = at_36 ∙ ap (λ z. row.etag ++ z) (sym at_52);
       len_here = at_52;
       kind_here = taken bs 54 (length row.kind) _ _ at_54 refl;
       long = omega (arith, whole, live, length-drop 19 bs);
@@ -236,3 +236,36 @@ front_flat a b r n x y z = simp append_assoc refl
 pub flag_byte : (b : Bool) → bool_byte b ≡ flag b
 flag_byte true = refl
 flag_byte false = refl
+
+-- an entry whose flag says that its object exists
+pub record LiveParts (bs : List ℕ) (row : RowView) : Type 0 where
+  pub exists : row.exists ≡ true
+  pub rest : List ℕ
+  pub at_19 : drop 19 bs ≡ row_bytes row ++ rest
+  pub read : AreRead bs row rest
+
+pub live_parts : (bs : List ℕ) (e : EntryView) → IsEntry e → bs ≡ entry_bytes e → get_or bs 2 0 ≡ 1 → LiveParts bs e.row
+live_parts bs e is here one =
+    let r = row_read bs e.version e.revision e.row (number_bytes (length e.tags) ++ tags_bytes e.tags) (here ∙ entry_split e) in
+    let exists = flag_one e.row.exists (sym r.0 ∙ one) in
+    record { exists = exists; rest = number_bytes (length e.tags) ++ tags_bytes e.tags; at_19 = r.1; read = are_read bs e.row (number_bytes (length e.tags) ++ tags_bytes e.tags) is.row_fits.etag_long exists r.1 }
+
+-- one whose flag does not
+pub blank_row : (bs : List ℕ) (e : EntryView) → IsEntry e → bs ≡ entry_bytes e → (get_or bs 2 0 ≡ 1 → ⊥) → no_row ≡ e.row
+blank_row bs e is here other =
+    sym (is.row_fits.bounds.blank (flag_other e.row.exists (λ one. other (ap (λ z. get_or z 2 0) here ∙ one))))
+
+pub same_row : (a b : RowView) → a.exists ≡ b.exists → a.size ≡ b.size → a.stamp.micros ≡ b.stamp.micros → a.stamp.zone ≡ b.stamp.zone → a.etag ≡ b.etag → a.kind ≡ b.kind → a ≡ b
+same_row a b x s m z e k = λ i. record { exists = x i; size = s i; stamp = record { micros = m i; zone = z i }; etag = e i; kind = k i }
+
+pub same_entry : (a b : EntryView) → a.version ≡ b.version → a.revision ≡ b.revision → a.row ≡ b.row → a.tags ≡ b.tags → a ≡ b
+same_entry a b v r w t = λ i. record { version = v i; revision = r i; row = w i; tags = t i }
+
+pub same_front_found : (f g : EntryFront) → Some f ≡ Some g → f ≡ g
+same_front_found f g e = ap (λ o. unwrap_or o f) e
+
+pub tags_here : (bs : List ℕ) (e : EntryView) → bs ≡ entry_bytes e → (start : ℕ) → start ≡ 27 + length (row_bytes e.row) → drop start bs ≡ tags_bytes e.tags
+tags_here bs e here start is =
+    let r = entry_read bs e (19 + length (row_bytes e.row)) refl here in
+    let at : start ≡ 19 + length (row_bytes e.row) + 8 = omega (arith, is) in
+    ap (λ n. drop n bs) at ∙ r.at_tags

@@ -114,18 +114,18 @@ tags_bytes-append [] us = refl
 tags_bytes-append (t ∷ ts) us = ap (λ z. tag_bytes t ++ z) (tags_bytes-append ts us) ∙ sym (append_assoc (tag_bytes t) (tags_bytes ts) (tags_bytes us))
 
 -- one tag more behind a front
-pub one_tag_more : (front bytes : List ℕ) (ts : List Tag) (place : ℕ) (t : Tag) → place < length ts → t ≡ get_or ts place t
-    → bytes ≡ front ++ tags_bytes (take place ts) → bytes ++ tag_bytes t ≡ front ++ tags_bytes (take (place + 1) ts)
-one_tag_more front bytes ts place t some is here =
-    let last : tags_bytes (t ∷ []) ≡ tag_bytes t = append-nil (tag_bytes t) in
+pub one_tag_more : (front bytes : List ℕ) (ts : List Tag) (place : ℕ) (d : Tag) → place < length ts
+    → bytes ≡ front ++ tags_bytes (take place ts) → bytes ++ tag_bytes (get_or ts place d) ≡ front ++ tags_bytes (take (place + 1) ts)
+one_tag_more front bytes ts place d some here =
+    let t = get_or ts place d in
     let more : tags_bytes (take (place + 1) ts) ≡ tags_bytes (take place ts) ++ tag_bytes t =
-      ap tags_bytes (take_more ts place t some ∙ ap (λ (u : Tag). take place ts ++ u ∷ []) (sym is)) ∙ tags_bytes-append (take place ts) (t ∷ []) ∙ ap (λ z. tags_bytes (take place ts) ++ z) last in
+      ap tags_bytes (take_more ts place d some) ∙ tags_bytes-append (take place ts) (t ∷ []) ∙ ap (λ z. tags_bytes (take place ts) ++ z) (append-nil (tag_bytes t)) in
     ap (λ z. z ++ tag_bytes t) here ∙ append_assoc front (tags_bytes (take place ts)) (tag_bytes t) ∙ ap (λ z. front ++ z) (sym more)
 
 AllByRecursion-push : (ts : List Tag) (t : Tag) → AllByRecursion IsTag ts → IsTag t → AllByRecursion IsTag (ts ++ t ∷ [])
 AllByRecursion-push [] t all fits = (fits, tt)
 AllByRecursion-push (u ∷ us) t all fits = (all.0, AllByRecursion-push us t all.1 fits)
 
-pub one_tag_fits : (ts : List Tag) (place : ℕ) (t : Tag) → place < length ts → t ≡ get_or ts place t → AllByRecursion IsTag (take place ts) → IsTag t → AllByRecursion IsTag (take (place + 1) ts)
-one_tag_fits ts place t some is all fits =
-    subst (AllByRecursion IsTag) (sym (take_more ts place t some ∙ ap (λ (u : Tag). take place ts ++ u ∷ []) (sym is))) (AllByRecursion-push (take place ts) t all fits)
+pub one_tag_fits : (ts : List Tag) (place : ℕ) (d : Tag) → place < length ts → AllByRecursion IsTag (take place ts) → IsTag (get_or ts place d) → AllByRecursion IsTag (take (place + 1) ts)
+one_tag_fits ts place d some all fits =
+    subst (AllByRecursion IsTag) (sym (take_more ts place d some)) (AllByRecursion-push (take place ts) (get_or ts place d) all fits)

@@ -6,7 +6,7 @@ ghost use Rattle.object_words.specs.Entries.{EntryView};
 ghost use Rattle.index_entry.specs.Layouts.{IsEntry, IsTag, IsWritten, entry_bytes, row_bytes, tags_bytes};
 
 use crate::OutOfMemory;
-use crate::entry::{FRONT_MOST, TAG_LEN, front, tag_in, write_front, write_tag};
+use crate::entry::{FRONT_MOST, TAG_LEN, front, size_of_row, tag_in, write_front, write_tag};
 use crate::numbers::{u16_at, u64_at};
 use object_words::{Entry, EntryRow, MediaType, ObjectName, Tags};
 use rgw_model::Stamp;
@@ -63,14 +63,23 @@ fn row_of(alloc: Global, bytes: &[u8]) -> Result<EntryRow, OutOfMemory>
     let kind = kind_of(alloc, bytes)?;
     Ok(EntryRow {
         exists: true,
-        size: u64_at(bytes, 19),
-        stamp: Stamp {
-            micros: u64_at(bytes, 27),
-            zone: bytes[35],
-        },
+        size: size_of_row(bytes, true),
+        stamp: stamp_of(bytes),
         etag: etag_of(bytes),
         kind,
     })
+}
+
+/// The stamp in the row of an object that exists.
+fn stamp_of(bytes: &[u8]) -> Stamp
+    requires { 36 ≤ length bytes.now }
+    ensures { (row : RowView) (rest : List ℕ) → IsWritten row → row.exists ≡ true
+        → drop 19 bytes.now ≡ row_bytes row ++ rest → result ≡ row.stamp }
+{
+    Stamp {
+        micros: u64_at(bytes, 27),
+        zone: bytes[35],
+    }
 }
 
 /// The ETag in the row of an object that exists.

@@ -58,7 +58,7 @@ pub fn front(bytes: &[u8]) -> Option<EntryFront>
 }
 
 /// The size that a row tells; 0 where its object does not exist.
-fn size_of_row(bytes: &[u8], exists: bool) -> u64
+pub(crate) fn size_of_row(bytes: &[u8], exists: bool) -> u64
     requires { 27 ≤ length bytes.now }
     ensures { (row : RowView) (rest : List ℕ) → IsWritten row → row.exists ≡ exists → drop 19 bytes.now ≡ row_bytes row ++ rest → result ≡ row.size }
 {

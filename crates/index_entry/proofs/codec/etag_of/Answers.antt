@@ -1,11 +1,6 @@
-use Rattle.std.proofs.Common.{rules, ◌≡◌, ◌≢◌, ◌+◌, ◌*◌, ◌≤◌, ◌++◌, ℕ, List, Some, true, IfOk, IfSome, IfNone, length, drop, ◌-◌, ◌<◌, ◌/◌, ◌%◌, Bool, false, nat_eq, nat_lt, [], ◌∷◌, slice_index_or, slice_set, bit_and, bit_or, Fits, w8, w32, w64, Bor, MutBor}
-use Rattle.std.specs.List.{AllByRecursion}
-use Rattle.object_words.specs.declared.entry.Tag.{Tag as TagOf}
-use Rattle.object_words.specs.Rows.{RowView}
-use Rattle.object_words.specs.Entries.{EntryView}
-use Rattle.index_entry.specs.Layouts.{IsEntry, IsTag, IsWritten, entry_bytes, row_bytes, tags_bytes}
+use Rattle.std.proofs.Common.{◌∙◌}
+use Rattle.index_entry.proofs.PieceLemmas.{taken}
 use Rattle.index_entry.proofs.codec.etag_of.Goals as goal
 
--- src/codec.rt:77:1
 pub returns : goal.returns
-returns c = ?
+returns c etag rest long here = c.copy_from_slice.ensures.after ∙ taken c.args.bytes.now 36 16 etag rest here long

@@ -1,27 +1,36 @@
-use Rattle.std.proofs.Common.{rules, ◌≡◌, ◌≢◌, ◌+◌, ◌*◌, ◌≤◌, ◌++◌, ℕ, List, Some, true, IfOk, IfSome, IfNone, length, drop, ◌-◌, ◌<◌, ◌/◌, ◌%◌, Bool, false, nat_eq, nat_lt, [], ◌∷◌, slice_index_or, slice_set, bit_and, bit_or, Fits, w8, w32, w64, Bor, MutBor}
-use Rattle.std.specs.List.{AllByRecursion}
-use Rattle.object_words.specs.declared.entry.Tag.{Tag as TagOf}
-use Rattle.object_words.specs.Rows.{RowView}
-use Rattle.object_words.specs.Entries.{EntryView}
-use Rattle.index_entry.specs.Layouts.{IsEntry, IsTag, IsWritten, entry_bytes, row_bytes, tags_bytes}
+use Rattle.std.proofs.Common.{◌≡◌, ◌+◌, ◌-◌, IfOk, length, take, drop, refl, sym, ap, ◌∙◌, subst, arith}
+use Rattle.std.proofs.lemmas.List.{length-take}
+use Rattle.std.specs.Str.{IsUtf8}
+use Rattle.index_entry.proofs.EntryLemmas.{are_read}
 use Rattle.index_entry.proofs.codec.kind_of.Goals as goal
 
--- src/codec.rt:92:32
 pub u16_at-requires : goal.u16_at-requires
-u16_at-requires c = ?
+u16_at-requires c =
+    let r = are_read c.args.bytes.now c.requires.0 c.requires.1 c.requires.2.etag_long c.requires.3 c.requires.4 in omega (arith, r.long)
 
--- src/codec.rt:93:39
 pub slice_bounds-from_utf8-end : goal.slice_bounds-from_utf8-end
-slice_bounds-from_utf8-end c = ?
+slice_bounds-from_utf8-end c =
+    let r = are_read c.args.bytes.now c.requires.0 c.requires.1 c.requires.2.etag_long c.requires.3 c.requires.4 in
+    let k = c.u16_at.ensures.once (length c.requires.0.kind) _ (omega (arith, c.requires.2.bounds.kind_high)) r.len_here in
+    omega (arith, r.long, k, c.from-end.ensures)
 
--- src/codec.rt:93:16
 pub from_utf8-requires : goal.from_utf8-requires
-from_utf8-requires c = ?
+from_utf8-requires c =
+    let r = are_read c.args.bytes.now c.requires.0 c.requires.1 c.requires.2.etag_long c.requires.3 c.requires.4 in
+    let k = c.u16_at.ensures.once (length c.requires.0.kind) _ (omega (arith, c.requires.2.bounds.kind_high)) r.len_here in
+    let n : length c.requires.0.kind ≡ 54 + c.from-end.result - 54 = omega (arith, k, c.from-end.ensures) in
+    subst (λ m. IsUtf8 (take m (drop 54 c.args.bytes.now))) n (subst IsUtf8 (sym r.kind_here) c.requires.2.kind_text)
 
--- src/codec.rt:94:8
 pub unwrap-requires : goal.unwrap-requires
-unwrap-requires c = ?
+unwrap-requires c =
+    let r = are_read c.args.bytes.now c.requires.0 c.requires.1 c.requires.2.etag_long c.requires.3 c.requires.4 in
+    let k = c.u16_at.ensures.once (length c.requires.0.kind) _ (omega (arith, c.requires.2.bounds.kind_high)) r.len_here in
+    c.new.ensures.limits.1 (omega (arith, ap length c.in_ok-text.ensures, length-take (54 + c.from-end.result - 54) (drop 54 c.args.bytes.now), k, c.from-end.ensures, c.requires.2.bounds.kind_high))
 
--- src/codec.rt:87:1
 pub returns : goal.returns
-returns c = ?
+returns c row rest is exists here =
+    let r = are_read c.args.bytes.now row rest is.etag_long exists here in
+    let k = c.u16_at.ensures.once (length row.kind) _ (omega (arith, is.bounds.kind_high)) r.len_here in
+    let n : 54 + c.from-end.result - 54 ≡ length row.kind = omega (arith, k, c.from-end.ensures) in
+    let text : c.in_ok-text.text ≡ row.kind = c.in_ok-text.ensures ∙ ap (λ m. take m (drop 54 c.args.bytes.now)) n ∙ r.kind_here in
+    subst (λ m. IfOk m (λ k. k ≡ c.in_ok-text.text)) c.unwrap.ensures c.new.ensures.ok ∙ text

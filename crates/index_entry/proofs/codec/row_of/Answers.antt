@@ -1,35 +1,30 @@
-use Rattle.std.proofs.Common.{rules, ◌≡◌, ◌≢◌, ◌+◌, ◌*◌, ◌≤◌, ◌++◌, ℕ, List, Some, true, IfOk, IfSome, IfNone, length, drop, ◌-◌, ◌<◌, ◌/◌, ◌%◌, Bool, false, nat_eq, nat_lt, [], ◌∷◌, slice_index_or, slice_set, bit_and, bit_or, Fits, w8, w32, w64, Bor, MutBor}
-use Rattle.std.specs.List.{AllByRecursion}
-use Rattle.object_words.specs.declared.entry.Tag.{Tag as TagOf}
-use Rattle.object_words.specs.Rows.{RowView}
-use Rattle.object_words.specs.Entries.{EntryView}
-use Rattle.index_entry.specs.Layouts.{IsEntry, IsTag, IsWritten, entry_bytes, row_bytes, tags_bytes}
+use Rattle.std.proofs.Common.{◌≡◌, refl, sym, ap, ◌∙◌, subst, arith}
+use Rattle.rgw_model.specs.declared.stamp.Stamp.{Stamp}
+use Rattle.object_words.specs.Rows.{RowView, IsRow}
+use Rattle.index_entry.proofs.PieceLemmas.{behind}
+use Rattle.index_entry.proofs.EntryLemmas.{blank_row, live_parts, same_row}
 use Rattle.index_entry.proofs.codec.row_of.Goals as goal
 
--- src/codec.rt:63:16
 pub kind_of-requires : goal.kind_of-requires
-kind_of-requires c = ?
+kind_of-requires c =
+    let p = live_parts c.args.bytes.now c.requires.0 c.requires.1 c.requires.2 c.if-bytes-ne1.false in
+    (c.requires.0.row, p.rest, c.requires.1.row_fits, p.exists, p.at_19)
 
--- src/codec.rt:66:15
-pub u64_at-requires : goal.u64_at-requires
-u64_at-requires c = ?
+pub size_of_row-requires : goal.size_of_row-requires
+size_of_row-requires c = let p = live_parts c.args.bytes.now c.requires.0 c.requires.1 c.requires.2 c.if-bytes-ne1.false in omega (arith, p.read.long)
 
--- src/codec.rt:68:21
-pub u64_at-requires-2 : goal.u64_at-requires-2
-u64_at-requires-2 c = ?
+pub stamp_of-requires : goal.stamp_of-requires
+stamp_of-requires c = let p = live_parts c.args.bytes.now c.requires.0 c.requires.1 c.requires.2 c.if-bytes-ne1.false in omega (arith, p.read.long)
 
--- src/codec.rt:69:19
-pub bounds-bytes-35 : goal.bounds-bytes-35
-bounds-bytes-35 c = ?
-
--- src/codec.rt:71:15
 pub etag_of-requires : goal.etag_of-requires
-etag_of-requires c = ?
+etag_of-requires c = let p = live_parts c.args.bytes.now c.requires.0 c.requires.1 c.requires.2 c.if-bytes-ne1.false in omega (arith, p.read.long)
 
--- src/codec.rt:64:5
-pub invariant_of-result : goal.invariant_of-result
-invariant_of-result c = ?
-
--- src/codec.rt:56:1
 pub returns : goal.returns
-returns c = ?
+returns c e is here =
+    let p = live_parts c.args.bytes.now e is here c.if-bytes-ne1.false in
+    let stamp = c.stamp_of.ensures e.row p.rest is.row_fits p.exists p.at_19 in
+    same_row _ e.row (sym p.exists) (c.size_of_row.ensures e.row p.rest is.row_fits p.exists p.at_19) (ap (λ (s : Stamp). s.micros) stamp) (ap (λ (s : Stamp). s.zone) stamp)
+      (c.etag_of.ensures e.row.etag _ is.row_fits.etag_long p.read.etag_next) (c.in_ok-kind.ensures e.row p.rest is.row_fits p.exists p.at_19)
+
+pub invariant_of-result : goal.invariant_of-result
+invariant_of-result c = subst IsRow (sym (returns c c.requires.0 c.requires.1 c.requires.2)) c.requires.1.row_fits.bounds

@@ -1,11 +1,12 @@
-use Rattle.std.proofs.Common.{rules, ◌≡◌, ◌≢◌, ◌+◌, ◌*◌, ◌≤◌, ◌++◌, ℕ, List, Some, true, IfOk, IfSome, IfNone, length, drop, ◌-◌, ◌<◌, ◌/◌, ◌%◌, Bool, false, nat_eq, nat_lt, [], ◌∷◌, slice_index_or, slice_set, bit_and, bit_or, Fits, w8, w32, w64, Bor, MutBor}
-use Rattle.std.specs.List.{AllByRecursion}
-use Rattle.object_words.specs.declared.entry.Tag.{Tag as TagOf}
-use Rattle.object_words.specs.Rows.{RowView}
-use Rattle.object_words.specs.Entries.{EntryView}
-use Rattle.index_entry.specs.Layouts.{IsEntry, IsTag, IsWritten, entry_bytes, row_bytes, tags_bytes}
+use Rattle.std.proofs.Common.{◌≡◌, ◌+◌, ◌++◌, ◌∷◌, [], List, take, refl, sym, ap, ap₂, ◌∙◌, arith}
+use Rattle.std.proofs.lemmas.List.{take_more}
+use Rattle.object_words.specs.declared.entry.Tag.{Tag}
+use Rattle.index_entry.proofs.TagLemmas.{tag_read}
 use Rattle.index_entry.proofs.codec.tags_in.Goals as goal
 
--- src/codec.rt:104:5
 pub loop-place-preserved : goal.loop-place-preserved
-loop-place-preserved c = ?
+loop-place-preserved c all fit count here =
+    let d = c.tag_in.result in
+    let read = tag_read c.args.bytes.now c.args.start _ c.loop-place.place all c.tag_in.result d fit (omega arith) here refl c.tag_in.ensures.once in
+    c.in_ok-push.ensures.ok ∙ ap₂ (λ (ts : List Tag) (t : Tag). ts ++ t ∷ []) (c.loop-place.invariant all fit count here) read
+    ∙ sym (take_more all c.loop-place.place d (omega arith))
