@@ -11,7 +11,8 @@ use Rattle.object_words.specs.Entries.{EntryView}
 use Rattle.index_entry.specs.declared.entry.EntryFront.{EntryFront}
 use Rattle.index_entry.specs.Layouts.{IsEntry, IsWritten, entry_bytes, front_bytes, front_of, live_bytes, row_bytes, tags_bytes, flag}
 use Rattle.index_entry.proofs.TagLemmas.{length-tags_bytes}
-use Rattle.index_entry.proofs.PieceLemmas.{AreBytes, a_number, all_fit, begins, behind, taken, part_fits, length-number_bytes, length-short_bytes}
+use Rattle.std.specs.Int.{w16, from_be_bytes}
+use Rattle.index_entry.proofs.PieceLemmas.{short_once, AreBytes, a_number, all_fit, begins, behind, taken, part_fits, length-number_bytes, length-short_bytes}
 
 -- the bytes of a row of an object that exists, piece by piece
 pub live_split : (row : RowView) (rest : List ℕ) → live_bytes row ++ rest
@@ -24,10 +25,17 @@ live_split row rest =
 
 pub length-live_bytes : (row : RowView) → length row.etag ≡ 16 → length (live_bytes row) ≡ 35 + length row.kind
 length-live_bytes row long =
-    omega (arith, long, length-append (number_bytes row.size) (number_bytes row.stamp.micros ++ (row.stamp.zone ∷ (row.etag ++ (short_bytes (length row.kind) ++ row.kind)))),
+    omega (
+      arith,
+      long,
+      length-append (number_bytes row.size) (number_bytes row.stamp.micros ++ (row.stamp.zone ∷ (row.etag ++ (short_bytes (length row.kind) ++ row.kind)))),
       length-append (number_bytes row.stamp.micros) (row.stamp.zone ∷ (row.etag ++ (short_bytes (length row.kind) ++ row.kind))),
-      length-append row.etag (short_bytes (length row.kind) ++ row.kind), length-append (short_bytes (length row.kind)) row.kind,
-      length-number_bytes row.size, length-number_bytes row.stamp.micros, length-short_bytes (length row.kind))
+      length-append row.etag (short_bytes (length row.kind) ++ row.kind),
+      length-append (short_bytes (length row.kind)) row.kind,
+      length-number_bytes row.size,
+      length-number_bytes row.stamp.micros,
+      length-short_bytes (length row.kind),
+    )
 
 pub exists_bytes : (row : RowView) → row.exists ≡ true → row_bytes row ≡ live_bytes row
 exists_bytes row is = rw is refl
@@ -56,20 +64,21 @@ live_found bs n is =
     let at_52 : drop 52 bs ≡ short_bytes (length row.kind) ++ (row.kind ++ drop (54 + n) bs) = is.kind_len ∙ ap₂ (λ k z. short_bytes k ++ z) (sym kind_long) (begins bs 54 n) in
     let at_36 : drop 36 bs ≡ row.etag ++ (short_bytes (length row.kind) ++ (row.kind ++ drop (54 + n) bs)) = begins bs 36 16 ∙ ap (λ z. row.etag ++ z) at_52 in
     let at_35 : drop 35 bs ≡ row.stamp.zone ∷ (row.etag ++ (short_bytes (length row.kind) ++ (row.kind ++ drop (54 + n) bs))) = drop_more bs 35 0 (omega (arith, is.long)) ∙ ap (λ z. row.stamp.zone ∷ z) at_36 in
-    let at_19 = s.read ∙ ap (λ z. number_bytes s.number ++ z) (m.read ∙ ap (λ z. number_bytes m.number ++ z) at_35) in
-    (row,
-     record {
-       bounds = record { kind_high = omega (arith, kind_long, is.few); zone_low = is.zone_low; zone_high = is.zone_high; blank = λ no. absurd (let bad : true ≡ false = no in cc) };
-       size_fits = s.fits;
-       micros_fits = m.fits;
-       etag_long = etag_long;
-       etag_fits = all_fit row.etag (part_fits bs 36 16 is.bytes);
-       kind_text = is.kind_text;
-     },
-     refl,
-     omega (arith, kind_long, length-live_bytes row etag_long),
-     is.long,
-     at_19 ∙ sym (live_split row (drop (54 + n) bs)))
+    let at_19 = s.read ∙ ap (λ z. number_bytes s.number ++ z) (m.read ∙ ap (λ z. number_bytes m.number ++ z) at_35) in (
+      row,
+      record {
+        bounds = record { kind_high = omega (arith, kind_long, is.few); zone_low = is.zone_low; zone_high = is.zone_high; blank = λ no. absurd (let bad : true ≡ false = no in cc) };
+        size_fits = s.fits;
+        micros_fits = m.fits;
+        etag_long = etag_long;
+        etag_fits = all_fit row.etag (part_fits bs 36 16 is.bytes);
+        kind_text = is.kind_text;
+      },
+      refl,
+      omega (arith, kind_long, length-live_bytes row etag_long),
+      is.long,
+      at_19 ∙ sym (live_split row (drop (54 + n) bs)),
+    )
 
 -- what is read of a row of an object that exists
 pub record AreRead (bs : List ℕ) (row : RowView) (rest : List ℕ) : Type 0 where
@@ -194,8 +203,15 @@ same_front f g v r x s t n = λ i. record { version = v i; revision = r i; exist
 
 pub length-front_bytes : (version revision : ℕ) (row : RowView) (tags : ℕ) → length (front_bytes version revision row tags) ≡ 27 + length (row_bytes row)
 length-front_bytes version revision row tags =
-    omega (arith, length-append (number_bytes version) (number_bytes revision ++ (row_bytes row ++ number_bytes tags)), length-append (number_bytes revision) (row_bytes row ++ number_bytes tags),
-      length-append (row_bytes row) (number_bytes tags), length-number_bytes version, length-number_bytes revision, length-number_bytes tags)
+    omega (
+      arith,
+      length-append (number_bytes version) (number_bytes revision ++ (row_bytes row ++ number_bytes tags)),
+      length-append (number_bytes revision) (row_bytes row ++ number_bytes tags),
+      length-append (row_bytes row) (number_bytes tags),
+      length-number_bytes version,
+      length-number_bytes revision,
+      length-number_bytes tags,
+    )
 
 pub length-entry_bytes : (e : EntryView) → length (entry_bytes e) ≡ 27 + length (row_bytes e.row) + 16 * length e.tags
 length-entry_bytes e =
@@ -211,8 +227,14 @@ row_most row is = row_most_of row.exists row refl is
 pub length-begin : (bs : List ℕ) (version revision : ℕ) (row : RowView) (rest : List ℕ)
     → bs ≡ 238 ∷ 1 ∷ flag row.exists ∷ (number_bytes version ++ (number_bytes revision ++ (row_bytes row ++ rest))) → length bs ≡ 19 + length (row_bytes row) + length rest
 length-begin bs version revision row rest here =
-    ap length here ∙ omega (arith, length-append (number_bytes version) (number_bytes revision ++ (row_bytes row ++ rest)), length-append (number_bytes revision) (row_bytes row ++ rest),
-      length-append (row_bytes row) rest, length-number_bytes version, length-number_bytes revision)
+    ap length here ∙ omega (
+      arith,
+      length-append (number_bytes version) (number_bytes revision ++ (row_bytes row ++ rest)),
+      length-append (number_bytes revision) (row_bytes row ++ rest),
+      length-append (row_bytes row) rest,
+      length-number_bytes version,
+      length-number_bytes revision,
+    )
 
 pub length-entry : (bs : List ℕ) (e : EntryView) → bs ≡ entry_bytes e → length bs ≡ 27 + length (row_bytes e.row) + 16 * length e.tags
 length-entry bs e here = ap length here ∙ length-entry_bytes e
@@ -220,12 +242,12 @@ length-entry bs e here = ap length here ∙ length-entry_bytes e
 -- where the row of an entry ends
 pub end_known : (bs : List ℕ) (found : Option ℕ) (end : ℕ) → found ≡ Some end
     → ((version revision : ℕ) (row : RowView) (rest : List ℕ) → IsWritten row → 8 ≤ length rest
-        → bs ≡ 238 ∷ 1 ∷ flag row.exists ∷ (number_bytes version ++ (number_bytes revision ++ (row_bytes row ++ rest))) → found ≡ Some (19 + length (row_bytes row)))
+    → bs ≡ 238 ∷ 1 ∷ flag row.exists ∷ (number_bytes version ++ (number_bytes revision ++ (row_bytes row ++ rest))) → found ≡ Some (19 + length (row_bytes row)))
     → (e : EntryView) → IsEntry e → bs ≡ entry_bytes e → end ≡ 19 + length (row_bytes e.row)
 end_known bs found end was exact e is here =
     let rest = number_bytes (length e.tags) ++ tags_bytes e.tags in
     same_some _ _ (sym was ∙ exact e.version e.revision e.row rest is.row_fits
-      (omega (arith, length-append (number_bytes (length e.tags)) (tags_bytes e.tags), length-number_bytes (length e.tags))) (here ∙ entry_split e))
+    (omega (arith, length-append (number_bytes (length e.tags)) (tags_bytes e.tags), length-number_bytes (length e.tags))) (here ∙ entry_split e))
 
 pub live_flat : (a b d e f : List ℕ) (z : ℕ) → (((((a ++ b) ++ (z ∷ [])) ++ d) ++ e) ++ f) ≡ a ++ (b ++ (z ∷ (d ++ (e ++ f))))
 live_flat a b d e f z = simp append_assoc refl
@@ -269,3 +291,10 @@ tags_here bs e here start is =
     let r = entry_read bs e (19 + length (row_bytes e.row)) refl here in
     let at : start ≡ 19 + length (row_bytes e.row) + 8 = omega (arith, is) in
     ap (λ n. drop n bs) at ∙ r.at_tags
+
+-- 64 bytes with a type of 3 are no entry
+pub cut_short : (bs : List ℕ) (e : EntryView) → IsEntry e → bs ≡ entry_bytes e → get_or bs 2 0 ≡ 1 → 3 ≡ from_be_bytes w16 (take 2 (drop 52 bs)) → length bs ≡ 64 → ⊥
+cut_short bs e is here one three long =
+    let p = live_parts bs e is here one in
+    let k = short_once bs 52 3 (length e.row.kind) _ three (omega (arith, is.row_fits.bounds.kind_high)) p.read.len_here in
+    absurd (omega (arith, k, p.read.end, length-entry bs e here, long))

@@ -1,3 +1,5 @@
 pub mod PieceLemmas
 pub mod TagLemmas
 pub mod EntryLemmas
+pub mod Uniqueness
+pub mod HeaderLemmas

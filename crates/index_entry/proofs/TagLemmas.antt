@@ -119,7 +119,7 @@ pub one_tag_more : (front bytes : List ℕ) (ts : List Tag) (place : ℕ) (d : T
 one_tag_more front bytes ts place d some here =
     let t = get_or ts place d in
     let more : tags_bytes (take (place + 1) ts) ≡ tags_bytes (take place ts) ++ tag_bytes t =
-      ap tags_bytes (take_more ts place d some) ∙ tags_bytes-append (take place ts) (t ∷ []) ∙ ap (λ z. tags_bytes (take place ts) ++ z) (append-nil (tag_bytes t)) in
+    ap tags_bytes (take_more ts place d some) ∙ tags_bytes-append (take place ts) (t ∷ []) ∙ ap (λ z. tags_bytes (take place ts) ++ z) (append-nil (tag_bytes t)) in
     ap (λ z. z ++ tag_bytes t) here ∙ append_assoc front (tags_bytes (take place ts)) (tag_bytes t) ∙ ap (λ z. front ++ z) (sym more)
 
 AllByRecursion-push : (ts : List Tag) (t : Tag) → AllByRecursion IsTag ts → IsTag t → AllByRecursion IsTag (ts ++ t ∷ [])

@@ -21,7 +21,13 @@ pub fn encode_entry(alloc: Global, entry: &Entry) -> Result<Bytes, OutOfMemory>
 {
     let mut out = [0; FRONT_MOST];
     let tags = entry.tags.as_slice();
-    let len = write_front(entry.version, entry.revision, &entry.row, tags.len() as u64, &mut out);
+    let len = write_front(
+        entry.version,
+        entry.revision,
+        &entry.row,
+        tags.len() as u64,
+        &mut out,
+    );
     let mut bytes = Bytes::from_slice(alloc, &out[..len])?;
     for tag in tags {
         bytes.extend(&write_tag(tag))?;
@@ -30,7 +36,11 @@ pub fn encode_entry(alloc: Global, entry: &Entry) -> Result<Bytes, OutOfMemory>
 }
 
 /// The entry of this name that is written so, if one is.
-pub fn decode_entry(alloc: Global, name: &ObjectName, bytes: &[u8]) -> Result<Option<Entry>, OutOfMemory>
+pub fn decode_entry(
+    alloc: Global,
+    name: &ObjectName,
+    bytes: &[u8],
+) -> Result<Option<Entry>, OutOfMemory>
     ensures found { IfOk result (λ found. IfSome found (λ e. (e.0 ≡ name.now) × IsEntry e.1 × (bytes.now ≡ entry_bytes e.1))) }
     ensures exact { IfOk result (λ found. (e : EntryView) → IsEntry e → bytes.now ≡ entry_bytes e → found ≡ Some (name.now, e)) }
     ensures none { IfOk result (λ found. IfNone found ((e : EntryView) → IsEntry e → bytes.now ≢ entry_bytes e)) }

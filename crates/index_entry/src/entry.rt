@@ -16,6 +16,12 @@ const KIND: u8 = 0xee;
 /// The number of the first layout.
 const LAYOUT: u8 = 1;
 
+/// The last of the zones, which begin at 1.
+const LAST_ZONE: u8 = 8;
+
+/// The most bytes that a type has.
+const KIND_MOST: usize = 256;
+
 /// How many bytes a tag has.
 pub const TAG_LEN: usize = 16;
 
@@ -97,7 +103,7 @@ fn live_end(bytes: &[u8]) -> Option<usize>
     let zone = bytes[35];
     let kind_len = usize::from(u16_at(bytes, 52));
     let end = 54 + kind_len;
-    if zone < 1 || zone > 8 || kind_len > 256 || bytes.len() < end + 8 {
+    if zone < 1 || zone > LAST_ZONE || kind_len > KIND_MOST || bytes.len() < end + 8 {
         return None;
     }
     if !is_text(&bytes[54..end]) {
@@ -179,15 +185,34 @@ pub fn write_tag(tag: &Tag) -> [u8; 16]
     let number = tag.tag.to_be_bytes();
     let deadline = tag.deadline.to_be_bytes();
     [
-        number[0], number[1], number[2], number[3], number[4], number[5], number[6], number[7],
-        deadline[0], deadline[1], deadline[2], deadline[3], deadline[4], deadline[5], deadline[6],
+        number[0],
+        number[1],
+        number[2],
+        number[3],
+        number[4],
+        number[5],
+        number[6],
+        number[7],
+        deadline[0],
+        deadline[1],
+        deadline[2],
+        deadline[3],
+        deadline[4],
+        deadline[5],
+        deadline[6],
         deadline[7],
     ]
 }
 
 /// Writes the bytes of an entry before its tags, of which there are so many, and gives how many bytes
 /// these are. Takes no memory.
-pub fn write_front(version: u64, revision: u64, row: &EntryRow, tags: u64, out: &mut [u8; 318]) -> usize
+pub fn write_front(
+    version: u64,
+    revision: u64,
+    row: &EntryRow,
+    tags: u64,
+    out: &mut [u8; 318],
+) -> usize
     ensures len { result ≡ length (front_bytes version revision row.now tags) }
     ensures written { out.new ≡ front_bytes version revision row.now tags ++ drop result out.old }
     ensures bounds { IsWritten row.now }

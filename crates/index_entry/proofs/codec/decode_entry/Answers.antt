@@ -16,8 +16,8 @@ same : (c : goal.In_ok-name-in-Some) (e : EntryView) → IsEntry e → c.args.by
 same c e is here =
     let f = same_front_found _ _ (c.in-Some.ensures.exact e is here) in
     same_entry _ e (ap (λ (g : EntryFront). g.version) f) (ap (λ (g : EntryFront). g.revision) f)
-      (c.in_ok-row-in-Some.ensures e is here)
-      (c.in_ok-tags-in-Some.ensures e.tags is.tags_fit (sym (ap (λ (g : EntryFront). g.tags) f)) (tags_here c.args.bytes.now e here _ (ap (λ (g : EntryFront). g.tags_start) f)))
+    (c.in_ok-row-in-Some.ensures e is here)
+    (c.in_ok-tags-in-Some.ensures e.tags is.tags_fit (sym (ap (λ (g : EntryFront). g.tags) f)) (tags_here c.args.bytes.now e here _ (ap (λ (g : EntryFront). g.tags_start) f)))
 
 pub invariant_of-result : goal.invariant_of-result
 invariant_of-result c =

@@ -24,7 +24,7 @@ returns c e is here =
     let p = live_parts c.args.bytes.now e is here c.if-bytes-ne1.false in
     let stamp = c.stamp_of.ensures e.row p.rest is.row_fits p.exists p.at_19 in
     same_row _ e.row (sym p.exists) (c.size_of_row.ensures e.row p.rest is.row_fits p.exists p.at_19) (ap (λ (s : Stamp). s.micros) stamp) (ap (λ (s : Stamp). s.zone) stamp)
-      (c.etag_of.ensures e.row.etag _ is.row_fits.etag_long p.read.etag_next) (c.in_ok-kind.ensures e.row p.rest is.row_fits p.exists p.at_19)
+    (c.etag_of.ensures e.row.etag _ is.row_fits.etag_long p.read.etag_next) (c.in_ok-kind.ensures e.row p.rest is.row_fits p.exists p.at_19)
 
 pub invariant_of-result : goal.invariant_of-result
 invariant_of-result c = subst IsRow (sym (returns c c.requires.0 c.requires.1 c.requires.2)) c.requires.1.row_fits.bounds

@@ -10,7 +10,7 @@ no_end : (c : goal.After-from_residual) (e : EntryView) → IsEntry e → c.args
 no_end c e is here =
     let rest = number_bytes (length e.tags) ++ tags_bytes e.tags in
     none_some _ (sym c.in_err-count_start.was ∙ c.row_end.ensures.exact e.version e.revision e.row rest is.row_fits
-      (omega (arith, length-append (number_bytes (length e.tags)) (tags_bytes e.tags), length-number_bytes (length e.tags))) (here ∙ entry_split e))
+    (omega (arith, length-append (number_bytes (length e.tags)) (tags_bytes e.tags), length-number_bytes (length e.tags))) (here ∙ entry_split e))
 
 pub returns-in_err-count_start-clause-exact : goal.returns-in_err-count_start-clause-exact
 returns-in_err-count_start-clause-exact c e is here = absurd (no_end c e is here)
@@ -44,11 +44,12 @@ returns-clause-found c =
       at_end = c.u64_at-tags.ensures.read ∙ ap (λ n. number_bytes n ++ drop (c.in_ok-count_start.count_start + 8) c.args.bytes.now) (sym tags.3);
       at_tags = tags.4;
     } in
-    let exists = exists_read c.args.bytes.now e c.in_ok-count_start.count_start read in
-    (e,
-     record { version_fits = c.u64_at.type_inv; revision_fits = c.u64_at-2.type_inv; row_fits = row.1; count_fits = omega (arith, tags.3, c.u64_at-tags.type_inv); tags_fit = tags.1; rise = tags.2 },
-     entry_found c.args.bytes.now e c.in_ok-count_start.count_start read,
-     same_front _ _ refl refl exists (c.size_of_row.ensures row.0 _ row.1 (sym exists) row.5) (sym tags.3) (omega (arith, row.2)))
+    let exists = exists_read c.args.bytes.now e c.in_ok-count_start.count_start read in (
+      e,
+      record { version_fits = c.u64_at.type_inv; revision_fits = c.u64_at-2.type_inv; row_fits = row.1; count_fits = omega (arith, tags.3, c.u64_at-tags.type_inv); tags_fit = tags.1; rise = tags.2 },
+      entry_found c.args.bytes.now e c.in_ok-count_start.count_start read,
+      same_front _ _ refl refl exists (c.size_of_row.ensures row.0 _ row.1 (sym exists) row.5) (sym tags.3) (omega (arith, row.2)),
+    )
 
 pub returns-clause-exact : goal.returns-clause-exact
 returns-clause-exact c e is here =
@@ -56,9 +57,9 @@ returns-clause-exact c e is here =
     let r = entry_read c.args.bytes.now e _ end here in
     let exists = exists_read c.args.bytes.now e c.in_ok-count_start.count_start r in
     ap Some (same_front _ _
-      (c.u64_at.ensures.once e.version _ is.version_fits r.at_3)
-      (c.u64_at-2.ensures.once e.revision _ is.revision_fits r.at_11)
-      exists
-      (c.size_of_row.ensures e.row _ is.row_fits (sym exists) r.at_19)
-      (c.u64_at-tags.ensures.once (length e.tags) _ is.count_fits r.at_end)
-      (omega (arith, end)))
+    (c.u64_at.ensures.once e.version _ is.version_fits r.at_3)
+    (c.u64_at-2.ensures.once e.revision _ is.revision_fits r.at_11)
+    exists
+    (c.size_of_row.ensures e.row _ is.row_fits (sym exists) r.at_19)
+    (c.u64_at-tags.ensures.once (length e.tags) _ is.count_fits r.at_end)
+    (omega (arith, end)))

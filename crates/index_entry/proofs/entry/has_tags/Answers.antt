@@ -16,6 +16,6 @@ pub returns-clause-found : goal.returns-clause-found
 returns-clause-found c rising =
     let n = (length c.args.bytes.now - c.args.start) / 16 in
     let t = some_tags n (drop c.args.start c.args.bytes.now)
-      (λ i. omega (arith, c.type_inv.bytes (c.args.start + i), get_or-drop c.args.start c.args.bytes.now i 0))
-      (length-drop c.args.start c.args.bytes.now ∙ omega arith) in
+    (λ i. omega (arith, c.type_inv.bytes (c.args.start + i), get_or-drop c.args.start c.args.bytes.now i 0))
+    (length-drop c.args.start c.args.bytes.now ∙ omega arith) in
     (t.tags, t.fit, sym (c.is_rising.ensures t.tags t.fit t.count t.here) ∙ rising, omega (arith, t.count), t.here)

@@ -63,6 +63,19 @@ returns-clause-end c =
     let kind = ap length (c.as_bytes.ensures.value ∙ c.as_str-kind.ensures ∙ c.as_text.ensures.text) in
     let whole : length (row_bytes row) ≡ 35 + length row.kind = ap length (exists_bytes row c.if-not-row.false) ∙ length-live_bytes row c.put_etag-at.ensures.long in
     let end : c.put.result ≡ c.args.at + length (row_bytes row) =
-      omega (arith, whole, kind, c.put-at.ensures.end, c.put-at-2.ensures.end, c.put-at-3.ensures.end, c.put_etag-at.ensures.end, c.put_etag-at.ensures.long, c.put-at-4.ensures.end, c.put.ensures.end,
-        ap length c.to_be_bytes.ensures, ap length c.to_be_bytes-2.ensures, ap length c.to_be_bytes-3.ensures) in
+    omega (
+      arith,
+      whole,
+      kind,
+      c.put-at.ensures.end,
+      c.put-at-2.ensures.end,
+      c.put-at-3.ensures.end,
+      c.put_etag-at.ensures.end,
+      c.put_etag-at.ensures.long,
+      c.put-at-4.ensures.end,
+      c.put.ensures.end,
+      ap length c.to_be_bytes.ensures,
+      ap length c.to_be_bytes-2.ensures,
+      ap length c.to_be_bytes-3.ensures,
+    ) in
     subst (λ r. c.put.result ≡ c.args.at + length (row_bytes r)) c.row.view_is end

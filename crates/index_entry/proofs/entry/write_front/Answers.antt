@@ -9,9 +9,18 @@ use Rattle.index_entry.proofs.entry.write_front.Goals as goal
 pub returns-clause-len : goal.returns-clause-len
 unfolding number_bytes
 returns-clause-len c =
-    omega (arith, c.put-at.ensures.end, c.put-at-2.ensures.end, c.put-at-3.ensures.end, c.put_row-at.ensures.end, c.put.ensures.end,
+    omega (
+      arith,
+      c.put-at.ensures.end,
+      c.put-at-2.ensures.end,
+      c.put-at-3.ensures.end,
+      c.put_row-at.ensures.end,
+      c.put.ensures.end,
       length-front_bytes c.args.version c.args.revision c.args.row.now c.args.tags,
-      ap length c.to_be_bytes.ensures, ap length c.to_be_bytes-2.ensures, ap length c.to_be_bytes-3.ensures)
+      ap length c.to_be_bytes.ensures,
+      ap length c.to_be_bytes-2.ensures,
+      ap length c.to_be_bytes-3.ensures,
+    )
 
 pub returns-clause-written : goal.returns-clause-written
 unfolding number_bytes

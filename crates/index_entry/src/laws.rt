@@ -1,0 +1,35 @@
+//! Laws of the layouts: the functions here do nothing.
+ghost use Rattle.std.specs.Prelude.{◌≡◌, ◌≢◌, ◌+◌, ◌*◌, ◌≤◌, [], codes, drop, length, take, true};
+ghost use Rattle.object_words.specs.Entries.{EntryView};
+ghost use Rattle.index_entry.specs.Layouts.{IsEntry, entry_bytes};
+
+/// Bytes are the encoding of one entry at most, and as many as its tags let them be.
+pub fn an_entry_has_one_spelling()
+    ensures one { (a b : EntryView) → IsEntry a → IsEntry b → entry_bytes a ≡ entry_bytes b → a ≡ b }
+    ensures most { (e : EntryView) → IsEntry e → length (entry_bytes e) ≤ 318 + 16 * length e.tags }
+{}
+
+/// An entry of version 8 and revision 2 without tags: 5 bytes, written at moment 5 in zone 1.
+const WRITTEN: [u8; 65] = [
+    0xee, 1, 1, 0, 0, 0, 0, 0, 0, 0, 8, 0, 0, 0, 0, 0, 0, 0, 2, 0, 0, 0, 0, 0, 0, 0, 5, 0, 0, 0, 0,
+    0, 0, 0, 5, 1, 0x5d, 0x41, 0x40, 0x2a, 0xbc, 0x4b, 0x2a, 0x76, 0xb9, 0x71, 0x9d, 0x91, 0x10,
+    0x17, 0xc5, 0x92, 0, 3, b'a', b'/', b'b', 0, 0, 0, 0, 0, 0, 0, 0,
+];
+
+/// How an entry is written, and that its first 64 bytes alone are none.
+#[tactic(auto, unfolding(crate::specs::Numbers::number_bytes, crate::specs::Numbers::short_bytes))]
+pub fn entries_are_written_so()
+    ensures written { entry_bytes (record {
+      version = 8;
+      revision = 2;
+      row = record {
+        exists = true;
+        size = 5;
+        stamp = record { micros = 5; zone = 1 };
+        etag = take 16 (drop 36 WRITTEN);
+        kind = codes "a/b";
+      };
+      tags = [];
+    }) ≡ WRITTEN }
+    ensures cut { (e : EntryView) → IsEntry e → entry_bytes e ≢ take 64 WRITTEN }
+{}
