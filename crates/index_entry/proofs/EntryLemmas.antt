@@ -1,15 +1,14 @@
 -- Entries in bytes.
-use Rattle.std.proofs.Common.{◌≡◌, ℕ, zero, suc, ◌+◌, ◌^◌, ◌<◌, ◌≤◌, ◌*◌, ◌==◌, Bool, true, false, true≢false, List, replicate, Option, Some, None, is_some, unwrap_or, [], ◌∷◌, ◌++◌, length, take, drop, get_or, refl, sym, ap, ap₂, ◌∙◌, arith, subst, append_assoc, length-append}
+use Rattle.std.proofs.Common.{◌≡◌, ℕ, zero, suc, ◌+◌, ◌<◌, ◌≤◌, ◌*◌, ◌==◌, Bool, true, false, true≢false, List, replicate, Option, Some, None, is_some, unwrap_or, [], ◌∷◌, ◌++◌, length, take, drop, get_or, refl, sym, ap, ap₂, ◌∙◌, arith, append_assoc, length-append}
 use mir.Val.{bool_byte}
 use Rattle.std.specs.Str.{IsUtf8}
 use Rattle.std.specs.List.{AllByRecursion}
 use Rattle.std.proofs.lemmas.List.{drop_more, length-drop, length-take, get_or-drop}
-use Rattle.object_words.specs.Rows.{RowView, IsRow, no_row}
+use Rattle.object_words.specs.Rows.{RowView, no_row}
 use Rattle.index_entry.specs.Numbers.{number_bytes, short_bytes}
-use Rattle.object_words.specs.declared.entry.Tag.{Tag}
 use Rattle.object_words.specs.Entries.{EntryView}
 use Rattle.index_entry.specs.declared.entry.EntryFront.{EntryFront}
-use Rattle.index_entry.specs.Layouts.{IsEntry, IsWritten, entry_bytes, front_bytes, front_of, live_bytes, row_bytes, tags_bytes, flag}
+use Rattle.index_entry.specs.Layouts.{IsEntry, IsWritten, entry_bytes, front_bytes, live_bytes, row_bytes, tags_bytes, flag}
 use Rattle.index_entry.proofs.TagLemmas.{length-tags_bytes}
 use Rattle.std.specs.Int.{w16, from_be_bytes}
 use Rattle.index_entry.proofs.PieceLemmas.{short_once, AreBytes, a_number, all_fit, begins, behind, taken, part_fits, length-number_bytes, length-short_bytes}

@@ -1,10 +1,10 @@
 -- A header in bytes.
-use Rattle.std.proofs.Common.{◌≡◌, ℕ, append-nil, ◌+◌, ◌*◌, ◌/◌, ◌%◌, ◌^◌, ◌<◌, ◌≤◌, List, [], ◌∷◌, ◌++◌, length, drop, get_or, refl, sym, ap, ◌∙◌, arith, Some, unwrap_or, append_assoc}
+use Rattle.std.proofs.Common.{◌≡◌, ℕ, append-nil, ◌+◌, ◌*◌, ◌/◌, ◌%◌, ◌^◌, ◌<◌, List, [], ◌∷◌, ◌++◌, length, drop, get_or, refl, sym, ap, ◌∙◌, arith, Some, unwrap_or, append_assoc}
 use Rattle.std.proofs.lemmas.List.{length-drop, get_or-drop}
 use Rattle.std.proofs.lemmas.Nat.{shr_high, mod_low}
 use Rattle.index_entry.specs.Numbers.{number_bytes}
 use Rattle.index_entry.specs.declared.header.ShardHeader.{ShardHeader}
-use Rattle.index_entry.specs.Headers.{IsHeader, fate_kind, fate_number, header_bytes, hold_kind, hold_number}
+use Rattle.index_entry.specs.Headers.{fate_kind, fate_number, header_bytes, hold_kind, hold_number}
 use Rattle.index_entry.proofs.PieceLemmas.{behind, length-number_bytes}
 
 -- where the parts of a header are

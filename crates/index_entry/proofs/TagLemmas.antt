@@ -1,6 +1,5 @@
 -- Tags in bytes.
-use Rattle.std.proofs.Common.{◌≡◌, ℕ, zero, suc, ◌+◌, ◌-◌, ◌*◌, ◌<◌, ◌≤◌, ◌&&◌, Bool, true, false, nat_lt, List, [], ◌∷◌, ◌++◌, length, take, drop, get_or, refl, sym, ap, ap₂, ◌∙◌, arith, subst, append_assoc, length-append}
-use Rattle.std.specs.Int.{w64, from_be_bytes}
+use Rattle.std.proofs.Common.{◌≡◌, ℕ, zero, suc, ◌+◌, ◌-◌, ◌*◌, ◌<◌, ◌≤◌, ◌&&◌, true, false, nat_lt, List, [], ◌∷◌, ◌++◌, length, take, drop, get_or, refl, sym, ap, ap₂, ◌∙◌, arith, subst, append_assoc, length-append}
 use Rattle.std.specs.List.{AllByRecursion}
 use Rattle.std.proofs.lemmas.List.{drop-drop, drop_at, length-drop, get_or-drop, take_more, append-nil}
 use Rattle.std.proofs.lemmas.Bool.Decides.{nat_tests}
@@ -8,7 +7,7 @@ use Rattle.object_words.specs.declared.entry.Tag.{Tag}
 use Rattle.object_words.specs.Tags.{tags_rise}
 use Rattle.index_entry.specs.Numbers.{number_bytes}
 use Rattle.index_entry.specs.Layouts.{IsTag, tag_bytes, tags_bytes}
-use Rattle.index_entry.proofs.PieceLemmas.{AreBytes, ANumber, a_number, length-number_bytes}
+use Rattle.index_entry.proofs.PieceLemmas.{AreBytes, a_number, length-number_bytes}
 
 pub length-tag_bytes : (t : Tag) → length (tag_bytes t) ≡ 16
 length-tag_bytes t = omega (arith, length-append (number_bytes t.tag) (number_bytes t.deadline), length-number_bytes t.tag, length-number_bytes t.deadline)

@@ -1,15 +1,15 @@
 -- Bytes are the encoding of one entry at most.
-use Rattle.std.proofs.Common.{◌≡◌, ℕ, ◌+◌, ◌*◌, ◌^◌, ◌<◌, ◌≤◌, Bool, true, false, List, [], ◌∷◌, ◌++◌, length, take, drop, get_or, refl, sym, ap, ap₂, ◌∙◌, arith, subst, append_assoc, length-append}
+use Rattle.std.proofs.Common.{◌≡◌, ℕ, ◌+◌, ◌*◌, ◌^◌, ◌<◌, ◌≤◌, Bool, true, false, List, [], ◌∷◌, ◌++◌, length, take, drop, refl, sym, ap, ◌∙◌, arith, append_assoc}
 use Rattle.std.specs.Int.{w16, w64, from_be_bytes}
 use Rattle.std.specs.List.{AllByRecursion}
 use Rattle.object_words.specs.declared.entry.Tag.{Tag}
-use Rattle.object_words.specs.Rows.{RowView, no_row}
+use Rattle.object_words.specs.Rows.{RowView}
 use Rattle.object_words.specs.Entries.{EntryView}
 use Rattle.index_entry.specs.Numbers.{number_bytes, short_bytes}
-use Rattle.index_entry.specs.Layouts.{IsEntry, IsTag, IsWritten, entry_bytes, row_bytes, tag_bytes, tags_bytes}
-use Rattle.index_entry.proofs.PieceLemmas.{behind, taken, number_once, short_once, length-number_bytes, length-short_bytes}
-use Rattle.index_entry.proofs.TagLemmas.{length-tag_bytes, length-tags_bytes}
-use Rattle.index_entry.proofs.EntryLemmas.{AreRead, are_read, entry_read, exists_read, length-entry_bytes, row_most, same_entry, same_row, tags_here}
+use Rattle.index_entry.specs.Layouts.{IsEntry, IsTag, IsWritten, entry_bytes, row_bytes, tags_bytes}
+use Rattle.index_entry.proofs.PieceLemmas.{behind, taken, number_once, short_once, length-number_bytes}
+use Rattle.index_entry.proofs.TagLemmas.{length-tags_bytes}
+use Rattle.index_entry.proofs.EntryLemmas.{are_read, entry_read, exists_read, length-entry_bytes, row_most, same_entry, same_row, tags_here}
 
 pub same_number : (bs : List ℕ) (k x y : ℕ) (r s : List ℕ) → x < 2 ^ 64 → y < 2 ^ 64 → drop k bs ≡ number_bytes x ++ r → drop k bs ≡ number_bytes y ++ s → x ≡ y
 same_number bs k x y r s fx fy hx hy = sym (number_once bs k (from_be_bytes w64 (take 8 (drop k bs))) x r refl fx hx) ∙ number_once bs k (from_be_bytes w64 (take 8 (drop k bs))) y s refl fy hy

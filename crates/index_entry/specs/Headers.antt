@@ -1,6 +1,6 @@
 -- How the header of a shard is written: what the bytes are and their layout in two bytes, then its numbers, each with
 -- its high byte first, then what holds the shard and what became of it, each as a kind and a number.
-use Rattle.std.specs.Prelude.{ℕ, ◌/◌, ◌%◌, ◌^◌, ◌<◌, List, [], ◌∷◌, ◌++◌}
+use Rattle.std.specs.Prelude.{ℕ, ◌/◌, ◌%◌, ◌^◌, ◌<◌, List, ◌∷◌, ◌++◌}
 use Rattle.object_words.specs.declared.shard.Hold.{Hold}
 use Rattle.object_words.specs.declared.shard.Hold.TheVariants.{Free, Reshard, Closing}
 use Rattle.object_words.specs.declared.shard.Fate.{Fate}

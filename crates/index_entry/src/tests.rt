@@ -1,6 +1,6 @@
 use super::{
-    EntryFront, FRONT_MOST, ShardHeader, TAG_LEN, decode_entry, decode_header, encode_entry,
-    encode_header, front, write_front, write_tag,
+    EntryFront, FRONT_MOST, ShardHeader, decode_entry, decode_header, encode_entry, encode_header,
+    front, write_front, write_tag,
 };
 use object_words::{Fate, Hold, ObjectName, Tag};
 use rgw_types::Text;
@@ -51,15 +51,13 @@ fn entries_come_back(rt: HostRuntime) -> Result<(), Fail> {
             let again = encode_entry(alloc, &entry)?;
             assert!(rt; again.as_slice() == bytes);
             let mut out = [0; FRONT_MOST];
-            let tags = entry.tags.len();
-            let len = write_front(
-                entry.version,
-                entry.revision,
-                &entry.row,
-                tags as u64,
-                &mut out,
+            let tags = entry.tags.len() as u64;
+            let len = write_front(entry.version, entry.revision, &entry.row, tags, &mut out);
+            assert!(rt; bytes.starts_with(&out[..len]));
+            assert_eq!(rt;
+                front(bytes).map(|front| front.tags_start),
+                Some(len as u64)
             );
-            assert!(rt; out[..len] == bytes[..bytes.len() - TAG_LEN * tags]);
         }
     }
     Ok(())

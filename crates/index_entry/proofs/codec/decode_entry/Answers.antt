@@ -1,9 +1,9 @@
-use Rattle.std.proofs.Common.{◌≡◌, ◌+◌, Some, length, drop, true, refl, sym, ap, ap₂, ◌∙◌, subst, arith}
+use Rattle.std.proofs.Common.{◌≡◌, Some, true, sym, ap, subst, arith}
 use Rattle.object_words.specs.Tags.{tags_rise}
 use Rattle.object_words.specs.Entries.{EntryView}
 use Rattle.index_entry.specs.declared.entry.EntryFront.{EntryFront}
-use Rattle.index_entry.specs.Layouts.{IsEntry, entry_bytes, row_bytes, tags_bytes}
-use Rattle.index_entry.proofs.EntryLemmas.{entry_read, length-entry, same_entry, same_front_found, tags_here}
+use Rattle.index_entry.specs.Layouts.{IsEntry, entry_bytes}
+use Rattle.index_entry.proofs.EntryLemmas.{length-entry, same_entry, same_front_found, tags_here}
 use Rattle.index_entry.proofs.codec.decode_entry.Goals as goal
 
 pub tags_in-requires : goal.tags_in-requires

@@ -1,4 +1,4 @@
-use Rattle.std.proofs.Common.{◌≡◌, ◌+◌, ◌++◌, ◌∷◌, [], List, ℕ, length, take, refl, sym, ap, ap₂, ◌∙◌, arith, length-append}
+use Rattle.std.proofs.Common.{◌++◌, List, ℕ, length, take, ap, ◌∙◌, arith, length-append}
 use Rattle.std.proofs.lemmas.List.{length-take}
 use Rattle.object_words.specs.Entries.{EntryView}
 use Rattle.index_entry.specs.Layouts.{tags_bytes}

@@ -1,6 +1,6 @@
-use Rattle.std.proofs.Common.{◌≡◌, ◌++◌, List, length, drop, take}
+use Rattle.std.proofs.Common.{◌≡◌, ◌++◌, take}
 use Rattle.std.specs.List.{AllByRecursion}
-use Rattle.index_entry.specs.Layouts.{IsTag, front_bytes, tags_bytes}
+use Rattle.index_entry.specs.Layouts.{IsTag, tags_bytes}
 use Rattle.index_entry.proofs.codec.encode_entry.Given as goal
 
 abbrev pub invariant-loop-tag : goal.invariant-loop-tag

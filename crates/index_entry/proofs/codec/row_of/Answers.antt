@@ -1,8 +1,7 @@
-use Rattle.std.proofs.Common.{◌≡◌, refl, sym, ap, ◌∙◌, subst, arith}
+use Rattle.std.proofs.Common.{sym, ap, subst, arith}
 use Rattle.rgw_model.specs.declared.stamp.Stamp.{Stamp}
-use Rattle.object_words.specs.Rows.{RowView, IsRow}
-use Rattle.index_entry.proofs.PieceLemmas.{behind}
-use Rattle.index_entry.proofs.EntryLemmas.{blank_row, live_parts, same_row}
+use Rattle.object_words.specs.Rows.{IsRow}
+use Rattle.index_entry.proofs.EntryLemmas.{live_parts, same_row}
 use Rattle.index_entry.proofs.codec.row_of.Goals as goal
 
 pub kind_of-requires : goal.kind_of-requires

@@ -1,4 +1,3 @@
-use Rattle.std.proofs.Common.{◌≡◌, ◌∙◌, refl}
 use Rattle.index_entry.proofs.EntryLemmas.{are_read}
 use Rattle.index_entry.proofs.codec.stamp_of.Goals as goal
 

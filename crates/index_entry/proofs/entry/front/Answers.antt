@@ -1,7 +1,7 @@
-use Rattle.std.proofs.Common.{◌≡◌, ◌+◌, ◌++◌, ◌==◌, Some, None, IfNone, true≢false, length, drop, get_or, refl, sym, ap, ap₂, ◌∙◌, subst, arith, length-append}
+use Rattle.std.proofs.Common.{◌≡◌, ◌+◌, ◌++◌, Some, IfNone, true≢false, length, drop, refl, sym, ap, ◌∙◌, subst, arith, length-append}
 use Rattle.object_words.specs.Entries.{EntryView}
 use Rattle.index_entry.specs.Numbers.{number_bytes}
-use Rattle.index_entry.specs.Layouts.{IsEntry, entry_bytes, row_bytes, tags_bytes}
+use Rattle.index_entry.specs.Layouts.{IsEntry, entry_bytes, tags_bytes}
 use Rattle.index_entry.proofs.PieceLemmas.{length-number_bytes}
 use Rattle.index_entry.proofs.EntryLemmas.{EntryRead, entry_found, entry_read, entry_split, end_known, exists_read, none_some, same_front}
 use Rattle.index_entry.proofs.entry.front.Goals as goal

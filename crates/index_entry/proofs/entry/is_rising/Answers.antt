@@ -1,4 +1,4 @@
-use Rattle.std.proofs.Common.{◌≡◌, ◌+◌, ◌-◌, drop, get_or, refl, sym, ap, ◌∙◌, arith}
+use Rattle.std.proofs.Common.{◌≡◌, ◌+◌, ◌-◌, drop, refl, sym, ap, ◌∙◌, arith}
 use Rattle.object_words.specs.Tags.{tags_rise}
 use Rattle.index_entry.proofs.TagLemmas.{rise_kept, rise_last, rise_lost, tag_read}
 use Rattle.index_entry.proofs.entry.is_rising.Goals as goal

@@ -1,9 +1,8 @@
-use Rattle.std.proofs.Common.{◌≡◌, ◌+◌, ◌++◌, ◌∷◌, [], List, ℕ, length, drop, true, refl, sym, ap, ◌∙◌, subst, arith, append_assoc, length-append}
+use Rattle.std.proofs.Common.{◌≡◌, ◌+◌, ◌++◌, ◌∷◌, [], length, drop, sym, ap, ◌∙◌, subst, arith}
 use Rattle.std.specs.Str.{IsUtf8}
-use Rattle.object_words.specs.Rows.{RowView}
 use Rattle.object_words.specs.RowsOf.{row_view}
 use Rattle.index_entry.specs.Numbers.{number_bytes, short_bytes}
-use Rattle.index_entry.specs.Layouts.{IsWritten, live_bytes, row_bytes}
+use Rattle.index_entry.specs.Layouts.{IsWritten, row_bytes}
 use Rattle.index_entry.proofs.PieceLemmas.{IsPut, next_long, put_as, put_long, put_more}
 use Rattle.index_entry.proofs.EntryLemmas.{exists_bytes, length-live_bytes, live_flat, row_most}
 use Rattle.index_entry.proofs.entry.put_row.Goals as goal

@@ -1,6 +1,5 @@
-use Rattle.std.proofs.Common.{◌≡◌, ◌+◌, ◌++◌, ◌∷◌, length, get_or, refl, sym, ap, ◌∙◌, arith}
+use Rattle.std.proofs.Common.{get_or, refl, sym, ap, ◌∙◌, arith}
 use Rattle.object_words.specs.Rows.{no_row}
-use Rattle.index_entry.specs.Numbers.{number_bytes}
 use Rattle.index_entry.proofs.EntryLemmas.{begins_so, flag_one, length-begin, no_row_written, row_read}
 use Rattle.index_entry.proofs.entry.row_end.Goals as goal
 use Rattle.index_entry.proofs.entry.row_end.Goals.{then-bytes-lt27-via-then-bytes-lt27, then-bytes-lt27-via-else-bytes-lt27+then-bytes, then-bytes-lt27-via-else-bytes-lt27+else-bytes+then-bytes-ne-LAYOUT}

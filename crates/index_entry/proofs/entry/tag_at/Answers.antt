@@ -1,4 +1,4 @@
-use Rattle.std.proofs.Common.{◌≡◌, ◌+◌, ◌*◌, ◌<◌, length, refl, sym, ap, ◌∙◌, arith}
+use Rattle.std.proofs.Common.{◌+◌, length, refl, arith}
 use Rattle.index_entry.specs.Layouts.{row_bytes}
 use Rattle.index_entry.proofs.EntryLemmas.{entry_read, length-entry}
 use Rattle.index_entry.proofs.TagLemmas.{tag_read}

@@ -1,5 +1,4 @@
-use Rattle.std.proofs.Common.{◌≡◌, ◌∙◌, append_assoc, refl}
-use Rattle.object_words.specs.declared.entry.Tag.{Tag}
+use Rattle.std.proofs.Common.{◌∙◌, append_assoc, refl}
 use Rattle.index_entry.specs.Numbers.{number_bytes}
 use Rattle.index_entry.proofs.PieceLemmas.{behind, length-number_bytes}
 use Rattle.index_entry.proofs.entry.tag_in.Goals as goal

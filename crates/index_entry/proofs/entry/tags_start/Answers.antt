@@ -1,6 +1,5 @@
-use Rattle.std.proofs.Common.{◌≡◌, ◌+◌, length, refl, sym, ap, ◌∙◌, arith}
-use Rattle.index_entry.specs.Layouts.{row_bytes}
-use Rattle.index_entry.proofs.EntryLemmas.{are_read, entry_read, entry_split, flag_one, flag_other, length-entry, row_read}
+use Rattle.std.proofs.Common.{length, sym, ◌∙◌, arith}
+use Rattle.index_entry.proofs.EntryLemmas.{are_read, entry_split, flag_one, length-entry, row_read}
 use Rattle.index_entry.proofs.entry.tags_start.Goals as goal
 
 pub u16_at-requires : goal.u16_at-requires

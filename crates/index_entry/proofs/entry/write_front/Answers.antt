@@ -1,8 +1,8 @@
-use Rattle.std.proofs.Common.{◌≡◌, ◌+◌, ◌++◌, ◌∷◌, [], List, ℕ, length, drop, true, refl, sym, ap, ◌∙◌, subst, arith, append_assoc, length-append}
+use Rattle.std.proofs.Common.{◌≡◌, ◌++◌, ◌∷◌, [], length, drop, refl, sym, ap, ◌∙◌, arith}
 use Rattle.object_words.specs.Rows.{RowView}
 use Rattle.index_entry.specs.Numbers.{number_bytes}
 use Rattle.index_entry.specs.Layouts.{flag, front_bytes, row_bytes}
-use Rattle.index_entry.proofs.PieceLemmas.{IsPut, next_long, put_as, put_long, put_more}
+use Rattle.index_entry.proofs.PieceLemmas.{next_long, put_as, put_long, put_more}
 use Rattle.index_entry.proofs.EntryLemmas.{flag_byte, front_flat, length-front_bytes}
 use Rattle.index_entry.proofs.entry.write_front.Goals as goal
 

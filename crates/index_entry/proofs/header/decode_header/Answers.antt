@@ -1,4 +1,4 @@
-use Rattle.std.proofs.Common.{◌≡◌, ◌<◌, ℕ, List, Option, ◌+◌, ◌*◌, ◌^◌, [], ◌∷◌, ◌++◌, append-nil, Some, None, IfNone, length, drop, get_or, refl, sym, ap, ◌∙◌, subst, arith}
+use Rattle.std.proofs.Common.{◌≡◌, ◌<◌, ℕ, List, Option, ◌+◌, ◌*◌, ◌^◌, [], ◌∷◌, ◌++◌, append-nil, Some, None, IfNone, drop, get_or, sym, ap, ◌∙◌, subst, arith}
 use Rattle.object_words.specs.declared.shard.Fate.{Fate}
 use Rattle.index_entry.specs.declared.header.ShardHeader.{ShardHeader}
 use Rattle.index_entry.specs.Numbers.{number_bytes}

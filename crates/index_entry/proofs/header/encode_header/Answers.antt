@@ -1,8 +1,8 @@
-use Rattle.std.proofs.Common.{◌≡◌, ◌+◌, ◌/◌, ◌%◌, ◌^◌, ◌++◌, ◌∷◌, [], List, ℕ, replicate, length, drop, refl, sym, ap, ◌∙◌, subst, arith, append-nil, length-append}
+use Rattle.std.proofs.Common.{◌≡◌, ◌/◌, ◌%◌, ◌^◌, ◌++◌, ◌∷◌, [], replicate, length, drop, refl, ap, ◌∙◌, arith, append-nil}
 use Rattle.std.proofs.lemmas.List.{drop_all}
 use Rattle.index_entry.specs.Numbers.{number_bytes}
 use Rattle.index_entry.specs.Headers.{fate_number, header_bytes, hold_number}
-use Rattle.index_entry.proofs.PieceLemmas.{IsPut, next_long, put_as, put_long, put_more}
+use Rattle.index_entry.proofs.PieceLemmas.{next_long, put_as, put_long, put_more}
 use Rattle.index_entry.proofs.HeaderLemmas.{header_flat, header_long}
 use Rattle.index_entry.proofs.header.encode_header.Goals as goal
 
