@@ -19,17 +19,18 @@ pub struct Place<'a> {
 }
 
 impl Pool {
-    ghost use Rattle.std.specs.Prelude.{◌≡◌, ◌↔◌, IfOk, IfSome, IsTrue};
+    ghost use Rattle.std.specs.Prelude.{◌≡◌, ◌↔◌, IfOk, IfSome, IsOk, IsTrue};
     ghost use Rattle.std.specs.Borrow.{sem};
     ghost use Rattle.object_pool.specs.Objects.{object_at, exists};
     ghost use Rattle.object_pool.specs.Places.{IsPlaceIn, borrow_of, pool_of, rests_if_none, rests_if_refused};
 
     /// The place of a key, whether its object exists or not. A key that has none yet is copied. It
-    /// fails only for want of memory, and then the pool is as it was.
+    /// fails only for want of memory, and then the pool is as it was; it takes none where the object exists.
     pub fn place<'a>(&'a mut self, alloc: Global, key: &'a Key) -> Result<Place<'a>, OutOfMemory>
         ensures* unchanged_at_err { sem 𝓛 (rests_if_refused self.entry result) }
         ensures same_borrow { IfOk result (λ place. borrow_of place ≡ self.entry.ghost_name) }
         ensures ok { IfOk result (λ place. IsPlaceIn self.old key.now (object_at self.old key.now) place) }
+        ensures there { IsTrue (exists (object_at self.old key.now)) → IsOk result }
     {
         self.make_ready(alloc, key)?;
         Ok(Place { pool: self, key })
@@ -60,7 +61,7 @@ impl Place<'_> {
     ghost use Rattle.omap_pages.specs.Rows as rows;
     ghost use Rattle.omap_pages.specs.Rows.{IsInOrder, value_at, with_row, without_row, rows_after, rows_within, rows_outside, HasNoneWithin, KeepsOutside};
     ghost use Rattle.object_pool.specs.Objects.{dropped, exists, frames_of};
-    ghost use Rattle.object_pool.specs.Places.{Becomes, Changes, ChangesRows, Stays, object_of, pool_of, rows_of};
+    ghost use Rattle.object_pool.specs.Places.{Becomes, Changes, ChangesRows, Readies, Stays, object_of, pool_of, rows_of};
 
     /// Whether the object has bytes, attributes or rows.
     pub fn exists(&self) -> bool
@@ -190,6 +191,7 @@ impl Place<'_> {
         ensures rows { (rows_of self.new).rows ≡ (rows_of self.old).rows }
         ensures rooms { KeepsRooms (rows_of self.old) (rows_of self.new) }
         ensures spare { (rows_of self.new).spare ≡ (rows_of self.old).spare }
+        ensures readied { Readies self.old self.new }
         ensures err { OnErr result (Stays self.old self.new) }
     {
         self.pool.parts_mut(self.key).rows_mut().widen(key, room)
@@ -230,6 +232,7 @@ impl Place<'_> {
         ensures kept { (rows_of self.old).spare ≤ (rows_of self.new).spare }
         ensures rows { (rows_of self.new).rows ≡ (rows_of self.old).rows }
         ensures rooms { KeepsRooms (rows_of self.old) (rows_of self.new) }
+        ensures readied { Readies self.old self.new }
         ensures err { OnErr result (Stays self.old self.new) }
     {
         self.pool.parts_mut(self.key).rows_mut().reserve(count)
