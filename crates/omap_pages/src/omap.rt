@@ -1,4 +1,4 @@
-ghost use Rattle.std.specs.Prelude.{◌≡◌, ◌≢◌, ◌↔◌, ℕ, ◌+◌, ◌<◌, ◌≤◌, List, [], take, length, IsTrue, IsSome, IfSome, IfNone, IfOk, OnOk, OnErr, is_some, option_map, Some, None, false};
+ghost use Rattle.std.specs.Prelude.{◌≡◌, ◌≢◌, ◌↔◌, ℕ, ◌+◌, ◌<◌, ◌≤◌, List, [], take, length, max, IsTrue, IsSome, IsOk, IfSome, IfNone, IfOk, OnOk, OnErr, is_some, option_map, Some, None, false};
 ghost use Rattle.std.specs.Bool.{OnFalse};
 ghost use Rattle.std.specs.List.{splice};
 ghost use Rattle.std.specs.Option.{ForSome};
@@ -141,11 +141,14 @@ impl Omap {
         (end - start) as u64
     }
 
-    /// Makes the room of the row at the key at least `room` bytes.
-    /// After an error nothing has changed.
+    /// Makes the room of the row at the key at least `room` bytes, and no greater than it was where
+    /// it is that already. Then no memory is taken. After an error nothing has changed.
     pub fn widen(&mut self, key: &[u8], room: u64) -> Result<(), OutOfMemory>
         requires { IsSome (value_at self.old.rows key.now) }
         ensures ok { OnOk result (room ≤ room_at self.new.rooms key.now) }
+        ensures exact { OnOk result (
+            room_at self.new.rooms key.now ≡ max (room_at self.old.rooms key.now) room) }
+        ensures enough { room ≤ room_at self.old.rooms key.now → IsOk result }
         ensures rows { self.new.rows ≡ self.old.rows }
         ensures rooms { KeepsRooms self.old self.new }
         ensures spare { self.new.spare ≡ self.old.spare }
@@ -178,10 +181,12 @@ impl Omap {
         self.rows[at].splice(start as usize, count as usize, bytes);
     }
 
-    /// Makes the number of spare rows at least `rows`.
-    /// After an error nothing has changed.
+    /// Makes the number of spare rows `rows`, where it is lower. Where there are as many already no
+    /// memory is taken. After an error nothing has changed.
     pub fn reserve(&mut self, rows: u64) -> Result<(), OutOfMemory>
         ensures ok { OnOk result (rows ≤ self.new.spare) }
+        ensures exact { OnOk result (self.new.spare ≡ max self.old.spare rows) }
+        ensures enough { rows ≤ self.old.spare → IsOk result }
         ensures kept { self.old.spare ≤ self.new.spare }
         ensures rows { self.new.rows ≡ self.old.rows }
         ensures rooms { KeepsRooms self.old self.new }

@@ -1,4 +1,4 @@
-ghost use Rattle.std.specs.Prelude.{◌≡◌, ◌+◌, ◌<◌, ◌≤◌, length, max, vec_len, vec_capacity, IfOk, OnOk, OnErr};
+ghost use Rattle.std.specs.Prelude.{◌≡◌, ◌+◌, ◌<◌, ◌≤◌, length, max, vec_len, vec_capacity, IsOk, IfOk, OnOk, OnErr};
 ghost use Rattle.omap_pages.specs.declared.spares.TheConstants.{SPARE_KEY_LEN, SPARE_VALUE_LEN};
 
 use crate::row::Row;
@@ -61,6 +61,7 @@ impl Spares {
     // Makes this many ready, where there are fewer. After an error nothing has changed.
     pub(crate) fn reserve(&mut self, count: usize) -> Result<(), AllocError>
         ensures ok { OnOk result (self.new ≡ max self.old count) }
+        ensures enough { count ≤ self.old → IsOk result }
         ensures err { OnErr result (self.new ≡ self.old) }
     {
         let missing = count.saturating_sub(self.rows.len());
@@ -84,7 +85,8 @@ impl Spares {
 }
 
 fn several(alloc: Global, count: usize) -> Result<Vec<SpareRow>, AllocError>
-    ensures { IfOk result (λ spares. vec_len spares ≡ count) }
+    ensures ok { IfOk result (λ spares. vec_len spares ≡ count) }
+    ensures none { count ≡ 0 → IsOk result }
 {
     let mut spares = Vec::with_capacity(alloc, count)?;
     for _ in 0..count {

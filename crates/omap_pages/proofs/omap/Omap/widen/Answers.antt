@@ -1,4 +1,4 @@
-use Rattle.std.proofs.Common.{◌≡◌, set, is_some, refl, ap, sym, ◌∙◌, arith}
+use Rattle.std.proofs.Common.{◌≡◌, set, max, is_some, refl, ap, sym, ◌∙◌, arith}
 use Rattle.std.specs.FinMap.Entries.{find, put, is_sorted}
 use Rattle.omap_pages.specs.Rows.{key_cmp}
 use Rattle.omap_pages.proofs.CellLemmas.{is_put, sorted_put, put_same, is_some_seen, value_seen, room_seen, order_seen}
@@ -29,8 +29,18 @@ returns c =
     let seen = is_put cells spare c.args.self.now c.self.view_is (set cells c.place_of-at.result c.widen.new.self) key c.index_mut.result.now.1.value c.widen.new.self.1 c.widen.ensures.value (over c) in
     record {
       ok = omega (arith, seen.room, c.in_ok-widen.ensures.ok);
+      exact = seen.room ∙ c.in_ok-widen.ensures.ok ∙ ap (λ n. max n c.args.room) (sym room);
+      enough = λ le. refl;
       rows = seen.rows ∙ put_same c.args.self.now.rows key c.index_mut.result.now.1.value (order_seen cells spare c.args.self.now c.self.view_is c.self.invariant.0) value;
-      rooms = seen.all_rooms (omega (arith, room));
+      rooms = seen.all_rooms (omega (arith, room, c.in_ok-widen.ensures.ok));
       spare = ap (λ o. o.spare) c.self.view_is;
       err = tt;
     }
+
+-- a room that is there already takes no memory
+pub returns-in_err-widen-clause-enough : goal.returns-in_err-widen-clause-enough
+returns-in_err-widen-clause-enough c = λ le.
+    let cells = c.self.inside.rows.items in
+    let found = find_here cells c.as_slice.result.now c.args.key.now c.place_of-at.result c.as_slice.ensures.value c.index_mut.result.now c.place_of-at.ensures c.index_mut.ensures.value in
+    let room = room_seen cells c.self.inside.spares c.args.self.now c.self.view_is c.args.key.now _ found in
+    absurd (let no = c.in_err-widen.ensures.enough (omega (arith, room, le)) in cc no)
