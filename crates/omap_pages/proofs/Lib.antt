@@ -1,5 +1,8 @@
 pub mod CellLemmas
+pub mod DirectoryLemmas
 pub mod FilterLemmas
+pub mod FlatLemmas
+pub mod LeavesLemmas
 pub mod PageLemmas
 pub mod PlaceLemmas
 pub mod RangeLemmas

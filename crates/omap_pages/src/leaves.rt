@@ -1,8 +1,8 @@
 // Rows in leaves under one directory.
-ghost use Rattle.std.specs.Prelude.{◌≡◌, ◌+◌, ◌<◌, ◌≤◌, ◌↔◌, [], length, slice_index_or, drop, take, IsTrue, IsOk, IfOk, OnOk, OnErr};
+ghost use Rattle.std.specs.Prelude.{◌≡◌, ◌+◌, ◌^◌, ◌<◌, ◌≤◌, ◌↔◌, [], length, slice_index_or, slice_set, drop, take, max, vec_len, vec_capacity, IsTrue, IsOk, IfOk, OnOk, OnErr};
 ghost use Rattle.std.specs.List.{insert, remove, remove_range};
 ghost use Rattle.omap_pages.specs.Cells.{values_of};
-ghost use Rattle.omap_pages.specs.Leaves.{flat, position, leaf_at, AreFilled, IsPlace, IsRow};
+ghost use Rattle.omap_pages.specs.Leaves.{flat, position, leaf_at, one_if_none, one_if_rows, AreLeaves, IsPlace, IsRow};
 ghost use Rattle.omap_pages.specs.declared.leaf.TheConstants.{LEAF_ROWS};
 
 use crate::leaf::{LEAF_ROWS, Leaf};
@@ -12,6 +12,9 @@ use crate::row::{Row, copy_rows};
 use std::alloc::{AllocError, Global};
 use std::marker::Model;
 
+// More could have more rows than can be counted.
+const MAX_LEAVES: usize = usize::MAX / LEAF_ROWS;
+
 // Leaves with rows in their order. Contracts see the list of the leaves, and how many more have a
 // place ready in the directory.
 #[derive(Debug, Drop)]
@@ -20,15 +23,18 @@ pub(crate) struct Leaves {
 }
 
 impl Model for Leaves {
-    ghost use Rattle.std.specs.Prelude.{◌-◌, vec_len, vec_capacity};
-    ghost use Rattle.omap_pages.specs.Leaves.{Directory, AreFilled};
+    ghost use Rattle.std.specs.Prelude.{◌≤◌, ◌-◌, min, vec_len, vec_capacity};
+    ghost use Rattle.omap_pages.specs.Leaves.{Directory, AreLeaves};
+    ghost use Rattle.omap_pages.specs.declared.leaves.TheConstants.{MAX_LEAVES};
 
     ghost Value = { Directory };
 
-    ghost view = { λ it.
-        record { leaves = it.leaves.items; free = vec_capacity it.leaves - vec_len it.leaves } };
+    ghost view = { λ it. record {
+        leaves = it.leaves.items;
+        free = min (vec_capacity it.leaves) MAX_LEAVES - vec_len it.leaves;
+    } };
 
-    ghost invariant = { λ it. AreFilled it.leaves.items };
+    ghost invariant = { λ it. AreLeaves it.leaves.items × (vec_len it.leaves ≤ MAX_LEAVES) };
 }
 
 impl Leaves {
@@ -55,7 +61,7 @@ impl Leaves {
 
     pub(crate) fn as_slice(&self) -> &[Leaf]
         ensures leaves { result.now ≡ self.now.leaves }
-        ensures filled { AreFilled result.now }
+        ensures sizes { AreLeaves result.now }
     {
         self.leaves.as_slice()
     }
@@ -75,6 +81,9 @@ impl Leaves {
         ensures leaves { self.new.leaves ≡ self.old.leaves }
         ensures err { OnErr result (self.new ≡ self.old) }
     {
+        if MAX_LEAVES - self.leaves.len() < count {
+            return Err(AllocError);
+        }
         self.leaves.reserve(count)
     }
 
@@ -246,25 +255,54 @@ impl Leaves {
 
 // How many rows the leaves have.
 fn count_rows(leaves: &[Leaf]) -> usize
+    requires { length (flat leaves.now) < 2 ^ 64 }
     ensures { result ≡ length (flat leaves.now) }
 {
-    leaves.iter().map(Leaf::len).sum()
+    let mut count = 0;
+    for leaf in leaves {
+        count += leaf.len();
+    }
+    count
 }
 
 // Takes the rows from one place to below another out of their first leaf and their last one.
-fn cut(leaves: &mut [Leaf], start: Place, end: Place) {
+fn cut(leaves: &mut [Leaf], start: Place, end: Place)
+    requires start { IsPlace leaves.old start }
+    requires end { IsPlace leaves.old end }
+    requires start_leaf { start.leaf < length leaves.old }
+    requires end_leaf { end.leaf < length leaves.old }
+    requires leaf_order { start.leaf ≤ end.leaf }
+    requires row_order { start.leaf ≡ end.leaf → start.row ≤ end.row }
+    ensures two { start.leaf < end.leaf → leaves.new
+        ≡ slice_set (slice_set leaves.old start.leaf (take start.row (leaf_at leaves.old start)))
+            end.leaf (drop end.row (leaf_at leaves.old end)) }
+    ensures one { start.leaf ≡ end.leaf → leaves.new
+        ≡ slice_set leaves.old start.leaf
+            (remove_range (leaf_at leaves.old start) start.row end.row) }
+{
     if start.leaf < end.leaf {
         let first = &mut leaves[start.leaf];
         let len = first.len();
         first.remove_range(start.row, len);
-        leaves[end.leaf].remove_range(0, end.row);
+        let last = &mut leaves[end.leaf];
+        last.remove_range(0, end.row);
     } else {
-        leaves[start.leaf].remove_range(start.row, end.row);
+        let only = &mut leaves[start.leaf];
+        only.remove_range(start.row, end.row);
     }
 }
 
 // Drops the leaves between two, and these where they have no rows.
-fn drop_emptied(leaves: &mut Vec<Leaf>, first: usize, last: usize) {
+fn drop_emptied(leaves: &mut Vec<Leaf>, first: usize, last: usize)
+    requires first { first ≤ last }
+    requires last { last < vec_len leaves.old }
+    ensures items {
+        let start = first + one_if_rows (slice_index_or leaves.old.items first []) in
+        let end = last + one_if_none (slice_index_or leaves.old.items last []) in
+        leaves.new.items ≡ remove_range leaves.old.items start (max end start) }
+    ensures len { vec_len leaves.new ≤ vec_len leaves.old }
+    ensures capacity { vec_capacity leaves.new ≡ vec_capacity leaves.old }
+{
     let start = first + usize::from(!leaves[first].is_empty());
     let end = last + usize::from(leaves[last].is_empty());
     drop(leaves.drain(start..end.max(start)));

@@ -2,7 +2,7 @@
 ghost use Rattle.std.specs.Prelude.{◌≡◌, IsTrue, IsSome, IfOk, IfErr};
 ghost use Rattle.std.specs.FinMap.Entries.{find, is_sorted};
 ghost use Rattle.std.specs.Ordering.{is_lt, is_le};
-ghost use Rattle.omap_pages.specs.Leaves.{flat, position, AreFilled, IsPlace, IsRow};
+ghost use Rattle.omap_pages.specs.Leaves.{flat, position, AreLeaves, IsPlace, IsRow};
 ghost use Rattle.omap_pages.specs.Places.{IsAt, IsGapFor, IsPartedAt};
 ghost use Rattle.omap_pages.specs.Rows.{key_cmp};
 
@@ -12,7 +12,7 @@ use crate::place::Place;
 // The place of the key, or the place where it would go.
 pub(crate) fn search(leaves: &[Leaf], key: &[u8]) -> Result<Place, Place>
     requires in_order { IsTrue (is_sorted key_cmp (flat leaves.now)) }
-    requires filled { AreFilled leaves.now }
+    requires leaves { AreLeaves leaves.now }
     ensures found { IfOk result (λ place.
         IsAt (flat leaves.now) key.now (position leaves.now place)) }
     ensures row { IfOk result (IsRow leaves.now) }
@@ -36,7 +36,7 @@ pub(crate) fn search(leaves: &[Leaf], key: &[u8]) -> Result<Place, Place>
 // The place of a key that is there.
 pub(crate) fn place_of(leaves: &[Leaf], key: &[u8]) -> Place
     requires in_order { IsTrue (is_sorted key_cmp (flat leaves.now)) }
-    requires filled { AreFilled leaves.now }
+    requires leaves { AreLeaves leaves.now }
     requires there { IsSome (find key_cmp key.now (flat leaves.now)) }
     ensures at { IsAt (flat leaves.now) key.now (position leaves.now result) }
     ensures row { IsRow leaves.now result }
@@ -50,7 +50,7 @@ pub(crate) fn place_of(leaves: &[Leaf], key: &[u8]) -> Place
 // The place where a key that is not there would go.
 pub(crate) fn gap_for(leaves: &[Leaf], key: &[u8]) -> Place
     requires in_order { IsTrue (is_sorted key_cmp (flat leaves.now)) }
-    requires filled { AreFilled leaves.now }
+    requires leaves { AreLeaves leaves.now }
     requires absent { find key_cmp key.now (flat leaves.now) ≡ None }
     ensures gap { IsGapFor (flat leaves.now) key.now (position leaves.now result) }
     ensures place { IsPlace leaves.now result }
@@ -64,7 +64,7 @@ pub(crate) fn gap_for(leaves: &[Leaf], key: &[u8]) -> Place
 // The place of the first key that is not below this one.
 pub(crate) fn start_from(leaves: &[Leaf], key: &[u8]) -> Place
     requires in_order { IsTrue (is_sorted key_cmp (flat leaves.now)) }
-    requires filled { AreFilled leaves.now }
+    requires leaves { AreLeaves leaves.now }
     ensures parted { IsPartedAt (λ k. is_le (key_cmp key.now k))
         (flat leaves.now)
         (position leaves.now result) }
@@ -78,7 +78,7 @@ pub(crate) fn start_from(leaves: &[Leaf], key: &[u8]) -> Place
 // The place of the first key above this one.
 pub(crate) fn start_after(leaves: &[Leaf], key: &[u8]) -> Place
     requires in_order { IsTrue (is_sorted key_cmp (flat leaves.now)) }
-    requires filled { AreFilled leaves.now }
+    requires leaves { AreLeaves leaves.now }
     ensures parted { IsPartedAt (λ k. is_lt (key_cmp key.now k))
         (flat leaves.now)
         (position leaves.now result) }
