@@ -8,13 +8,13 @@ use Rattle.std.specs.FinMap.Entries.{below_all, is_sorted}
 use Rattle.std.specs.List.Sorted.{IsSearchInRange, IsBinarySearchResult, IsNonDecreasingBy}
 use Rattle.std.proofs.lemmas.Bool.{and_parts, cases_lt}
 use Rattle.std.proofs.lemmas.Cmp.{nat_list_cmp_total}
-use Rattle.std.proofs.lemmas.List.{get_or-take, take-take, take_all, length-take-le, get_or_default}
+use Rattle.std.proofs.lemmas.List.{take_all, get_or_default}
 use Rattle.std.proofs.lemmas.List.Sorted.{searchable_from_sorted}
 use Rattle.omap_pages.specs.Leaves.{flat, position, leaf_at, first_key_of, AreLeaves, IsPlace, IsRow}
 use Rattle.omap_pages.specs.Places.{IsAt, IsGapFor}
 use Rattle.omap_pages.specs.Rows.{key_cmp}
 use Rattle.omap_pages.specs.declared.place.Place.{Place}
-use Rattle.omap_pages.proofs.FlatLemmas.{front, back, around, read_at, length_next, length_front_le}
+use Rattle.omap_pages.proofs.FlatLemmas.{front, back, around, read_at, length_next, length_front_le, front_le}
 use Rattle.omap_pages.proofs.PlaceLemmas.{less_at, ComesAfter, ComesBefore}
 use Rattle.omap_pages.proofs.Searched.{turned, before_at, after_at}
 
@@ -90,15 +90,6 @@ module _ {X : Type 0} (ls : List (List (List ℕ × X))) (sorted : is_sorted key
       let rest = (sorted_parts key_cmp (front ls i) (get_or ls i [] ++ back ls i) (ap (is_sorted key_cmp) (sym (around ls i lt)) ∙ sorted)).right in
       (sorted_parts key_cmp (get_or ls i []) (back ls i) rest).left
 
-  -- the leaves before are followed by the leaf, in whose place the next ones begin
-  front_le : (j i : ℕ) → j < i → i ≤ length ls → length (front ls j) + length (get_or ls j []) ≤ length (front ls i)
-  front_le j i lt le =
-      let size : length (take i ls) ≡ i = length-take-le i ls le in
-      let next = length_next (take i ls) j (omega arith) in
-      let before : take j (take i ls) ≡ take j ls = take-take j i ls (omega arith) in
-      let leaf : get_or (take i ls) j [] ≡ get_or ls j [] = get_or-take i ls j [] lt in
-      omega (arith, next, length_front_le (take i ls) (j + 1), ap (λ z. length (flat z)) before, ap length leaf)
-
   row_bound : (i r : ℕ) → i < length ls → r < length (get_or ls i []) → length (front ls i) + r < length (flat ls)
   row_bound i r lt row = omega (arith, length_front_le ls (i + 1), length_next ls i lt)
 
@@ -119,7 +110,7 @@ module _ {X : Type 0} (ls : List (List (List ℕ × X))) (sorted : is_sorted key
       let row = some_row (get_or ls j []) j_some in
       (λ t. key_cmp (first_key_of (get_or_default ls j d [] j_in t)) (first_key_of (get_or_default ls k d [] in_range t)))
       ∙ (λ t. key_cmp (first_is (get_or ls j []) row j_some t) (first_is (get_or ls k []) row k_some t))
-      ∙ row_before j k 0 0 row j_in in_range j_some k_some (omega (arith, front_le j k lt (omega arith)))
+      ∙ row_before j k 0 0 row j_in in_range j_some k_some (omega (arith, front_le ls j k lt (omega arith)))
 
   pub comparisons_of_first_keys_rise : (key : List ℕ) → IsNonDecreasingBy (λ leaf. ordering_index (key_cmp (first_key_of leaf) key)) ls
   comparisons_of_first_keys_rise key = searchable_from_sorted nat_list_cmp_total first_key_of ls key (λ j d low high. ap is_lt (turned nat_list_cmp_total (first_key_of (get_or ls j d)) (first_key_of (get_or ls (j + 1) d)) Less (first_keys_rise j (j + 1) d (omega arith) high)))

@@ -2,7 +2,7 @@
 use Rattle.std.proofs.Common.{◌≡◌, ℕ, zero, suc, ◌+◌, ◌<◌, ◌≤◌, List, [], ◌∷◌, ◌++◌, length, take, drop, set, get_or, refl, sym, ap, ◌∙◌, arith, append_assoc, length-append}
 use Rattle.std.specs.List.{insert, remove}
 use Rattle.std.proofs.Math.Seq.{take-append-add, drop-append-add}
-use Rattle.std.proofs.lemmas.List.{take-append-le, drop-append-le, take_more, take-append-drop, get_or_read}
+use Rattle.std.proofs.lemmas.List.{take-append-le, drop-append-le, take_more, take-append-drop, take-take, length-take-le, get_or-take, get_or_read}
 use Rattle.std.proofs.lemmas.List.Concat.{flat_map-append, get_or-flat_map}
 use Rattle.omap_pages.specs.Leaves.{flat}
 
@@ -64,3 +64,12 @@ module _ {X : Type 0} where
   -- l is leaf i, as it was read
   pub front_and_leaf : (ls : List (List X)) (i : ℕ) (l : List X) → i < length ls → l ≡ get_or ls i l → length (front ls i) + length l ≤ length (flat ls)
   front_and_leaf ls i l lt read = omega (arith, length_front_le ls (i + 1), length_next ls i lt, ap length (get_or_read ls i l lt read []))
+
+  -- a leaf before leaf i is followed by it
+  pub front_le : (ls : List (List X)) (j i : ℕ) → j < i → i ≤ length ls → length (front ls j) + length (get_or ls j []) ≤ length (front ls i)
+  front_le ls j i lt le =
+      let size : length (take i ls) ≡ i = length-take-le i ls le in
+      let next = length_next (take i ls) j (omega arith) in
+      let before : take j (take i ls) ≡ take j ls = take-take j i ls (omega arith) in
+      let leaf : get_or (take i ls) j [] ≡ get_or ls j [] = get_or-take i ls j [] lt in
+      omega (arith, next, length_front_le (take i ls) (j + 1), ap (λ z. length (flat z)) before, ap length leaf)

@@ -3,9 +3,14 @@ use Rattle.std.proofs.Common.{◌≡◌, ℕ, zero, suc, ◌+◌, ◌<◌, ◌�
 use Rattle.std.specs.List.{insert, remove}
 use Rattle.std.proofs.lemmas.List.{get_or_read, set_split, take-set, drop-set-lt, nil_from_length, take-append-drop}
 use Rattle.std.proofs.lemmas.List.Edits.{length-remove}
-use Rattle.omap_pages.specs.Leaves.{flat, position, leaf_at, with_row_at}
+use Rattle.omap_pages.specs.Leaves.{flat, position, leaf_at, with_row_at, AreLeaves}
 use Rattle.omap_pages.specs.declared.place.Place.{Place}
 use Rattle.omap_pages.proofs.FlatLemmas.{front, back, around, around-set, around-remove, edited, flat_split, read_at}
+
+-- where there are leaves there are rows
+pub flat_nil : {X : Type 0} (ls : List (List X)) → AreLeaves ls → flat ls ≡ [] → length ls ≡ 0
+flat_nil [] leaves is = refl
+flat_nil (l ∷ ls) leaves is = absurd (omega (arith, (leaves 0 l (omega arith)).0, ap length is, length-append l (flat ls)))
 
 module _ {X : Type 0} (ls : List (List X)) (place : Place) (lt : place.leaf < length ls) where
   length_around : length (flat ls) ≡ length (front ls place.leaf) + (length (leaf_at ls place) + length (back ls place.leaf))

@@ -1,4 +1,5 @@
 pub mod CellLemmas
+pub mod CutLemmas
 pub mod DirectoryLemmas
 pub mod FilterLemmas
 pub mod FlatLemmas

@@ -107,8 +107,8 @@ impl Leaves {
 
     // Whether a row can go to the place with no new leaf.
     pub(crate) fn has_room(&self, place: Place) -> bool
-        ensures leaf { IsTrue result → place.leaf < length self.now.leaves }
-        ensures room { IsTrue result → length (leaf_at self.now.leaves place) < LEAF_ROWS }
+        ensures { IsTrue result ↔ ((place.leaf < length self.now.leaves)
+            × (length (leaf_at self.now.leaves place) < LEAF_ROWS)) }
     {
         place.leaf < self.leaves.len() && self.leaves[place.leaf].has_room()
     }
