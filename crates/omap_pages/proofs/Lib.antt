@@ -10,3 +10,4 @@ pub mod RangeLemmas
 pub mod RowLaws
 pub mod Searched
 pub mod Splices
+pub mod WalkLemmas

@@ -5,7 +5,7 @@ use Rattle.omap_pages.proofs.leaves.Leaves.page.Given as goal
 
 abbrev pub invariant-loop-leaf : goal.invariant-loop-leaf
 invariant-loop-leaf l = record {
-  rows : l.pairs.items ++ values_of (drop l.skipped (flat (drop l.leaf-index l.leaf-items))) ≡ values_of (drop l.start.row (flat l.leaf-items));
+  rows : l.pairs.items ++ values_of (drop l.skipped (flat (drop l.leaf-index l.leaf-items))) ≡ values_of (drop l.fn.start.row (flat l.leaf-items));
   skipped : l.leaf-index < length l.leaf-items → l.skipped ≤ length (get_or l.leaf-items l.leaf-index []);
   few : length l.pairs.items ≤ l.limit;
 }
