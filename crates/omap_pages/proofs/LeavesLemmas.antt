@@ -1,11 +1,12 @@
 -- An edit of one leaf, as an edit of all rows at the position of its place.
-use Rattle.std.proofs.Common.{◌≡◌, ℕ, zero, suc, ◌+◌, ◌<◌, ◌≤◌, List, [], ◌∷◌, ◌++◌, length, take, drop, set, get_or, refl, sym, ap, ◌∙◌, arith, length-append}
+use Rattle.std.proofs.Common.{◌≡◌, ℕ, zero, suc, ◌+◌, ◌<◌, ◌≤◌, List, [], ◌∷◌, ◌++◌, length, take, drop, set, get_or, refl, sym, ap, ◌∙◌, inl, inr, arith, length-append}
 use Rattle.std.specs.List.{insert, remove}
-use Rattle.std.proofs.lemmas.List.{get_or_read, set_split, take-set, drop-set-lt, nil_from_length, take-append-drop}
+use Rattle.std.proofs.lemmas.Bool.{cases_lt}
+use Rattle.std.proofs.lemmas.List.{get_or_read, set_split, set-get_or, take-set, drop-set-lt, nil_from_length, take-append-drop}
 use Rattle.std.proofs.lemmas.List.Edits.{length-remove}
-use Rattle.omap_pages.specs.Leaves.{flat, position, leaf_at, with_row_at, AreLeaves}
+use Rattle.omap_pages.specs.Leaves.{flat, position, leaf_at, with_row_at, AreLeaves, IsNotAfter, IsPlace}
 use Rattle.omap_pages.specs.declared.place.Place.{Place}
-use Rattle.omap_pages.proofs.FlatLemmas.{front, back, around, around-set, around-remove, edited, flat_split, read_at}
+use Rattle.omap_pages.proofs.FlatLemmas.{front, back, around, around-set, around-remove, edited, flat_split, read_at, front_le}
 
 -- where there are leaves there are rows
 pub flat_nil : {X : Type 0} (ls : List (List X)) → AreLeaves ls → flat ls ≡ [] → length ls ≡ 0
@@ -31,6 +32,10 @@ module _ {X : Type 0} (ls : List (List X)) (place : Place) (lt : place.leaf < le
       ∙ sym (edited ls place.leaf lt place.row (suc place.row) (w ∷ []) (omega arith) (omega arith))
       ∙ ap (λ n. take (position ls place) (flat ls) ++ w ∷ drop n (flat ls)) (sym past)
       ∙ sym (set_split (flat ls) (position ls place) w (position_lt row))
+
+  -- a row is written over by itself
+  pub flat-set_same : (w : X) → place.row < length (leaf_at ls place) → w ≡ get_or (flat ls) (position ls place) w → flat (with_row_at ls place w) ≡ flat ls
+  flat-set_same w row read = flat-set w row ∙ ap (set (flat ls) (position ls place)) read ∙ set-get_or (flat ls) (position ls place) w
 
 -- l is the leaf at the place, as it was read
 module _ {X : Type 0} (ls seen : List (List X)) (same : ls ≡ seen) (place : Place) (lt : place.leaf < length seen) (l : List X) (read : l ≡ get_or ls place.leaf l) where
@@ -67,3 +72,12 @@ module _ {X : Type 0} (ls seen : List (List X)) (same : ls ≡ seen) (place : Pl
       ap flat is
       ∙ (λ j. flat (insert (set (same j) place.leaf a) (next j) b))
       ∙ flat_split seen place.leaf a b lt ((λ j. lower j ++ upper j) ∙ take-append-drop h l ∙ here)
+
+-- an earlier place has no more rows before it
+pub position_rises : {X : Type 0} (ls : List (List X)) (p q : Place) → IsPlace ls p → IsPlace ls q → IsNotAfter p q → position ls p ≤ position ls q
+position_rises ls p q p_in q_in order = elim (cases_lt p.leaf q.leaf) [
+  | inl two ↦ omega (arith, front_le ls p.leaf q.leaf two q_in.leaf, p_in.row)
+  | inr one ↦
+      let same : p.leaf ≡ q.leaf = omega (arith, order.leaf) in
+      omega (arith, ap (λ n. length (front ls n)) same, order.row same)
+]

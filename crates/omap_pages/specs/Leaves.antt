@@ -1,5 +1,5 @@
 -- Rows in leaves, one leaf after another.
-use Rattle.std.specs.Prelude.{ℕ, ◌+◌, ◌<◌, ◌≤◌, List, [], ◌∷◌, length, take, slice_set, slice_index_or}
+use Rattle.std.specs.Prelude.{◌≡◌, ℕ, ◌+◌, ◌<◌, ◌≤◌, List, [], ◌∷◌, length, take, slice_set, slice_index_or}
 use Rattle.std.specs.List.{All, flat_map}
 use Rattle.omap_pages.specs.Cells.{Cell, Cells}
 use Rattle.omap_pages.specs.declared.leaf.TheConstants.{LEAF_ROWS}
@@ -38,6 +38,11 @@ leaf_at leaves place = slice_index_or leaves place.leaf []
 pub record IsPlace {X : Type 0} (leaves : List (List X)) (place : Place) : Type 0 where
   pub leaf : place.leaf ≤ length leaves
   pub row : place.row ≤ length (leaf_at leaves place)
+
+-- the first place is not after the second
+pub record IsNotAfter (first second : Place) : Type 0 where
+  pub leaf : first.leaf ≤ second.leaf
+  pub row : first.leaf ≡ second.leaf → first.row ≤ second.row
 
 -- a place at a row
 pub record IsRow {X : Type 0} (leaves : List (List X)) (place : Place) : Type 0 where

@@ -2,7 +2,7 @@
 ghost use Rattle.std.specs.Prelude.{◌≡◌, ◌+◌, ◌^◌, ◌<◌, ◌≤◌, ◌↔◌, [], length, slice_index_or, slice_set, drop, take, max, vec_len, vec_capacity, IsTrue, IsOk, IfOk, OnOk, OnErr};
 ghost use Rattle.std.specs.List.{insert, remove, remove_range};
 ghost use Rattle.omap_pages.specs.Cells.{values_of};
-ghost use Rattle.omap_pages.specs.Leaves.{flat, position, leaf_at, one_if_none, one_if_rows, AreLeaves, IsPlace, IsRow};
+ghost use Rattle.omap_pages.specs.Leaves.{flat, position, leaf_at, one_if_none, one_if_rows, AreLeaves, IsNotAfter, IsPlace, IsRow};
 ghost use Rattle.omap_pages.specs.declared.leaf.TheConstants.{LEAF_ROWS};
 
 use crate::leaf::{LEAF_ROWS, Leaf};
@@ -208,8 +208,7 @@ impl Leaves {
         requires end { IsPlace self.old.leaves end }
         requires start_leaf { start.leaf < length self.old.leaves }
         requires end_leaf { end.leaf < length self.old.leaves }
-        requires leaf_order { start.leaf ≤ end.leaf }
-        requires row_order { start.leaf ≡ end.leaf → start.row ≤ end.row }
+        requires order { IsNotAfter start end }
         ensures count { position self.old.leaves start + result ≡ position self.old.leaves end }
         ensures leaves { flat self.new.leaves
             ≡ remove_range (flat self.old.leaves)
@@ -271,8 +270,7 @@ fn cut(leaves: &mut [Leaf], start: Place, end: Place)
     requires end { IsPlace leaves.old end }
     requires start_leaf { start.leaf < length leaves.old }
     requires end_leaf { end.leaf < length leaves.old }
-    requires leaf_order { start.leaf ≤ end.leaf }
-    requires row_order { start.leaf ≡ end.leaf → start.row ≤ end.row }
+    requires order { IsNotAfter start end }
     ensures two { start.leaf < end.leaf → leaves.new
         ≡ slice_set (slice_set leaves.old start.leaf (take start.row (leaf_at leaves.old start)))
             end.leaf (drop end.row (leaf_at leaves.old end)) }

@@ -1,5 +1,5 @@
 // Where keys are in leaves whose rows are in order of their keys.
-ghost use Rattle.std.specs.Prelude.{◌≡◌, IsTrue, IsSome, IfOk, IfErr};
+ghost use Rattle.std.specs.Prelude.{◌≡◌, ◌<◌, length, IsTrue, IsSome, IfOk, IfErr};
 ghost use Rattle.std.specs.FinMap.Entries.{find, is_sorted};
 ghost use Rattle.std.specs.Ordering.{is_lt, is_le};
 ghost use Rattle.omap_pages.specs.Leaves.{flat, position, AreLeaves, IsPlace, IsRow};
@@ -19,6 +19,8 @@ pub(crate) fn search(leaves: &[Leaf], key: &[u8]) -> Result<Place, Place>
     ensures absent { IfErr result (λ place.
         IsGapFor (flat leaves.now) key.now (position leaves.now place)) }
     ensures place { IfErr result (IsPlace leaves.now) }
+    ensures leaf { IfErr result (λ place.
+        0 < length leaves.now → place.leaf < length leaves.now) }
 {
     match leaves.binary_search_by(|leaf| leaf.first_key().cmp(key)) {
         Ok(leaf) => Ok(Place { leaf, row: 0 }),
@@ -69,6 +71,7 @@ pub(crate) fn start_from(leaves: &[Leaf], key: &[u8]) -> Place
         (flat leaves.now)
         (position leaves.now result) }
     ensures place { IsPlace leaves.now result }
+    ensures leaf { 0 < length leaves.now → result.leaf < length leaves.now }
 {
     match search(leaves, key) {
         Ok(place) | Err(place) => place,

@@ -147,7 +147,7 @@ impl Omap {
             return 0;
         }
         let start = start_from(self.leaves.as_slice(), from);
-        let end = start_from(self.leaves.as_slice(), to).max(start);
+        let end = start_from(self.leaves.as_slice(), to).later(start);
         self.leaves.remove_range(start, end) as u64
     }
 

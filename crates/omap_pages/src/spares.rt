@@ -1,4 +1,4 @@
-ghost use Rattle.std.specs.Prelude.{◌≡◌, ◌+◌, ◌<◌, ◌≤◌, [], length, max, vec_len, vec_capacity, IsOk, IfOk, OnOk, OnErr};
+ghost use Rattle.std.specs.Prelude.{◌≡◌, ◌+◌, ◌^◌, ◌<◌, ◌≤◌, [], length, max, vec_len, vec_capacity, IsOk, IfOk, OnOk, OnErr};
 ghost use Rattle.omap_pages.specs.declared.spares.TheConstants.{SPARE_KEY_LEN, SPARE_VALUE_LEN};
 
 use crate::leaf::Leaf;
@@ -57,7 +57,8 @@ impl Spares {
     }
 
     pub(crate) fn len(&self) -> usize
-        ensures { result ≡ self.now }
+        ensures count { result ≡ self.now }
+        ensures bound { self.now < 2 ^ 63 }
     {
         self.rows.len()
     }
