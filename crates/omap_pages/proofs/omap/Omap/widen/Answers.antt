@@ -1,5 +1,6 @@
 use Rattle.std.proofs.Common.{◌≡◌, max, is_some, refl, ap, subst, sym, ◌∙◌, arith}
 use Rattle.std.specs.FinMap.Entries.{find, put, is_sorted}
+use Rattle.std.proofs.lemmas.Result.{err_from_is_err_and}
 use Rattle.omap_pages.specs.Cells.{contents_of}
 use Rattle.omap_pages.specs.Contents.{room_at}
 use Rattle.omap_pages.specs.Leaves.{flat, with_row_at, IsRow}
@@ -60,7 +61,9 @@ pub returns-in_err-widen-clause-rooms : goal.returns-in_err-widen-clause-rooms
 returns-in_err-widen-clause-rooms c = λ q. omega (arith, ap (λ z. room_at (contents_of z c.self.inside.spares).rooms q) (unchanged c), ap (λ o. room_at o.rooms q) c.self.view_is)
 
 pub returns-in_err-widen-clause-err : goal.returns-in_err-widen-clause-err
-returns-in_err-widen-clause-err c = ap (λ z. contents_of z c.self.inside.spares) (unchanged c) ∙ c.self.view_is
+returns-in_err-widen-clause-err c =
+    let p = err_from_is_err_and c.from_residual.result c.from_residual.ensures.1 in
+    rw p.1 (ap (λ z. contents_of z c.self.inside.spares) (unchanged c) ∙ c.self.view_is)
 
 -- a room that is there already takes no memory
 pub returns-in_err-widen-clause-enough : goal.returns-in_err-widen-clause-enough
