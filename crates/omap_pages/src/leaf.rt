@@ -86,7 +86,9 @@ impl Leaf {
         ensures found { IfOk result (IsAt self.now key.now) }
         ensures absent { IfErr result (IsGapFor self.now key.now) }
     {
-        self.rows.as_slice().binary_search_by(|row| row.key().cmp(key))
+        self.rows
+            .as_slice()
+            .binary_search_by(|row| row.key().cmp(key))
     }
 
     pub(crate) fn row(&self, at: usize) -> &Row

@@ -30,8 +30,8 @@ impl Model for Leaves {
     ghost Value = { Directory };
 
     ghost view = { λ it. record {
-        leaves = it.leaves.items;
-        free = min (vec_capacity it.leaves) MAX_LEAVES - vec_len it.leaves;
+      leaves = it.leaves.items;
+      free = min (vec_capacity it.leaves) MAX_LEAVES - vec_len it.leaves;
     } };
 
     ghost invariant = { λ it. AreLeaves it.leaves.items × (vec_len it.leaves ≤ MAX_LEAVES) };
@@ -212,8 +212,8 @@ impl Leaves {
         ensures count { position self.old.leaves start + result ≡ position self.old.leaves end }
         ensures leaves { flat self.new.leaves
             ≡ remove_range (flat self.old.leaves)
-                (position self.old.leaves start)
-                (position self.old.leaves end) }
+            (position self.old.leaves start)
+            (position self.old.leaves end) }
         ensures free { self.old.free ≤ self.new.free }
     {
         let count = count_rows(&self.leaves[start.leaf..end.leaf]) + end.row - start.row;
@@ -273,10 +273,10 @@ fn cut(leaves: &mut [Leaf], start: Place, end: Place)
     requires order { IsNotAfter start end }
     ensures two { start.leaf < end.leaf → leaves.new
         ≡ slice_set (slice_set leaves.old start.leaf (take start.row (leaf_at leaves.old start)))
-            end.leaf (drop end.row (leaf_at leaves.old end)) }
+        end.leaf (drop end.row (leaf_at leaves.old end)) }
     ensures one { start.leaf ≡ end.leaf → leaves.new
         ≡ slice_set leaves.old start.leaf
-            (remove_range (leaf_at leaves.old start) start.row end.row) }
+        (remove_range (leaf_at leaves.old start) start.row end.row) }
 {
     if start.leaf < end.leaf {
         let first = &mut leaves[start.leaf];
@@ -294,8 +294,7 @@ fn cut(leaves: &mut [Leaf], start: Place, end: Place)
 fn drop_emptied(leaves: &mut Vec<Leaf>, first: usize, last: usize)
     requires first { first ≤ last }
     requires last { last < vec_len leaves.old }
-    ensures items {
-        let start = first + one_if_rows (slice_index_or leaves.old.items first []) in
+    ensures items { let start = first + one_if_rows (slice_index_or leaves.old.items first []) in
         let end = last + one_if_none (slice_index_or leaves.old.items last []) in
         leaves.new.items ≡ remove_range leaves.old.items start (max end start) }
     ensures len { vec_len leaves.new ≤ vec_len leaves.old }

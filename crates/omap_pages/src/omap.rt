@@ -188,7 +188,9 @@ impl Omap {
         ensures spare { self.new.spare ≡ self.old.spare }
     {
         let place = place_of(self.leaves.as_slice(), key);
-        self.leaves.row_mut(place).splice(start as usize, count as usize, bytes);
+        self.leaves
+            .row_mut(place)
+            .splice(start as usize, count as usize, bytes);
     }
 
     /// Makes the number of spare rows `rows`, where it is lower. Where there are as many already no

@@ -45,6 +45,6 @@ returns-in-Err-search-clause-absent c =
     let by_key = c.in-Err.ensures.position (λ l. key_cmp (first_key_of l) c.args.key.now) (always_returns_same _ _ _ (λ a r f called. (search rules, search rules))) in
     let parted = by_key (comparisons_of_first_keys_rise leaves c.requires.in_order c.requires.leaves c.args.key.now) in
     gap_within leaves c.requires.in_order c.requires.leaves c.args.key.now at c.in-Err-search.row lt
-        (λ e. parted.0 at e (omega arith) (omega (arith, c.in-Err.above-test.1)))
-        (λ e more. parted.1 (at + 1) e (omega (arith, c.in-Err.above-test.1)) more)
-        (subst (λ l. IsGapFor l c.args.key.now c.in-Err-search.row) here c.in-Err-search.ensures.absent)
+    (λ e. parted.0 at e (omega arith) (omega (arith, c.in-Err.above-test.1)))
+    (λ e more. parted.1 (at + 1) e (omega (arith, c.in-Err.above-test.1)) more)
+    (subst (λ l. IsGapFor l c.args.key.now c.in-Err-search.row) here c.in-Err-search.ensures.absent)
