@@ -1,4 +1,4 @@
-use Rattle.std.proofs.Common.{◌≡◌, OnErr, ap, arith, refl, subst, ◌∙◌}
+use Rattle.std.proofs.Common.{◌≡◌, OnErr, ap, refl, subst, ◌∙◌}
 use Rattle.object_pool.specs.Objects.{Object}
 use Rattle.object_pool.specs.Places.{object_of}
 use Rattle.object_pool.proofs.PlaceLemmas.{parts_there, parts_sum, rows_change, readied, rows_now, stays_on_err}
