@@ -192,7 +192,7 @@ abbrev pub xs : ℕ → ℕ → ℕ → NewHead
 xs write stripe size = content write stripe size (letters (min stripe size)) (replicate 16 120)
 
 abbrev pub xs_row : ℕ → ℕ → RowView
-xs_row size micros = row size micros (replicate 16 120)
+xs_row size micros = plain_row size micros (replicate 16 120)
 
 -- a page that shows no entry
 abbrev pub no_entries : ℕ → EntryPage
