@@ -1,19 +1,18 @@
 -- What a search among first keys, and then in one leaf, says of all rows.
-use Rattle.std.proofs.Common.{◌≡◌, ℕ, zero, suc, ◌+◌, ◌-◌, ◌<◌, ◌≤◌, true, ◌&&◌, List, [], ◌∷◌, ◌++◌, length, take, drop, get_or, Result, Ok, Err, IfOk, IfErr, inl, inr, refl, sym, ap, subst, ◌∙◌, arith, length-append}
+use Rattle.std.proofs.Common.{◌≡◌, ℕ, suc, ◌+◌, ◌-◌, ◌<◌, ◌≤◌, true, ◌&&◌, List, [], ◌∷◌, ◌++◌, length, get_or, inl, inr, refl, sym, ap, ◌∙◌, arith}
 use Rattle.std.specs.Ordering.{is_lt, ordering_reverse, ordering_index}
 use Rattle.std.specs.declared.cmp.Ordering.{Ordering}
 use Rattle.std.specs.declared.cmp.Ordering.TheVariants.{Less, Equal, Greater}
 use Rattle.std.specs.Cmp.{IsTotalOrder}
 use Rattle.std.specs.FinMap.Entries.{below_all, is_sorted}
-use Rattle.std.specs.List.Sorted.{IsSearchInRange, IsBinarySearchResult, IsNonDecreasingBy}
+use Rattle.std.specs.List.Sorted.{IsNonDecreasingBy}
 use Rattle.std.proofs.lemmas.Bool.{and_parts, cases_lt}
 use Rattle.std.proofs.lemmas.Cmp.{nat_list_cmp_total}
 use Rattle.std.proofs.lemmas.List.{take_all, get_or_default}
 use Rattle.std.proofs.lemmas.List.Sorted.{searchable_from_sorted}
-use Rattle.omap_pages.specs.Leaves.{flat, position, leaf_at, first_key_of, AreLeaves, IsPlace, IsRow}
+use Rattle.omap_pages.specs.Leaves.{flat, first_key_of, AreLeaves}
 use Rattle.omap_pages.specs.Places.{IsAt, IsGapFor}
 use Rattle.omap_pages.specs.Rows.{key_cmp}
-use Rattle.omap_pages.specs.declared.place.Place.{Place}
 use Rattle.omap_pages.proofs.FlatLemmas.{front, back, around, read_at, length_next, length_front_le, front_le}
 use Rattle.omap_pages.proofs.PlaceLemmas.{less_at, ComesAfter, ComesBefore}
 use Rattle.omap_pages.proofs.Searched.{turned, before_at, after_at}

@@ -1,7 +1,7 @@
 -- Rows in leaves, one leaf after another.
 use Rattle.std.specs.Prelude.{◌≡◌, ℕ, ◌+◌, ◌<◌, ◌≤◌, List, [], ◌∷◌, length, take, slice_set, slice_index_or}
 use Rattle.std.specs.List.{All, flat_map}
-use Rattle.omap_pages.specs.Cells.{Cell, Cells}
+use Rattle.omap_pages.specs.Cells.{Cells}
 use Rattle.omap_pages.specs.declared.leaf.TheConstants.{LEAF_ROWS}
 use Rattle.omap_pages.specs.declared.place.Place.{Place}
 

@@ -1,5 +1,4 @@
 use Rattle.std.proofs.Common.{rules, ◌∙◌}
-use Rattle.std.specs.Result.{IfOk, IfErr}
 use Rattle.std.proofs.lemmas.Fn.{always_returns_same}
 use Rattle.omap_pages.specs.Rows.{key_cmp}
 use Rattle.omap_pages.proofs.Searched.{searched_in}

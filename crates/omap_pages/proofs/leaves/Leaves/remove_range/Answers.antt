@@ -1,5 +1,5 @@
-use Rattle.std.proofs.Common.{◌≡◌, ◌<◌, ◌≤◌, ◌+◌, length, set, take, drop, sym, ap, subst, ◌∙◌, arith, inl, inr}
-use Rattle.std.specs.List.{remove_range, slice_range}
+use Rattle.std.proofs.Common.{◌≡◌, length, set, take, drop, sym, ap, subst, ◌∙◌, arith, inl, inr}
+use Rattle.std.specs.List.{remove_range}
 use Rattle.std.specs.Vec.{with_items}
 use Rattle.std.proofs.lemmas.Bool.{cases_lt}
 use Rattle.std.proofs.lemmas.List.{with_items_is}

@@ -1,5 +1,4 @@
-use Rattle.std.proofs.Common.{◌≡◌, set, refl, ap, ◌∙◌}
-use Rattle.omap_pages.specs.Leaves.{Directory, leaf_at, with_row_at}
+use Rattle.std.proofs.Common.{◌≡◌, set, refl, ap}
 use Rattle.omap_pages.proofs.LeavesLemmas.{here, row_here}
 use Rattle.omap_pages.proofs.leaves.Leaves.row_mut.Goals as goal
 

@@ -1,4 +1,4 @@
-use Rattle.std.proofs.Common.{◌≡◌, take, sym, ap, subst, ◌∙◌, arith}
+use Rattle.std.proofs.Common.{take, sym, ap, subst, ◌∙◌, arith}
 use Rattle.std.specs.Ordering.{is_lt}
 use Rattle.omap_pages.specs.Leaves.{flat, position}
 use Rattle.omap_pages.specs.Places.{IsPartedAt}

@@ -1,4 +1,4 @@
-use Rattle.std.proofs.Common.{◌≡◌, ℕ, not, length, max, take, drop, inl, inr, subst, ap, ◌∙◌, arith}
+use Rattle.std.proofs.Common.{◌≡◌, not, max, inl, inr, subst, ap, ◌∙◌, arith}
 use Rattle.std.specs.List.{remove_range}
 use Rattle.std.specs.Ordering.{is_le}
 use Rattle.std.specs.FinMap.Entries.{where_key}
