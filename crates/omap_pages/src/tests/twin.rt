@@ -210,7 +210,7 @@ impl Twin {
         }
         let rows = self.omap.page(self.alloc, b"", 10_000)?.rows.len();
         let empty_key = usize::from(self.omap.get(b"").is_some());
-        assert_eq!(rt; rows + empty_key, self.plain.len());
+        assert_eq!(rt; rows.checked_add(empty_key), Some(self.plain.len()));
         assert_eq!(rt; self.omap.is_empty(), self.plain.is_empty());
         self.most_rows = self.most_rows.max(self.plain.len());
         Ok(())
