@@ -6,11 +6,13 @@ Large bodies: 100 PUTs of 1 MiB over 10 names, and then 100 GETs of them.
 MD5 alone is measured beside, by the digest of this Python, over as many bytes as the PUTs have.
 Usage: bench/gateway.py [ROUNDS]     from any folder; of ROUNDS runs of each kind (5) the fastest counts
 """
+import fcntl
 import hashlib
-import os
+import shutil
 import subprocess
 import sys
 import tempfile
+import termios
 import time
 from pathlib import Path
 
@@ -45,15 +47,37 @@ def large_both(count):
 
 
 def run_once(program, path):
-    """The seconds and the greatest resident KiB of one run, which must end with status 0."""
-    with open(path, "rb") as source, open(os.devnull, "wb") as sink:
+    """The seconds of one run, which must end with status 0."""
+    with open(path, "rb") as source:
         begun = time.perf_counter()
-        child = subprocess.Popen([program, *WORDS], stdin=source, stdout=sink)
-        _, status, usage = os.wait4(child.pid, 0)
-        spent = time.perf_counter() - begun
-    if status != 0:
-        sys.exit(f"the program ended with {os.waitstatus_to_exitcode(status)}")
-    return spent, usage.ru_maxrss
+        subprocess.run([program, *WORDS], stdin=source, stdout=subprocess.DEVNULL, check=True)
+        return time.perf_counter() - begun
+
+
+def has_answered(child):
+    """Whether the program has read all that was written to it, and waits for more."""
+    unread = fcntl.ioctl(child.stdin, termios.FIONREAD, b"\0\0\0\0")
+    state = Path(f"/proc/{child.pid}/stat").read_text().rpartition(")")[2].split()[0]
+    return unread == b"\0\0\0\0" and state == "S"
+
+
+def greatest_memory(program, path):
+    """The greatest resident KiB of the program, once it has answered all requests.
+
+    What the system says of an ended child counts the memory of this Python, from which it was started,
+    so the program is asked while it waits for a further request.
+    """
+    child = subprocess.Popen([program, *WORDS], stdin=subprocess.PIPE, stdout=subprocess.DEVNULL)
+    with open(path, "rb") as source:
+        shutil.copyfileobj(source, child.stdin)
+    child.stdin.flush()
+    while not has_answered(child):
+        time.sleep(0.001)
+    status = Path(f"/proc/{child.pid}/status").read_text()
+    child.stdin.close()
+    if child.wait() != 0:
+        sys.exit(f"the program ended with {child.returncode}")
+    return int(status.partition("VmHWM:")[2].split()[0])
 
 
 def measure(program, rounds, label, requests, count, body_bytes):
@@ -61,9 +85,8 @@ def measure(program, rounds, label, requests, count, body_bytes):
         for piece in requests:
             file.write(piece)
         file.flush()
-        runs = [run_once(program, file.name) for _ in range(rounds)]
-    spent = min(seconds for seconds, _ in runs)
-    memory = max(kib for _, kib in runs) / 1024
+        spent = min(run_once(program, file.name) for _ in range(rounds))
+        memory = greatest_memory(program, file.name) / 1024
     print(
         f"{label:24}{count / spent:12,.0f} requests/s{spent / count * 1e6:10.2f} us each"
         f"{body_bytes / MIB / spent:10.1f} MiB/s{memory:10.1f} MiB resident"

@@ -1,6 +1,10 @@
 pub mod Overwrites
 pub mod Contents
 pub mod JoinedPieces
+pub mod Copies
+pub mod Blocks
+pub mod Filled
+pub mod Clears
 pub mod PathLemmas
 pub mod Places
 pub mod Transfers

@@ -1,5 +1,8 @@
 -- The region after bytes were written into a run.
-use Rattle.std.proofs.Common.{◌≡◌, ℕ, ◌*◌, ◌<◌, List, length, set, Option, Some, sym, subst, ◌∙◌, ap, ap₂}
+use Rattle.std.proofs.Common.{◌≡◌, ℕ, ◌*◌, ◌<◌, List, length, set, Option, Some, sym, subst, ◌∙◌, ap, ap₂, refl}
+use Rattle.frame_region.proofs.Filled.{at_cells}
+use Rattle.frame_region.specs.Held.{links_in, bytes_in}
+use Rattle.frame_region.proofs.Filled.{filled_in}
 use Rattle.frame_region.specs.declared.cells.Cells.{Cells}
 use Rattle.frame_region.specs.Cells.{bytes_along, IsPath, KeepsOffPath}
 use Rattle.frame_region.specs.Links.{IsSound}
@@ -52,26 +55,26 @@ pub record HasWritten (region seen : RegionView) (run : Run) (start : ℕ) (writ
   pub after : seen ≡ with_run region run (Some (overwritten (bytes_of region run) start written)) region.free
   pub sum : HasFrameSum seen
 
-module _ (old : Cells) (first_free free : ℕ) (sound : IsSound old.frame old.links.items old.bytes.items first_free free) (region : RegionView) (run : Run) (is : view_of old.frame old.links.items old.bytes.items first_free free ≡ region) (owned : Owns region run) where
-  pub path_of_run : IsPath old.links.items run.first run.count
-  path_of_run = path_out old.frame old.links.items old.bytes.items first_free free sound old.not_empty old.filled run.first run.count (out old.frame old.links.items old.bytes.items first_free free sound old.not_empty old.filled region run is owned).0
+module _ (old : Cells) (first_free free : ℕ) (sound : IsSound old.frame (links_in old) (bytes_in old) first_free free) (region : RegionView) (run : Run) (is : view_of old.frame (links_in old) (bytes_in old) first_free free ≡ region) (owned : Owns region run) where
+  pub path_of_run : IsPath (links_in old) run.first run.count
+  path_of_run = path_out old.frame (links_in old) (bytes_in old) first_free free sound old.not_empty (filled_in old) run.first run.count (out old.frame (links_in old) (bytes_in old) first_free free sound old.not_empty (filled_in old) region run is owned).0
 
-  module _ (new : Cells) (start : ℕ) (written : List ℕ) (frame : new.frame ≡ old.frame) (links : new.links.items ≡ old.links.items) (writes : bytes_along old.frame old.links.items new.bytes.items run.first run.count ≡ overwritten (bytes_along old.frame old.links.items old.bytes.items run.first run.count) start written) (beside : KeepsOffPath old.frame old.links.items run.first run.count old.bytes.items new.bytes.items) where
-    filled_after : length new.bytes.items ≡ length old.links.items * old.frame
-    filled_after = rw (frame, links) at new.filled
+  module _ (new : Cells) (start : ℕ) (written : List ℕ) (frame : new.frame ≡ old.frame) (links : (links_in new) ≡ (links_in old)) (writes : bytes_along old.frame (links_in old) (bytes_in new) run.first run.count ≡ overwritten (bytes_along old.frame (links_in old) (bytes_in old) run.first run.count) start written) (beside : KeepsOffPath old.frame (links_in old) run.first run.count (bytes_in old) (bytes_in new)) where
+    filled_after : length (bytes_in new) ≡ length (links_in old) * old.frame
+    filled_after = filled_in new ∙ ap₂ (λ (l : List ℕ) f. length l * f) links frame
 
-    pub IsSound-after_write : IsSound new.frame new.links.items new.bytes.items first_free free
+    pub IsSound-after_write : IsSound new.frame (links_in new) (bytes_in new) first_free free
     IsSound-after_write =
-        rw (frame, links) (sound_after old.frame old.links.items old.bytes.items first_free free sound old.not_empty old.filled region run is owned start written new.bytes.items filled_after writes beside)
+        at_cells (λ f l b. IsSound f l b first_free free) frame links refl (sound_after old.frame (links_in old) (bytes_in old) first_free free sound old.not_empty (filled_in old) region run is owned start written (bytes_in new) filled_after writes beside)
 
-    pub HasWritten-after_write : HasWritten region (view_of new.frame new.links.items new.bytes.items first_free free) run start written
+    pub HasWritten-after_write : HasWritten region (view_of new.frame (links_in new) (bytes_in new) first_free free) run start written
     HasWritten-after_write =
-        let seen = view_of old.frame old.links.items new.bytes.items first_free free in
+        let seen = view_of old.frame (links_in old) (bytes_in new) first_free free in
         let here : HasWritten region seen run start written = record {
-          owned = owned_written old.frame old.links.items old.bytes.items first_free free sound old.not_empty old.filled region run is owned start written new.bytes.items filled_after writes beside;
-          bytes = bytes_of-written old.frame old.links.items old.bytes.items first_free free sound old.not_empty old.filled region run is owned start written new.bytes.items filled_after writes beside;
-          others = others_written old.frame old.links.items old.bytes.items first_free free sound old.not_empty old.filled region run is owned start written new.bytes.items filled_after writes beside;
-          after = view_written old.frame old.links.items old.bytes.items first_free free sound old.not_empty old.filled region run is owned start written new.bytes.items filled_after writes beside;
-          sum = (sound_after old.frame old.links.items old.bytes.items first_free free sound old.not_empty old.filled region run is owned start written new.bytes.items filled_after writes beside).sum;
+          owned = owned_written old.frame (links_in old) (bytes_in old) first_free free sound old.not_empty (filled_in old) region run is owned start written (bytes_in new) filled_after writes beside;
+          bytes = bytes_of-written old.frame (links_in old) (bytes_in old) first_free free sound old.not_empty (filled_in old) region run is owned start written (bytes_in new) filled_after writes beside;
+          others = others_written old.frame (links_in old) (bytes_in old) first_free free sound old.not_empty (filled_in old) region run is owned start written (bytes_in new) filled_after writes beside;
+          after = view_written old.frame (links_in old) (bytes_in old) first_free free sound old.not_empty (filled_in old) region run is owned start written (bytes_in new) filled_after writes beside;
+          sum = (sound_after old.frame (links_in old) (bytes_in old) first_free free sound old.not_empty (filled_in old) region run is owned start written (bytes_in new) filled_after writes beside).sum;
         } in
-        rw (frame, links) here
+        at_cells (λ f l b. HasWritten region (view_of f l b first_free free) run start written) frame links refl here

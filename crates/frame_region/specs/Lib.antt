@@ -1,3 +1,4 @@
 pub mod Region
 pub mod Cells
 pub mod Links
+pub mod Held

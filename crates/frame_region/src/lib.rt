@@ -1,9 +1,13 @@
 //! Frames of one size in a fixed block, which are taken and given back in runs.
 #![tactic(auto)]
 
+mod access;
+mod block;
 mod cells;
 mod region;
 mod run;
+#[cfg(test)]
+mod slices;
 #[cfg(test)]
 mod tests;
 mod walks;

@@ -1,4 +1,5 @@
 ghost use Rattle.std.specs.Prelude.{◌≡◌, ◌+◌, ◌-◌, ◌*◌, ◌<◌, ◌≤◌, ◌↔◌, length, take, drop, replicate, Some, None, IsErr, IfOk, IfErr, OnOk, OnErr};
+ghost use Rattle.frame_region.specs.Held.{links_in, bytes_in};
 ghost use Rattle.frame_region.specs.Region.{Owns, AddsRun, KeepsOthers, HasFrameSum, bytes_of, overwritten, with_run};
 
 use crate::OutOfMemory;
@@ -52,17 +53,18 @@ impl Model for Region {
     ghost use Rattle.std.specs.Prelude.{length};
     ghost use Rattle.frame_region.specs.Region.{RegionView};
     ghost use Rattle.frame_region.specs.Links.{runs_of, IsSound};
+    ghost use Rattle.frame_region.specs.Held.{links_in, bytes_in};
 
     ghost Value = { RegionView };
 
     ghost view = { λ r. record {
       frame = r.cells.frame;
-      frames = length r.cells.links.items;
+      frames = length (links_in r.cells);
       free = r.free;
-      runs = runs_of r.cells.frame r.cells.links.items r.cells.bytes.items r.first_free;
+      runs = runs_of r.cells.frame (links_in r.cells) (bytes_in r.cells) r.first_free;
     } };
 
-    ghost invariant = { λ r. IsSound r.cells.frame r.cells.links.items r.cells.bytes.items r.first_free r.free };
+    ghost invariant = { λ r. IsSound r.cells.frame (links_in r.cells) (bytes_in r.cells) r.first_free r.free };
 }
 
 impl Region {

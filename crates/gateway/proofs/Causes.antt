@@ -1,9 +1,9 @@
 -- What a turn leaves of the counts of faults, by what its calls left of them.
-use Rattle.std.proofs.Common.{◌≡◌, ◌≢◌, ℕ, Result, Ok, Err, ap, ◌∙◌, subst}
+use Rattle.std.proofs.Common.{◌≡◌, ◌≢◌, ℕ, Ok, Err, ap, ◌∙◌, subst}
 use Rattle.gw_io.specs.Ends.{EndsState}
 use Rattle.gw_io.specs.Outside.{Rose}
 use Rattle.gateway.specs.declared.fault.ServeFault.{ServeFault}
-use Rattle.gateway.specs.declared.fault.ServeFault.TheVariants.{OutOfMemory, ReadFault, WriteFault}
+use Rattle.gateway.specs.declared.fault.ServeFault.TheVariants.{ReadFault, WriteFault}
 use Rattle.gateway.specs.Answering.{WritesAtFault}
 use Rattle.gateway.specs.Incoming.{ReadsAtFault}
 use Rattle.gateway.specs.Serving.{HasServeCause}

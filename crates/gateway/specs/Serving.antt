@@ -1,6 +1,6 @@
 -- What serving the requests of a connection comes to, from the kth of them on: the reply texts of the object answers and
 -- refusals, folded over the requests that were read (OpenStack Object Storage API v1; RFC 9112).
-use Rattle.std.specs.Prelude.{◌≡◌, ◌≢◌, ℕ, List, [], ◌++◌, length, take, ⊤, Result, Ok, Err, IfOk, OnErr}
+use Rattle.std.specs.Prelude.{◌≡◌, ◌≢◌, ℕ, List, [], ◌++◌, length, take, ⊤, Result, Err, IfOk}
 use Rattle.std.specs.declared.option.Option.{Option}
 use Rattle.std.specs.Io.KnownBytes.{IsAtEnd, Consumes, Appends}
 use Rattle.gw_io.specs.Ends.{EndsState}

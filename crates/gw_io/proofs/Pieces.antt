@@ -6,11 +6,11 @@ use Rattle.std.specs.declared.option.Option.{Option}
 use Rattle.std.specs.Io.KnownBytes.{Appends}
 use Rattle.std.proofs.KnownBytes.{Appends-trans}
 
--- the sink took the first `done` bytes of a piece, and its count of faults stayed
+-- the sink took the first `done` bytes of a piece, and no write has failed
 pub record HasTaken (old new : Option (List ℕ)) (bytes : List ℕ) (done before now : ℕ) : Type 0 where
   pub within : done ≤ length bytes
   pub taken : Appends old new (take done bytes)
-  pub kept : now ≡ before
+  pub good : now ≡ before
 
 -- after the first m bytes, the next n
 pub Appends-take-add : (old mid new : Option (List ℕ)) (bytes : List ℕ) (m n : ℕ)

@@ -1,5 +1,5 @@
 -- What a call on the outside may leave: the cause of a fault, and the bytes of a write that was cut short.
-use Rattle.std.specs.Prelude.{◌≡◌, ℕ, ◌+◌, ◌-◌, ◌^◌, ◌<◌, ◌≤◌, min, List, length, map, take, ⊤, None, Some, Result, OnErr, OnOk}
+use Rattle.std.specs.Prelude.{◌≡◌, ℕ, ◌+◌, ◌-◌, ◌^◌, ◌<◌, ◌≤◌, min, List, length, map, take, ⊤, None, Some, Result, OnOk, OnErr}
 use Rattle.std.specs.declared.option.Option.{Option}
 use Rattle.std.specs.Io.KnownBytes.{Appends}
 use Rattle.std.specs.List.{range_with_len}
@@ -12,11 +12,11 @@ raised count = min (count + 1) (2 ^ 64 - 1)
 abbrev pub Rose : ℕ → ℕ → Type 0
 Rose before now = raised before ≤ now
 
--- A count of faults never falls, a fault is answered only where it rose, and a good end where it stayed.
+-- A count of faults never falls. A fault is answered only where it rose, and a good answer only where it did not.
 pub record HasCause {T E : Type 0} (before now : ℕ) (result : Result T E) : Type 0 where
   pub later : before ≤ now
+  pub good : OnOk result (now ≡ before)
   pub failed : OnErr result (Rose before now)
-  pub kept : OnOk result (now ≡ before)
 
 -- Known bytes grew by some first bytes of `bytes`, and not by all of them.
 abbrev pub AppendsProperPrefix : Option (List ℕ) → Option (List ℕ) → List ℕ → Type 0

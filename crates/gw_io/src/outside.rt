@@ -27,7 +27,8 @@ pub trait Source {
     /// The bytes that are left, where the source tells them. One that told them goes on telling.
     ghost left: { Self → Option (List ℕ) };
 
-    /// How often the source has failed, up to the greatest `u64`. It never falls.
+    /// How often the source has failed, up to the greatest `u64`. It never falls, and rises where a
+    /// call fails and nowhere else.
     ghost faults: { Self → ℕ };
 
     /// Moves the next bytes to the front of `buf` and answers their number. Into a `buf` that is
@@ -43,7 +44,8 @@ pub trait Sink {
     /// The bytes that were taken, where the sink tells them. One that told them goes on telling.
     ghost taken: { Self → Option (List ℕ) };
 
-    /// How often the sink has failed, up to the greatest `u64`. It never falls.
+    /// How often the sink has failed, up to the greatest `u64`. It never falls, and rises where a call
+    /// fails and nowhere else.
     ghost faults: { Self → ℕ };
 
     /// Takes some first bytes of a piece and answers their number: at least one, unless the piece

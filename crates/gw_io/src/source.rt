@@ -4,18 +4,9 @@ ghost use Rattle.std.specs.Io.{ReadsAtMost};
 ghost use Rattle.std.specs.Io.KnownBytes.{ReadConsumes};
 ghost use Rattle.gw_io.specs.Outside.{HasCause, raised};
 
+use crate::copying::copy_front;
 use crate::{Failed, Source};
 use std::marker::Model;
-
-/// Copies the first bytes of `from` into `buf`: as many as both have, and at most `most`.
-fn copy_front(from: &[u8], buf: &mut [u8], most: usize) -> usize
-    ensures count { result ≡ min (length buf.old) (min most (length from.now)) }
-    ensures copied { buf.new ≡ take result from.now ++ drop result buf.old }
-{
-    let count = buf.len().min(most.min(from.len()));
-    buf[..count].copy_from_slice(&from[..count]);
-    count
-}
 
 /// Gives the bytes of a slice, and never fails.
 #[derive(Debug, Drop)]
@@ -63,7 +54,7 @@ impl Source for WholeSource<'_> {
         ensures copied { IfOk result (λ n. buf.new ≡ take n self.old ++ drop n buf.old) }
         ensures rest { IfOk result (λ n. self.new ≡ drop n self.old) }
     {
-        let count = copy_front(self.bytes, buf, usize::MAX);
+        let count = copy_front(self.bytes, buf);
         self.bytes = &self.bytes[count..];
         Ok(count)
     }
@@ -161,7 +152,8 @@ impl Source for SliceSource<'_> {
             self.faults = self.faults.saturating_add(1);
             return Err(Failed);
         }
-        let count = copy_front(self.bytes, buf, self.piece);
+        let piece = self.bytes.len().min(self.piece);
+        let count = copy_front(&self.bytes[..piece], buf);
         self.bytes = &self.bytes[count..];
         Ok(count)
     }

@@ -1,9 +1,11 @@
 ghost use Rattle.std.specs.Prelude.{◌≤◌, IfOk};
 
 use super::*;
-use std::io;
+use std::alloc::{AllocError, Global};
 use std::io::{ErrorKind, Read, Write};
 use std::test::Fail;
+use std::time::Duration;
+use std::{io, rt, thread};
 
 fn read_one<S: Source>(source: &mut S, buf: &mut [u8]) -> Result<usize, Failed> {
     source.read(buf)
@@ -63,6 +65,37 @@ fn nothing_fails_without_a_list(rt: HostRuntime) {
     assert_eq!(rt; sink.count(), 9);
 }
 
+// More than any call of a gateway moves at once.
+const LARGE: usize = 16 << 20;
+
+fn filled(alloc: Global, byte: u8, len: usize) -> Result<Vec<u8>, AllocError> {
+    vec![in alloc; byte; len]
+}
+
+#[test]
+fn the_largest_pieces_go_whole(rt: HostRuntime) -> Result<(), Fail> {
+    let bytes = filled(rt.alloc(), 7, LARGE)?;
+    let mut buf = filled(rt.alloc(), 0, LARGE + 1)?;
+    assert_eq!(rt; copy_front(&bytes, &mut buf), LARGE);
+    assert!(rt; buf.get(LARGE - 1) == Some(&7) && buf.last() == Some(&0));
+    let mut whole = WholeSource::new(&bytes);
+    assert_eq!(rt; read_one(&mut whole, &mut buf), Ok(LARGE));
+    let mut slice = SliceSource::new(&bytes, usize::MAX, &[]);
+    assert_eq!(rt; read_one(&mut slice, &mut buf), Ok(LARGE));
+    assert_eq!(rt; slice.left().len(), 0);
+
+    let mut sink = VecSink::with_capacity(rt.alloc(), LARGE, usize::MAX, &[])?;
+    assert_eq!(rt; write_all(&mut sink, &bytes), Ok(()));
+    assert!(rt; sink.into_bytes() == bytes);
+    let mut counting = CountingSink::new();
+    assert_eq!(rt; write_all(&mut counting, &bytes), Ok(()));
+    assert_eq!(rt; counting.count(), 16_777_216);
+    let mut growing = VecSink::new(rt.alloc(), 1_000, &[]);
+    assert_eq!(rt; write_all(&mut growing, &bytes), Ok(()));
+    assert!(rt; growing.bytes() == bytes.as_slice());
+    Ok(())
+}
+
 #[test]
 fn a_step_clock_and_its_twin_go_their_own_ways(rt: HostRuntime) {
     let mut clock = sent(StepClock::new(5, 3));
@@ -87,15 +120,28 @@ fn standard_output_takes_bytes(rt: HostRuntime) {
     assert_eq!(rt; write_all(&mut sink, b"standard output\n"), Ok(()));
 }
 
-// The first second of 2020 is 1577836800, and the last one of 9999 is 253402300799.
+// The system's time, in whole microseconds since 1970.
+fn system_moment<R: rt::Clock>(rt: &R) -> io::Result<u128> {
+    Ok(rt.since_1970()?.as_micros())
+}
+
+// Each call asks the system anew: its moment stands between the system's times before and after it. The
+// first second of 2020 is 1577836800, and the last one of 9999 is 253402300799.
 #[test]
-fn the_system_clock_is_in_this_age(rt: HostRuntime) {
+fn the_system_clock_tells_the_time_of_each_call(rt: HostRuntime) -> Result<(), Fail> {
     let mut clock = sent(SystemClock::new(rt));
-    let moments = next_moments(&mut clock);
-    let later = next_moments(&mut clock.twin());
-    for moment in [moments[0], moments[1], later[0], later[1]] {
-        assert!(rt; 1_577_836_800_000_000 < moment && moment < 253_402_300_800_000_000);
+    for _ in 0..2 {
+        let before = system_moment(&rt)?;
+        let first = u128::from(clock.now());
+        thread::sleep(&rt, Duration::from_millis(2));
+        let between = system_moment(&rt)?;
+        let second = u128::from(clock.now());
+        let after = system_moment(&rt)?;
+        assert!(rt; before <= first && first < between && between <= second && second <= after);
+        assert!(rt; 1_577_836_800_000_000 < before && after < 253_402_300_800_000_000);
+        clock = clock.twin();
     }
+    Ok(())
 }
 
 // Interrupted, then a byte, then broken, then at its end. As a writer it takes nothing at its end.

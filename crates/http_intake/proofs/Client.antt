@@ -1,6 +1,6 @@
 -- A client of an intake, which reads one request after another.
 use Rattle.std.proofs.Common.{◌≡◌, ℕ, suc, ◌+◌, ◌<◌, List, [], ◌∷◌, ◌++◌, length, take, true, false, Option, None, refl, inr, sym, ap, ◌∙◌, subst, subst₂, append_assoc, add-one, arith}
-use Rattle.std.specs.Prelude.{◌≢◌, MatchBool}
+use Rattle.std.specs.Prelude.{MatchBool}
 use Rattle.std.proofs.lemmas.List.{append-nil, length-append, length-take-le}
 use Rattle.std.proofs.KnownBytes.{Consumes-nil, Consumes-trans}
 use Rattle.std.specs.Io.KnownBytes.{Consumes}
@@ -10,7 +10,7 @@ use Rattle.http_model.specs.declared.head.Request.{Request}
 use Rattle.http_model.specs.declared.reply.StreamEnd.{StreamEnd}
 use Rattle.http_model.specs.declared.reply.StreamEnd.TheVariants.{Closed, Cut}
 use Rattle.http_model.specs.Forms.{plan_of, closes}
-use Rattle.http_model.specs.Heads.{EndsHead, BeginsWith}
+use Rattle.http_model.specs.Heads.{BeginsWith}
 use Rattle.http_model.specs.Streams.{TakesRequest, IsEnd, IsStreamFrom, IsStream}
 use Rattle.http_intake.specs.Intake.{IntakeState, GivesHead, GivesBytes}
 use Rattle.http_intake.proofs.Planned.{content_is}

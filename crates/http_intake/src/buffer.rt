@@ -4,7 +4,7 @@ ghost use Rattle.std.specs.Io.KnownBytes.{Consumes, IsAtEnd, Keeps};
 ghost use Rattle.gw_io.specs.Outside.{HasCause};
 ghost use Rattle.http_intake.specs.Reading.{Reads};
 
-use gw_io::{Failed, Source};
+use gw_io::{Failed, Source, copy_front};
 use http_model::HEAD_LIMIT;
 use std::alloc::{AllocError, Global};
 use std::marker::Model;
@@ -13,16 +13,6 @@ use std::marker::Model;
 /// them, and no more than `HEAD_LIMIT` wait then for the rest of a head. So as many went before
 /// them, and a byte is moved once at most.
 pub(crate) const CAPACITY: usize = 2 * (HEAD_LIMIT + 1);
-
-/// Copies the first bytes of `from` to the front of `out`: as many as both have.
-fn copy_front(from: &[u8], out: &mut [u8]) -> usize
-    ensures count { result ≡ min (length out.old) (length from.now) }
-    ensures copied { take result out.new ≡ take result from.now }
-{
-    let count = out.len().min(from.len());
-    out[..count].copy_from_slice(&from[..count]);
-    count
-}
 
 /// Makes room behind the bytes from `start` to `end`, and answers where they are then.
 fn make_room(bytes: &mut [u8], start: usize, end: usize) -> (usize, usize)

@@ -10,8 +10,8 @@ mod next_head;
 mod scan;
 
 pub use fault::IntakeFault;
-pub use intake::Intake;
 pub use http_model::{Framing, Head};
+pub use intake::Intake;
 
 #[cfg(test)]
 mod tests;

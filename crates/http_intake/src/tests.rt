@@ -211,9 +211,15 @@ fn pieces_give_the_same_answers(rt: HostRuntime) -> Result<(), Fail> {
             "PUT Length(5) hell Cut Some(Cut) Some(Cut)",
         ),
         ("GET /a\n\n", "BadHead Some(BadHead) Some(BadHead)"),
+        ("\r\n\n", "end"),
+        ("GET /a HTTP/1.1\r\nHost: h\r\n\r\n\n\r", "GET Empty  end"),
+        (
+            "HEAD /a HTTP/1.1\nContent-Length: 1\nContent-Length: 1\n\n",
+            "BadFraming { bodiless: true } Some(BadFraming { bodiless: true }) Some(BadFraming { bodiless: true })",
+        ),
         (
             "PUT /a HTTP/1.1\nContent-Length: five\n\n",
-            "BadFraming Some(BadFraming) Some(BadFraming)",
+            "BadFraming { bodiless: false } Some(BadFraming { bodiless: false }) Some(BadFraming { bodiless: false })",
         ),
     ];
     for (input, wanted) in rows {
@@ -286,6 +292,9 @@ fn a_connection_is_the_stream_of_its_bytes(rt: HostRuntime) -> Result<(), Fail> 
     assert_eq!(rt; stream.end, wanted.end);
     assert_eq!(rt; stream.end, StreamEnd::Closed);
     assert_eq!(rt; stream.requests.len(), 2);
-    assert_eq!(rt; stream.requests.as_slice()[0].body.as_slice(), b"hello".as_slice());
+    assert_eq!(rt;
+        stream.requests.as_slice()[0].body.as_slice(),
+        b"hello".as_slice()
+    );
     Ok(())
 }

@@ -5,3 +5,4 @@ pub mod PlainLemmas
 pub mod ReadingLemmas
 pub mod StreamLaws
 pub mod TargetLemmas
+pub mod EveryInput

@@ -1,5 +1,5 @@
 -- Where the text of a head ends, and how requests read one after another are a stream.
-use Rattle.std.proofs.Common.{◌≡◌, ℕ, ◌+◌, ◌<◌, ◌≤◌, ◌==◌, leb, ◌||◌, Bool, true, false, cond, refl, ◌≢◌, List, [], ◌∷◌, ◌++◌, length, take, min, ap, sym, add-one, codes, subst, ◌∙◌, below_more, inl, inr, arith}
+use Rattle.std.proofs.Common.{◌≡◌, ℕ, ◌+◌, ◌<◌, ◌≤◌, ◌==◌, leb, ◌||◌, Bool, true, false, cond, refl, ◌≢◌, List, [], ◌∷◌, ◌++◌, length, take, min, ap, sym, add-one, subst, ◌∙◌, below_more, inl, inr, arith}
 use Rattle.std.proofs.lemmas.Bool.{cases_lt, or_parts, leb-false}
 use Rattle.std.proofs.lemmas.List.{append-nil, append_assoc, length-append, length-take-le, take-take, take_all, take_min}
 use Rattle.http_model.specs.declared.head.Head.{Head}

@@ -16,3 +16,9 @@ pub fn a_later_byte_changes_no_request()
         → IsStream bytes requests end → IsStream (bytes ++ more) others other
         → (later : List RequestOf) × (others ≡ requests ++ later) }
 {}
+
+/// Every input is a stream: there is none of which no list of requests with an end is the reading.
+pub fn every_input_is_a_stream()
+    ensures { (bytes : List ℕ)
+        → ¬ ((requests : List RequestOf) (end : EndOf) → ¬ (IsStream bytes requests end)) }
+{}

@@ -102,7 +102,10 @@ mod tests {
         let text =
             b"PUT /swift/v1/AUTH_acme/box/k.txt HTTP/1.1\r\nHost: h\r\nA:  one\t\r\na:two \r\nContent-Length: 5\r\n\r\n";
         let head = read_head(rt.alloc(), text)?;
-        assert_eq!(rt; field_value(head.fields.as_slice(), b"A"), Some(b"two".as_slice()));
+        assert_eq!(rt;
+            field_value(head.fields.as_slice(), b"A"),
+            Some(b"two".as_slice())
+        );
         assert_eq!(rt; field_count(head.fields.as_slice(), b"A"), 2);
         assert_eq!(rt; framing_of(1, &head.fields), Some(Framing::Length(5)));
         let (container, object) = head.place().ok_or("no place")?;

@@ -157,7 +157,7 @@ impl Pool {
         ensures all { KeepsAll self.old self.new }
         ensures counts { KeepsCounts self.old self.new }
     {
-        let key = key.try_clone()?;
+        let key = key.clone()?;
         let parts = ObjectParts::new(alloc)?;
         let run = self.region.take(0).unwrap();
         self.objects.insert(

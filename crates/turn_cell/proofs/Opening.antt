@@ -15,9 +15,9 @@ only_at Q w q (suc j) v at = absurd (some-ne-none v (sym at))
 
 module _ {M E F : Type 0} (history : M → List E) (fixed : M → F) (by : E → ℕ) (lawful : F → List E → Type 0) where
   opens : (first : M) → lawful (fixed first) (history first) → NoneFrom by 1 (history first)
-      → HasOneHistory history fixed by lawful first (opening (0 ∷ []) (first ∷ []) (resting 1 (2 ^ 62) (history first) (fixed first)))
+      → HasOneHistory history fixed by lawful first (opening (0 ∷ []) (first ∷ []) (resting 1 (2 ^ 62) (history first) (history first) (fixed first)))
   opens first legal unnumbered =
-      let v : Knowledge E F = resting 1 (2 ^ 62) (history first) (fixed first) in
+      let v : Knowledge E F = resting 1 (2 ^ 62) (history first) (history first) (fixed first) in
       record {
         log = history first;
         is_out = false;
@@ -32,6 +32,8 @@ module _ {M E F : Type 0} (history : M → List E) (fixed : M → F) (by : E →
               rest = [];
               begins = sym (append-nil (history first));
               others = tt;
+              later = [];
+              found_before = sym (append-nil (history first));
               unused = none_between_less by 1 (1 + 2 ^ 62) (1 + 1) (1 + 2 ^ 62) (history first) (omega arith) (omega arith) (none_between_from by 1 (1 + 2 ^ 62) (history first) unnumbered);
               some_room = omega arith;
               same = refl;
@@ -42,7 +44,7 @@ module _ {M E F : Type 0} (history : M → List E) (fixed : M → F) (by : E →
 
   -- the same, for a first value and slots that are known to be these
   pub opens_with : (first state : M) (slots : List M) → first ≡ state → slots ≡ state ∷ [] → lawful (fixed state) (history state) → NoneFrom by 1 (history state)
-      → HasOneHistory history fixed by lawful first (opening (0 ∷ []) slots (resting 1 (2 ^ 62) (history first) (fixed first)))
+      → HasOneHistory history fixed by lawful first (opening (0 ∷ []) slots (resting 1 (2 ^ 62) (history first) (history first) (fixed first)))
   opens_with first state slots is all legal unnumbered =
-      subst (λ (x : M). HasOneHistory history fixed by lawful x (opening (0 ∷ []) slots (resting 1 (2 ^ 62) (history x) (fixed x)))) (sym is)
-      (subst (λ (l : List M). HasOneHistory history fixed by lawful state (opening (0 ∷ []) l (resting 1 (2 ^ 62) (history state) (fixed state)))) (sym all) (opens state legal unnumbered))
+      subst (λ (x : M). HasOneHistory history fixed by lawful x (opening (0 ∷ []) slots (resting 1 (2 ^ 62) (history x) (history x) (fixed x)))) (sym is)
+      (subst (λ (l : List M). HasOneHistory history fixed by lawful state (opening (0 ∷ []) l (resting 1 (2 ^ 62) (history state) (history state) (fixed state)))) (sym all) (opens state legal unnumbered))

@@ -21,12 +21,12 @@ module _ {M E F : Type 0} (history : M → List E) (fixed : M → F) (by : E →
   Rule s = HasOneHistory history fixed by lawful first s
 
   pub split_allows : (seat : ℕ) (v : Knowledge E F) (share : ℕ) → 0 < share → share < v.room
-      → Splits Rule seat v (resting v.number (v.room - share) v.seen v.fixed) (resting (v.number + (v.room - share)) share v.seen v.fixed)
+      → Splits Rule seat v (resting v.number (v.room - share) v.seen v.found v.fixed) (resting (v.number + (v.room - share)) share v.seen v.found v.fixed)
   split_allows seat v share some_share less s k at =
       let f = k.each seat v at in
       let small : ℕ = v.room - share in
-      let left : Knowledge E F = resting v.number small v.seen v.fixed in
-      let right : Knowledge E F = resting (v.number + small) share v.seen v.fixed in
+      let left : Knowledge E F = resting v.number small v.seen v.found v.fixed in
+      let right : Knowledge E F = resting (v.number + small) share v.seen v.found v.fixed in
       let views : List (Knowledge E F) = set s.views seat left in
       let sum : small + share ≡ v.room = omega arith in
       let knows_right : (j : ℕ) → Knows by (fixed first) k.log k.is_out k.holder j right = λ j.
@@ -35,6 +35,8 @@ module _ {M E F : Type 0} (history : M → List E) (fixed : M → F) (by : E →
         begins = f.begins;
         others = none_by_between by (v.number + 1) (v.number + v.room) (v.number + small) f.rest (omega arith) (omega arith)
             (all_behind (λ e. (by e < v.number + 1) ⊎ (v.number + v.room ≤ by e)) v.seen f.rest (subst (NoneBetween by (v.number + 1) (v.number + v.room)) f.begins f.unused));
+        later = f.later;
+        found_before = f.found_before;
         unused = none_between_less by (v.number + 1) (v.number + v.room) (v.number + small + 1) (v.number + small + share) k.log (omega arith) (omega arith) f.unused;
         some_room = some_share;
         same = f.same;
@@ -46,6 +48,8 @@ module _ {M E F : Type 0} (history : M → List E) (fixed : M → F) (by : E →
         rest = f.rest;
         begins = f.begins;
         others = f.others;
+        later = f.later;
+        found_before = f.found_before;
         unused = none_between_less by (v.number + 1) (v.number + v.room) (v.number + 1) (v.number + small) k.log (omega arith) (omega arith) f.unused;
         some_room = omega arith;
         same = f.same;

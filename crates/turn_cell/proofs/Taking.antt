@@ -1,6 +1,7 @@
 -- The step that takes the value keeps the rule.
 use Rattle.std.proofs.Common.{◌≡◌, ◌≢◌, ℕ, ◌+◌, ◌%◌, ◌==◌, Bool, true, false, List, [], ◌∷◌, length, set, refl, sym, ap, ◌∙◌, subst, arith}
 use Rattle.std.proofs.lemmas.Bool.Decides.{nat_tests}
+use Rattle.std.proofs.lemmas.List.{append-nil}
 use Rattle.std.specs.List.{slice_index}
 use mathlib.Core.Option.{some, none}
 use prog.Atomic.{either}
@@ -38,10 +39,10 @@ module _ {M E F : Type 0} (history : M → List E) (fixed : M → F) (by : E →
         away = λ e. refl;
         each =
             each_set (λ j w. Knows by (fixed first) k.log true seat j w) s.views seat (holding v.number v.room v.seen k.log v.fixed)
-            (record { rest = f.rest; begins = f.begins; others = f.others; unused = f.unused; some_room = f.some_room; same = f.same; turn = λ _. (refl, refl, refl) })
+            (record { rest = f.rest; begins = f.begins; others = f.others; later = []; found_before = sym (append-nil k.log); unused = f.unused; some_room = f.some_room; same = f.same; turn = λ _. (refl, refl, refl) })
             (λ j w differ there.
             let g = k.each j w there in
-            record { rest = g.rest; begins = g.begins; others = g.others; unused = g.unused; some_room = g.some_room; same = g.same; turn = λ t. absurd (cc (home, (g.turn t).0)) });
+            record { rest = g.rest; begins = g.begins; others = g.others; later = g.later; found_before = g.found_before; unused = g.unused; some_room = g.some_room; same = g.same; turn = λ t. absurd (cc (home, (g.turn t).0)) });
         apart = apart_set s.views seat v (holding v.number v.room v.seen k.log v.fixed) at (omega arith) (omega arith) k.apart;
       }
 
@@ -71,6 +72,8 @@ module _ {M E F : Type 0} (history : M → List E) (fixed : M → F) (by : E →
             record {
               between = f.rest;
               others = f.others;
+              later = f.later;
+              goes_on = sym f.begins ∙ f.found_before;
               view_is = ap (λ l. holding v.number v.room v.seen l v.fixed) f.begins;
               has = h.2 ∙ f.begins;
               same = h.3 ∙ sym f.same;

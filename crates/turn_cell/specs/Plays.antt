@@ -5,10 +5,12 @@ use Rattle.turn_cell.specs.Histories.{NoneBy, NoneBetween}
 use Rattle.turn_cell.specs.declared.knowledge.Knowledge.{Knowledge}
 use Rattle.turn_cell.specs.Rule.{resting, holding}
 
--- The seat has the value, whose history is what the pass had seen and then events of others
+-- The seat has the value, whose history is what the pass had seen and then events of others. It goes on from what the pass found last
 pub record Holds {M E F : Type 0} (history : M → List E) (fixed : M → F) (by : E → ℕ) (lawful : F → List E → Type 0) (v : Knowledge E F) (m : M) (w : Knowledge E F) : Type 0 where
   pub between : List E
   pub others : NoneBy by v.number between
+  pub later : List E
+  pub goes_on : v.seen ++ between ≡ v.found ++ later
   pub view_is : w ≡ holding v.number v.room v.seen (v.seen ++ between) v.fixed
   pub has : history m ≡ v.seen ++ between
   pub same : fixed m ≡ v.fixed
@@ -29,15 +31,15 @@ module _ {M E F : Type 0} where
   -- the seat gave the value back, and has seen its history
   abbrev pub GivesNext : (M → List E) → Step M → Me M (Knowledge E F) → ℕ → Me M (Knowledge E F) → Type 0
   GivesNext history s before found after =
-      (m : M) → before.1 ≡ (0, m) ∷ rest before.1 → after ≡ (resting before.0.number before.0.room (history m) before.0.fixed, rest before.1)
+      (m : M) → before.1 ≡ (0, m) ∷ rest before.1 → after ≡ (resting before.0.number before.0.room (history m) before.0.found before.0.fixed, rest before.1)
 
   -- the seat gave the value back unchanged, and has seen no more than before
   abbrev pub GivesSame : Step M → Me M (Knowledge E F) → ℕ → Me M (Knowledge E F) → Type 0
-  GivesSame s before found after = after ≡ (resting before.0.number before.0.room before.0.seen before.0.fixed, rest before.1)
+  GivesSame s before found after = after ≡ (resting before.0.number before.0.room before.0.seen before.0.found before.0.fixed, rest before.1)
 
 -- The seat of a pass that is not in a step. What it has seen is lawful, and no event there is by one of the numbers that it keeps for splits
 pub record IsAtRest {M E F : Type 0} (by : E → ℕ) (lawful : F → List E → Type 0) (number room : ℕ) (me : Me M (Knowledge E F)) : Type 0 where
-  pub knows : me.0 ≡ resting number room me.0.seen me.0.fixed
+  pub knows : me.0 ≡ resting number room me.0.seen me.0.found me.0.fixed
   pub empty : me.1 ≡ []
   pub legal : lawful me.0.fixed me.0.seen
   pub unused : NoneBetween by (number + 1) (number + room) me.0.seen
@@ -51,17 +53,17 @@ pub record IsChanged {M E F : Type 0} (history : M → List E) (fixed : M → F)
   pub event : E
   pub out : me.0.has_turn ≡ true
   pub slot : me.1 ≡ (0, value) ∷ []
-  pub grows : history value ≡ me.0.held ++ event ∷ []
+  pub grows : history value ≡ me.0.found ++ event ∷ []
   pub own : by event ≡ me.0.number
   pub same : fixed value ≡ me.0.fixed
   pub legal : lawful me.0.fixed (history value)
-  pub room : length me.0.held < 2 ^ 62
+  pub room : length me.0.found < 2 ^ 62
 
 -- The seat has the value, whose history is that with which it was taken
 pub record IsUnchanged {M E F : Type 0} (history : M → List E) (fixed : M → F) (lawful : F → List E → Type 0) (me : Me M (Knowledge E F)) : Type 0 where
   pub value : M
   pub out : me.0.has_turn ≡ true
   pub slot : me.1 ≡ (0, value) ∷ []
-  pub unchanged : history value ≡ me.0.held
+  pub unchanged : history value ≡ me.0.found
   pub same : fixed value ≡ me.0.fixed
   pub legal : lawful me.0.fixed (history value)

@@ -8,12 +8,12 @@ use Rattle.turn_cell.specs.declared.knowledge.Knowledge.{Knowledge}
 
 module _ {E F : Type 0} where
   -- what a pass without the value knows
-  abbrev pub resting : ℕ → ℕ → List E → F → Knowledge E F
-  resting number room seen fixed = record { number = number; room = room; seen = seen; has_turn = false; held = []; fixed = fixed }
+  abbrev pub resting : ℕ → ℕ → List E → List E → F → Knowledge E F
+  resting number room seen found fixed = record { number = number; room = room; seen = seen; found = found; has_turn = false; fixed = fixed }
 
   -- what a pass with the value knows
   abbrev pub holding : ℕ → ℕ → List E → List E → F → Knowledge E F
-  holding number room seen held fixed = record { number = number; room = room; seen = seen; has_turn = true; held = held; fixed = fixed }
+  holding number room seen found fixed = record { number = number; room = room; seen = seen; found = found; has_turn = true; fixed = fixed }
 
   -- the numbers of the one end before those of the other begin
   abbrev pub AreApart : Knowledge E F → Knowledge E F → Type 0
@@ -23,15 +23,17 @@ module _ {E F : Type 0} where
   abbrev pub AllApart : List (Knowledge E F) → Type 0
   AllApart views = (i j : ℕ) (v w : Knowledge E F) → get_elem? views i ≡ some v → get_elem? views j ≡ some w → i ≢ j → AreApart v w
 
--- The history begins with what the pass has seen, and goes on with events of others. No event is by one of the numbers that it keeps for splits
+-- The history begins with what the pass has seen, and goes on with events of others. It begins with what the pass found last, which is all of it while the pass has the value. No event is by one of the numbers that it keeps for splits
 pub record Knows {E F : Type 0} (by : E → ℕ) (fixed : F) (log : List E) (is_out : Bool) (holder seat : ℕ) (v : Knowledge E F) : Type 0 where
   pub rest : List E
   pub begins : log ≡ v.seen ++ rest
   pub others : NoneBy by v.number rest
+  pub later : List E
+  pub found_before : log ≡ v.found ++ later
   pub unused : NoneBetween by (v.number + 1) (v.number + v.room) log
   pub some_room : 0 < v.room
   pub same : v.fixed ≡ fixed
-  pub turn : v.has_turn ≡ true → (is_out ≡ true) × (seat ≡ holder) × (log ≡ v.held)
+  pub turn : v.has_turn ≡ true → (is_out ≡ true) × (seat ≡ holder) × (log ≡ v.found)
 
 abbrev pub bit : Bool → ℕ
 bit true = 1

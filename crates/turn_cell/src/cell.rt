@@ -3,7 +3,7 @@ ghost use Rattle.std.specs.Prelude.{◌≡◌, ◌+◌, ◌-◌, ◌<◌, ◌≤
 ghost use Rattle.std.specs.Bool.{OnTrue, OnFalse};
 ghost use Rattle.turn_cell.specs.declared.machine.DoorFault.TheVariants.{Worn};
 ghost use Rattle.turn_cell.specs.Histories.{NoneBy, NoneFrom, numbers_of};
-ghost use Rattle.turn_cell.specs.Steps.{Finds, Extends};
+ghost use Rattle.turn_cell.specs.Steps.{IsFound};
 ghost use Rattle.turn_cell.specs.Rule.{resting};
 ghost use Rattle.turn_cell.specs.Plays.{HasTaken, IsChanged, IsUnchanged};
 
@@ -65,6 +65,7 @@ impl<M: Machine + Drop> Turn<M> {
           number = 1;
           room = 2 ^ 62;
           seen = M.history state;
+          found = M.history state;
         }) }
 
         // It has made no event.
@@ -93,8 +94,8 @@ impl<M: Machine + Drop> Turn<M> {
 }
 
 impl<M: Machine> Turn<M> {
-    /// Gives the last `share` numbers of a pass to a new pass, which has seen what the first has seen.
-    /// The first keeps at least its own number.
+    /// Gives the last `share` numbers of a pass to a new pass, which has seen and found what the first
+    /// has. The first keeps at least its own number.
     pub fn split(&self, pass: &mut Pass<M>, share: u64) -> Pass<M>
         requires pass { pass.old.cell ≡ self.now }
         requires share { (1 ≤ share) × (share < pass.old.room) }
@@ -121,8 +122,10 @@ impl<M: Machine> Turn<M> {
 
     /// Waits for the turn, and does one operation of an actor of this pass at a moment.
     ///
-    /// At `Ok` it made exactly one event, after all that the pass had seen. At `Err` it made none: the
-    /// value was put back unchanged, the operation comes back, and pass and actor are as they were.
+    /// It finds the cell's history, which begins with all that the pass has seen and goes on with events
+    /// of others. At `Ok` it made exactly one event, right after what it found. At `Err` it made none:
+    /// the value was put back unchanged, the operation comes back, and the actor is as it was, the pass
+    /// too, but for what it found. `Worn` is said where that has 2^62 events.
     pub fn step<R: Wait>(
         &self,
         rt: &R,
@@ -135,14 +138,14 @@ impl<M: Machine> Turn<M> {
         requires pass { pass.old.cell ≡ self.now }
         requires actor { M.pass actor.old ≡ pass.old.number }
         requires allowed { M.allowed self.now.fixed pass.old.seen actor.old op }
-        ensures pass { pass.new ≡ record pass.old { seen = pass.new.seen } }
+        ensures pass { pass.new ≡ record pass.old { seen = pass.new.seen; found = pass.new.found } }
         ensures actor { M.pass actor.new ≡ M.pass actor.old }
+        ensures found { IsFound M.by M.lawful pass.old pass.new.found }
         ensures legal { M.lawful self.now.fixed pass.new.seen }
 
         // The history that the pass has seen then ends with the event, whose number is its length.
         ensures made { IfOk result (λ answer.
-            Extends M.by M.lawful self.now.fixed pass.old.number pass.old.seen
-            (M.event actor.old op moment answer) pass.new.seen) }
+            pass.new.seen ≡ pass.new.found ++ M.event actor.old op moment answer ∷ []) }
         ensures mine { OnOk result (
             numbers_of M.by pass.old.number pass.new.seen
             ≡ numbers_of M.by pass.old.number pass.old.seen ++ length pass.new.seen ∷ []) }
@@ -151,11 +154,10 @@ impl<M: Machine> Turn<M> {
         ensures tells { IfOk result (λ answer.
             M.tells actor.old op answer actor.new pass.new.seen) }
 
-        ensures stopped { OnErr result ((pass.new ≡ pass.old) × (actor.new ≡ actor.old)) }
+        ensures stopped { OnErr result (
+            (pass.new ≡ record pass.old { found = pass.new.found }) × (actor.new ≡ actor.old)) }
         ensures handed_back { IfErr result (λ s. s.op ≡ Some op) }
-        ensures worn { IfErr result (λ s.
-            Finds M.by M.lawful self.now.fixed pass.old.number pass.old.seen
-            (λ found. (s.fault ≡ Worn) ↔ (length found ≡ 2 ^ 62))) }
+        ensures worn { IfErr result (λ s. (s.fault ≡ Worn) ↔ (length pass.new.found ≡ 2 ^ 62)) }
     {
         let number = self.take(rt, &mut pass.seat, pass.expected);
         let state = pass.seat.slot_mut(&self.table.shared, 0);
@@ -198,8 +200,11 @@ impl<M: Machine> Turn<M> {
         requires cell { seat.old.table_id ≡ self.now.id }
         requires changed { IsChanged M.history M.fixed M.by M.lawful seat.old.me }
         ensures same { seat.new.table_id ≡ seat.old.table_id }
-        ensures seen { (m : M) → seat.old.me.1 ≡ (0, m) ∷ [] → seat.new.me ≡
-            (resting seat.old.me.0.number seat.old.me.0.room (M.history m) seat.old.me.0.fixed, []) }
+        ensures seen { (m : M) → seat.old.me.1 ≡ (0, m) ∷ [] → seat.new.me ≡ (
+          resting seat.old.me.0.number seat.old.me.0.room
+              (M.history m) seat.old.me.0.found seat.old.me.0.fixed,
+          [],
+        ) }
     {
         self.table.shared.fetch_add::<GiveNext<M>>(seat, 0, 1);
         self.sleepers.wake_one();
@@ -210,8 +215,11 @@ impl<M: Machine> Turn<M> {
         requires cell { seat.old.table_id ≡ self.now.id }
         requires unchanged { IsUnchanged M.history M.fixed M.lawful seat.old.me }
         ensures same { seat.new.table_id ≡ seat.old.table_id }
-        ensures seen { seat.new.me ≡
-            (resting seat.old.me.0.number seat.old.me.0.room seat.old.me.0.seen seat.old.me.0.fixed, []) }
+        ensures seen { seat.new.me ≡ (
+          resting seat.old.me.0.number seat.old.me.0.room
+              seat.old.me.0.seen seat.old.me.0.found seat.old.me.0.fixed,
+          [],
+        ) }
     {
         self.table.shared.fetch_sub::<GiveSame<M>>(seat, 0, 1);
         self.sleepers.wake_one();
@@ -223,12 +231,12 @@ impl<M: Machine> Turn<M> {
         requires share { (B.share ≡ share) × (0 < share) × (share < seat.old.me.0.room) }
         ensures left { (seat.new.table_id ≡ seat.old.table_id) × (seat.new.me ≡ (
           resting seat.old.me.0.number (seat.old.me.0.room - share)
-              seat.old.me.0.seen seat.old.me.0.fixed,
+              seat.old.me.0.seen seat.old.me.0.found seat.old.me.0.fixed,
           seat.old.me.1,
         )) }
         ensures right { (result.table_id ≡ seat.old.table_id) × (result.me ≡ (
           resting (seat.old.me.0.number + (seat.old.me.0.room - share)) share
-              seat.old.me.0.seen seat.old.me.0.fixed,
+              seat.old.me.0.seen seat.old.me.0.found seat.old.me.0.fixed,
           [],
         )) }
     {

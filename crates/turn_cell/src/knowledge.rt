@@ -10,11 +10,12 @@ pub struct Knowledge<E, F> {
     /// The pass's number, and how many numbers from it on are its own.
     pub number: u64,
     pub room: u64,
-    /// The history that it has seen.
+    /// The history that it has seen: it ends with the pass's own last event, if that made one.
     pub seen: LinkedList<E>,
-    /// Whether it has the value now, and the history of the value that it has.
+    /// The history that the value had when the pass last took it.
+    pub found: LinkedList<E>,
+    /// Whether it has the value now.
     pub has_turn: bool,
-    pub held: LinkedList<E>,
     /// What no event changes.
     pub fixed: F,
 }

@@ -6,7 +6,7 @@ use crate::machine::Machine;
 use std::marker::Model;
 
 /// The right to make events in one cell, under a number that no other pass has. Contracts see which
-/// cell it is of, its numbers, and the history that it has seen.
+/// cell it is of, its numbers, the history that it has seen, and the one that its last step found.
 #[derive(Drop)]
 pub struct Pass<M: Machine> {
     pub(crate) number: u64,
@@ -27,6 +27,7 @@ impl<M: Machine> Model for Pass<M> {
       number = p.number;
       room = p.room;
       seen = p.seat.me.0.seen;
+      found = p.seat.me.0.found;
     } };
 
     ghost invariant = { λ p. IsAtRest M.by M.lawful p.number p.room p.seat.me };

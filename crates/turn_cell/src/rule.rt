@@ -17,7 +17,7 @@ impl<M: Machine> TableRule<M, Knowledge<M::Event, M::Fixed>, Snapshot<M>> for On
 
     ghost holds = { λ first s. HasOneHistory M.history M.fixed M.by M.lawful first.value s };
 
-    ghost first = { λ first. resting 1 (2 ^ 62) (M.history first.value) (M.fixed first.value) };
+    ghost first = { λ first. resting 1 (2 ^ 62) (M.history first.value) (M.history first.value) (M.fixed first.value) };
 }
 
 /// The step that takes the value.
@@ -73,7 +73,7 @@ impl<B: Share, E, F> Split<Knowledge<E, F>> for Cut<B> {
     ghost use Rattle.std.specs.Prelude.{◌-◌, ◌+◌};
     ghost use Rattle.turn_cell.specs.Rule.{resting};
 
-    ghost left = { λ v. resting v.number (v.room - B.share) v.seen v.fixed };
+    ghost left = { λ v. resting v.number (v.room - B.share) v.seen v.found v.fixed };
 
-    ghost right = { λ v. resting (v.number + (v.room - B.share)) B.share v.seen v.fixed };
+    ghost right = { λ v. resting (v.number + (v.room - B.share)) B.share v.seen v.found v.fixed };
 }

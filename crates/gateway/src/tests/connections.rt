@@ -38,6 +38,16 @@ const BAD_FRAMING: &[u8] =
 const BAD_HOST: &[u8] =
     b"HTTP/1.1 400 Bad Request\r\nContent-Length: 18\r\nContent-Type: text/plain; charset=utf-8\r\n\r\nBad request: host\n";
 
+/// The same to HEAD: no body.
+const BODILESS_BAD_HOST: &[u8] =
+    b"HTTP/1.1 400 Bad Request\r\nContent-Length: 18\r\nContent-Type: text/plain; charset=utf-8\r\n\r\n";
+
+const BODILESS_BAD_FRAMING: &[u8] =
+    b"HTTP/1.1 400 Bad Request\r\nContent-Length: 21\r\nContent-Type: text/plain; charset=utf-8\r\nConnection: close\r\n\r\n";
+
+const BODILESS_NOT_BUILT: &[u8] =
+    b"HTTP/1.1 501 Not Implemented\r\nContent-Length: 10\r\nContent-Type: text/plain; charset=utf-8\r\nConnection: close\r\n\r\n";
+
 /// A refused request, its reply, and whether the connection goes on behind it.
 const REFUSALS: &[(&[u8], &[u8], bool)] = &[
     (b"GET\r\n\r\n", BAD_HEAD, false),
@@ -90,6 +100,21 @@ const REFUSALS: &[(&[u8], &[u8], bool)] = &[
         b"PUT /swift/v1/AUTH_acme/bax/k HTTP/1.1\r\nHost: h\r\nX-Auth-Token: AUTH_tk1\r\nContent-Length: 3\r\n\r\nxyz",
         NO_CONTAINER,
         true,
+    ),
+    (
+        b"HEAD /swift/v1/AUTH_acme/box/k HTTP/1.1\r\nX-Auth-Token: AUTH_tk1\r\n\r\n",
+        BODILESS_BAD_HOST,
+        true,
+    ),
+    (
+        b"HEAD /swift/v1/AUTH_acme/box/k HTTP/1.1\r\nHost: h\r\nContent-Length: -1\r\n\r\n",
+        BODILESS_BAD_FRAMING,
+        false,
+    ),
+    (
+        b"HEAD /swift/v1/AUTH_acme/box/k HTTP/1.1\r\nHost: h\r\nX-Auth-Token: AUTH_tk1\r\n\r\n",
+        BODILESS_NOT_BUILT,
+        false,
     ),
     (
         b"GET /swift/v1/AUTH_acme/box/K HTTP/1.1\r\nHost: h\r\nX-Auth-Token: AUTH_tk1\r\n\r\n",

@@ -3,7 +3,7 @@ use std::fmt::Write;
 use std::test::Fail;
 
 /// Inputs, and what they are.
-const STREAMS: [(&str, &str); 11] = [
+const STREAMS: [(&str, &str); 16] = [
     ("", "Clean"),
     // a PUT and then a GET
     (
@@ -20,7 +20,7 @@ const STREAMS: [(&str, &str); 11] = [
         "Cut",
     ),
     // no head
-    ("GET\r\n\r\n", "Refused(Head)"),
+    ("GET\r\n\r\n", "Refused { word: Head, bodiless: false }"),
     // lines that end in LF alone
     (
         "GET /swift/v1/AUTH_acme/box/k HTTP/1.1\nHost: h\n\n",
@@ -34,40 +34,58 @@ const STREAMS: [(&str, &str); 11] = [
     // a CR alone is no empty line
     (
         "GET /swift/v1/AUTH_acme/box/k HTTP/1.1\r\nHost: h\r\n\rA: b\r\n\r\n",
-        "Refused(Head)",
+        "Refused { word: Head, bodiless: false }",
     ),
     // forms that are not taken
     (
         "POST /swift/v1/AUTH_acme/box/k HTTP/1.1\r\nHost: h\r\n\r\n",
-        "NotBuilt",
+        "NotBuilt { bodiless: false }",
     ),
     (
         "GET /swift/v1/AUTH_acme/box/k HTTP/1.0\r\nHost: h\r\n\r\n",
-        "NotBuilt",
+        "NotBuilt { bodiless: false }",
     ),
-    // an empty line after the last request begins another
+    // empty lines after the last request are no request
     (
         "GET /swift/v1/AUTH_acme/box/k HTTP/1.1\r\nHost: h\r\n\r\n\r\n",
-        "GET /swift/v1/AUTH_acme/box/k \nCut",
+        "GET /swift/v1/AUTH_acme/box/k \nClean",
+    ),
+    ("\n", "Clean"),
+    ("\r\r\n\r", "Clean"),
+    // a reply to HEAD has no body, where a head was read
+    (
+        "HEAD /swift/v1/AUTH_acme/box/k HTTP/1.1\r\nHost: h\r\n\r\n",
+        "NotBuilt { bodiless: true }",
+    ),
+    (
+        "HEAD /swift/v1/AUTH_acme/box/k HTTP/1.1\r\nHost: h\r\nContent-Length: x\r\n\r\n",
+        "Refused { word: Framing, bodiless: true }",
+    ),
+    (
+        "HEAD /swift/v1/AUTH_acme/box/k HTTP/1.1\r\n\r\n",
+        "HEAD /swift/v1/AUTH_acme/box/k \nClean",
     ),
 ];
 
 const TAKEN: &str = "PUT /swift/v1/AUTH_acme/box/k hello\nCut";
 
 /// The fields of a PUT before `hello` and the first byte of a further head, and what that is.
-const FIELDS: [(&str, &str); 15] = [
+const FIELDS: [(&str, &str); 17] = [
     ("Host: h\r\nContent-Length: 5\r\n", TAKEN),
     // where the body ends is not told
     ("Host: h\r\nContent-Length: 0000000000000000005\r\n", TAKEN),
     (
         "Host: h\r\nContent-Length: 00000000000000000005\r\n",
-        "Refused(Framing)",
+        "Refused { word: Framing, bodiless: false }",
     ),
     (
         "Host: h\r\nContent-Length: 5\r\nContent-Length: 5\r\n",
-        "Refused(Framing)",
+        "Refused { word: Framing, bodiless: false }",
     ),
-    ("Host: h\r\nTransfer-Encoding: gzip\r\n", "Refused(Framing)"),
+    (
+        "Host: h\r\nTransfer-Encoding: gzip\r\n",
+        "Refused { word: Framing, bodiless: false }",
+    ),
     // behind a wrong count of Host fields the body is dropped, where it can be
     ("Content-Length: 5\r\n", TAKEN),
     ("HOST: a\r\nhost: b\r\nContent-Length: 5\r\n", TAKEN),
@@ -79,26 +97,37 @@ const FIELDS: [(&str, &str); 15] = [
         "Content-Length: 5368709121\r\n",
         "PUT /swift/v1/AUTH_acme/box/k \nClosed",
     ),
-    // of Connection the last value counts
+    // the lines of several Connection fields are one list, and any Expect field may wait
     (
         "Host: h\r\nConnection: te, Close\r\nContent-Length: 5\r\n",
         "PUT /swift/v1/AUTH_acme/box/k hello\nClosed",
     ),
     (
         "Host: h\r\nConnection: close\r\nConnection: te\r\nContent-Length: 5\r\n",
+        "PUT /swift/v1/AUTH_acme/box/k hello\nClosed",
+    ),
+    (
+        "Host: h\r\nConnection: te\r\nConnection: upgrade\r\nContent-Length: 5\r\n",
         TAKEN,
+    ),
+    (
+        "Expect: 100-continue\r\nExpect: x\r\nContent-Length: 5\r\n",
+        "PUT /swift/v1/AUTH_acme/box/k \nClosed",
     ),
     // fields that are not taken
     (
         "Host: h\r\nRange: bytes=0-1\r\nContent-Length: 5\r\n",
-        "NotBuilt",
+        "NotBuilt { bodiless: false }",
     ),
     (
         "Host: h\r\nX-OBJECT-meta-A: b\r\nContent-Length: 5\r\n",
-        "NotBuilt",
+        "NotBuilt { bodiless: false }",
     ),
-    ("Host: h\r\nContent-Length: 1048577\r\n", "NotBuilt"),
-    ("Host: h\r\n", "NotBuilt"),
+    (
+        "Host: h\r\nContent-Length: 1048577\r\n",
+        "NotBuilt { bodiless: false }",
+    ),
+    ("Host: h\r\n", "NotBuilt { bodiless: false }"),
 ];
 
 /// The method, the target and the body of each request in a line of its own, and then how the
@@ -106,7 +135,7 @@ const FIELDS: [(&str, &str); 15] = [
 fn told(alloc: Global, bytes: &[u8]) -> Result<String, Fail> {
     let stream = read_stream(alloc, bytes)?;
     let mut told = String::new(alloc);
-    for request in &stream.requests {
+    for request in stream.requests.as_slice() {
         let method = request.head.method.as_str();
         let target = str::from_utf8(request.head.target.as_slice())?;
         let body = str::from_utf8(request.body.as_slice())?;
@@ -144,9 +173,9 @@ fn a_head_has_at_most_65536_bytes(rt: HostRuntime) -> Result<(), Fail> {
     let whole = "GET /swift/v1/AUTH_acme/box/k \nClean";
     for (len, last, want) in [
         (65536, "\r\n\r\n", whole),
-        (65537, "\r\n\r\n", "Refused(Size)"),
+        (65537, "\r\n\r\n", "Refused { word: Size, bodiless: false }"),
         (65536, "", "Cut"),
-        (65537, "", "Refused(Size)"),
+        (65537, "", "Refused { word: Size, bodiless: false }"),
     ] {
         let mut bytes = String::from_str(rt.alloc(), front)?;
         for _ in front.len() + last.len()..len {

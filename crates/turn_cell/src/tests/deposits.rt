@@ -4,15 +4,17 @@ ghost use Rattle.turn_cell.specs.Deposits.{balance_after};
 
 use crate::{DoorFault, Machine, Stopped};
 use std::alloc::Global;
+use std::hint::spin_loop;
 
 // How many events a history has at most.
 const FULL: u64 = 1 << 62;
 
-/// So many cents, or a call that finds no memory.
+/// So many cents, or a call that finds no memory. It holds the value for so many turns of a spin.
 #[derive(Clone, Copy, Debug, PartialEq, Eq)]
 pub struct Deposit {
     pub cents: u64,
     pub starves: bool,
+    pub spins: u32,
 }
 
 #[derive(Drop)]
@@ -77,6 +79,7 @@ impl Machine for Deposits {
         op: Deposit,
         _moment: u64,
     ) -> Result<(u64, u64), Stopped<Deposit>> {
+        spin(op.spins);
         let number = self.before + self.log.len() as u64;
         if number == FULL {
             return Err(Stopped {
@@ -98,4 +101,10 @@ impl Machine for Deposits {
     ghost by_actor = { λ actor op moment answer. refl };
 
     ghost others = { λ fixed log between actor op none. ((λ _. tt), (λ _. tt)) };
+}
+
+fn spin(turns: u32) {
+    for _ in 0..turns {
+        spin_loop();
+    }
 }

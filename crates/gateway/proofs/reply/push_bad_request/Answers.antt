@@ -1,5 +1,5 @@
 use Rattle.std.proofs.Common.{ℕ, ◌+◌, List, ◌++◌, length, ◌∙◌, ap, arith, codes}
-use Rattle.http_model.specs.Replies.{crlf, field_line, content_length_field, content_type_field, line_kind, line_body, written_body, word_of, bad_request_line, head_text, text_of, bad_request_text}
+use Rattle.http_model.specs.Replies.{crlf, field_line, content_length_field, content_type_field, line_kind, line_body, written_body, bad_request_line, head_text, text_of, bad_request_text}
 use Rattle.gateway.proofs.Texts.{broken}
 use Rattle.gateway.proofs.reply.push_bad_request.Goals as goal
 

@@ -1,4 +1,3 @@
-use Rattle.std.proofs.Common.{refl}
 use Rattle.gateway.proofs.Connection.{nothing_served}
 use Rattle.gateway.proofs.serve.serve_connection.Goals as goal
 

@@ -1,10 +1,8 @@
-use Rattle.std.proofs.Common.{ℕ, Bool, List, refl, sym, ap, ◌∙◌, subst, subst₂, arith}
+use Rattle.std.proofs.Common.{ℕ, List, refl, sym, ap, ◌∙◌, subst, arith}
 use Rattle.std.proofs.KnownBytes.{Appends-nil}
 use Rattle.http_model.specs.declared.reply.ReplyForm.{ReplyForm}
-use Rattle.gateway.specs.declared.serve.ConnEnd.{ConnEnd}
 use Rattle.gateway.specs.Asking.{IsAsked}
 use Rattle.gateway.specs.Answering.{Answers, AnswersInPart}
-use Rattle.gateway.specs.Serving.{ServesFrom}
 use Rattle.gateway.proofs.Causes.{quiet_read, quiet_write, good_cause, read_cause, write_cause, no_read}
 use Rattle.gateway.proofs.TurnLaws.{left_quietly, left_writing, ended_so, stops_at_end, stops_answering, answered_closed, answered_open}
 use Rattle.gateway.proofs.turn.take_turn.Goals as goal

@@ -8,5 +8,5 @@ loop-done-preserved g c =
     record {
       within = omega (arith, c.loop-done.invariant.within, ensures.bound, length-take {A = ℕ}, length-drop {A = ℕ});
       taken = Appends-take-add _ _ _ _ _ _ c.loop-done.invariant.taken ensures.bytes;
-      kept = ensures.cause.kept ∙ c.loop-done.invariant.kept;
+      good = ensures.cause.good ∙ c.loop-done.invariant.good;
     }

@@ -1,4 +1,4 @@
-use Rattle.std.proofs.Common.{◌≢◌, ℕ, List, [], ◌∙◌, length, sym, ap, subst, Ok, rules, arith}
+use Rattle.std.proofs.Common.{◌≢◌, ℕ, List, [], ◌∙◌, sym, ap, subst, Ok, rules, arith}
 use Rattle.std.proofs.lemmas.Result.{err_from_is_err_and}
 use Rattle.http_model.specs.Heads.{skip_breaks}
 use Rattle.http_model.specs.Streams.{IsBlank, IsCutHead, IsOversized}

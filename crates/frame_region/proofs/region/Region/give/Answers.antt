@@ -1,4 +1,6 @@
 use Rattle.std.proofs.Common.{◌≡◌, ℕ, ◌+◌, ◌-◌, ◌<◌, None, set, ap, sym, subst, ◌∙◌, arith, rules}
+use Rattle.frame_region.proofs.Filled.{length-links_in}
+use Rattle.frame_region.specs.Held.{links_in}
 use Rattle.frame_region.specs.Cells.{after}
 use Rattle.frame_region.specs.Region.{Run, Owns, KeepsOthers, with_run}
 use Rattle.frame_region.proofs.Given.{given_fits, HasGiven-none, IsWalk-given, IsSound-after_give, HasGiven-after_give}
@@ -9,7 +11,7 @@ overflow_add-self c =
     let r = c.self.inside in
     let run : Run = record { first = c.run.inside.first; count = c.run.inside.count } in
     let owned : Owns c.args.self.now run = subst (Owns c.args.self.now) (sym c.run.view_is) c.requires in
-    omega (arith, given_fits r.cells r.first_free r.free c.self.invariant c.args.self.now run c.self.view_is owned)
+    omega (arith, length-links_in r.cells, r.cells.numbered, given_fits r.cells r.first_free r.free c.self.invariant c.args.self.now run c.self.view_is owned)
 
 pub returns-then-count-eq0 : goal.returns-then-count-eq0
 returns-then-count-eq0 c =
@@ -48,8 +50,8 @@ invariant_of-self-2 c =
     let run : Run = record { first = c.run.inside.first; count = c.run.inside.count } in
     let owned : Owns c.args.self.now run = subst (Owns c.args.self.now) (sym c.run.view_is) c.requires in
     let some : 0 < run.count = omega (arith, c.if-count-eq0.false) in
-    let links : c.set_link.new.self.links.items ≡ set r.cells.links.items (after r.cells.links.items run.first (run.count - 1)) r.first_free =
-    c.set_link.ensures.links ∙ ap (λ (i : ℕ). set r.cells.links.items i r.first_free) (c.cell_after-last.ensures) in
+    let links : (links_in c.set_link.new.self) ≡ set (links_in r.cells) (after (links_in r.cells) run.first (run.count - 1)) r.first_free =
+    c.set_link.ensures.links ∙ ap (λ (i : ℕ). set (links_in r.cells) i r.first_free) (c.cell_after-last.ensures) in
     IsSound-after_give r.cells r.first_free r.free c.self.invariant c.args.self.now run c.self.view_is owned some c.set_link.new.self c.set_link.ensures.frame links c.set_link.ensures.bytes
 
 pub returns : goal.returns
@@ -58,8 +60,8 @@ returns c =
     let run : Run = record { first = c.run.inside.first; count = c.run.inside.count } in
     let owned : Owns c.args.self.now run = subst (Owns c.args.self.now) (sym c.run.view_is) c.requires in
     let some : 0 < run.count = omega (arith, c.if-count-eq0.false) in
-    let links : c.set_link.new.self.links.items ≡ set r.cells.links.items (after r.cells.links.items run.first (run.count - 1)) r.first_free =
-    c.set_link.ensures.links ∙ ap (λ (i : ℕ). set r.cells.links.items i r.first_free) (c.cell_after-last.ensures) in
+    let links : (links_in c.set_link.new.self) ≡ set (links_in r.cells) (after (links_in r.cells) run.first (run.count - 1)) r.first_free =
+    c.set_link.ensures.links ∙ ap (λ (i : ℕ). set (links_in r.cells) i r.first_free) (c.cell_after-last.ensures) in
     let given = HasGiven-after_give r.cells r.first_free r.free c.self.invariant c.args.self.now run c.self.view_is owned some c.set_link.new.self c.set_link.ensures.frame links c.set_link.ensures.bytes in
     record {
       free = search rules;

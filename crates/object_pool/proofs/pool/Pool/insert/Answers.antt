@@ -36,7 +36,7 @@ new_object c = record { run = c.unwrap-run.result; size = 0; parts = no_parts }
 entries : (c : goal.Joined-branch-4) → c.insert.new.self.entries ≡ insert_entry key_cmp c.self.inside.objects.entries c.args.key.now (new_object c)
 entries c =
     let with_parts : Parts → Stored = λ p. record { run = c.unwrap-run.result; size = 0; parts = p } in
-    c.in_ok-insert.ensures.entries ∙ ap₂ (λ k p. insert_entry key_cmp c.self.inside.objects.entries k (with_parts p)) c.in_ok-key.ensures c.in_ok-parts.ensures
+    c.in_ok-insert.ensures.entries ∙ ap₂ (λ k p. insert_entry key_cmp c.self.inside.objects.entries k (with_parts p)) c.in_ok-key.ensures.cases c.in_ok-parts.ensures
 
 pub invariant_of-self-2 : goal.invariant_of-self-2
 invariant_of-self-2 c =
@@ -48,7 +48,7 @@ found : (c : goal.Joined-branch-4) → lookup (is_key c.args.key.now) c.insert.n
 found c =
     let with_parts : Parts → Stored = λ p. record { run = c.unwrap-run.result; size = 0; parts = p } in
     let at : lookup (is_key c.in_ok-key.key) c.insert.new.self.entries ≡ Some (with_parts c.in_ok-parts.parts) = c.in_ok-insert.ensures.updates.1 in
-    subst (λ k. lookup (is_key k) c.insert.new.self.entries ≡ Some (with_parts c.in_ok-parts.parts)) c.in_ok-key.ensures at ∙ ap (λ p. Some (with_parts p)) c.in_ok-parts.ensures
+    subst (λ k. lookup (is_key k) c.insert.new.self.entries ≡ Some (with_parts c.in_ok-parts.parts)) c.in_ok-key.ensures.cases at ∙ ap (λ p. Some (with_parts p)) c.in_ok-parts.ensures
 
 pub returns-clause-there : goal.returns-clause-there
 returns-clause-there c = sym (kept_or_not c.take.new.self c.insert.new.self.entries _ (is_key c.args.key.now) refl) ∙ ap is_some (found c)
@@ -67,7 +67,7 @@ returns-clause-all c q =
     let key = c.args.key.now in
     let with_parts : Parts → Stored = λ p. record { run = c.unwrap-run.result; size = 0; parts = p } in
     let at : (x : Key) → lookup (is_key x) c.insert.new.self.entries ≡ cond (is_key key x) (Some (new_object c)) (lookup (is_key x) c.self.inside.objects.entries) =
-    λ x. c.in_ok-insert.ensures.updates.0 x ∙ ap₂ (λ k p. cond (is_key k x) (Some (with_parts p)) (lookup (is_key x) c.self.inside.objects.entries)) c.in_ok-key.ensures c.in_ok-parts.ensures in
+    λ x. c.in_ok-insert.ensures.updates.0 x ∙ ap₂ (λ k p. cond (is_key k x) (Some (with_parts p)) (lookup (is_key x) c.self.inside.objects.entries)) c.in_ok-key.ensures.cases c.in_ok-parts.ensures in
     inserted_same c.self.inside.region c.take.new.self c.self.inside.objects.entries c.insert.new.self.entries key (new_object c) refl at (none c)
     (added_view c.self.inside.region c.take.new.self _ _ c.self.invariant c.unwrap-run.result (adds c)) q
     ∙ ap (λ z. settled (slot_at z q)) (ap (λ p. p.slots) c.self.view_is)

@@ -1,6 +1,0 @@
-use Rattle.std.proofs.Common.{Err, ap}
-use Rattle.rgw_main.proofs.Outcomes.{runs_for_words, runs_unread}
-use Rattle.rgw_main.proofs.run.run.Goals as goal
-
-pub returns-in-Err-OutOfMemory-clause-runs : goal.returns-in-Err-OutOfMemory-clause-runs
-returns-in-Err-OutOfMemory-clause-runs g c = runs_unread _ _ (c.in-Err-OutOfMemory.ensures.out_of_memory (ap Err c.in-Err-OutOfMemory.field-0-is))

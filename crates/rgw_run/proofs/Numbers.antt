@@ -1,0 +1,17 @@
+-- A number that was not read.
+use Rattle.std.proofs.Common.{◌≡◌, ℕ, true, List, None, Err, arith, rules}
+use Rattle.std.specs.List.{list_all}
+use Rattle.std.specs.Char.{is_ascii_digit}
+use Rattle.std.specs.Str.Parse.{digits_value, ParsesUnsigned}
+use Rattle.std.proofs.lemmas.Str.Parse.{IsNumeralModel, numerals_by_value, parse_digits}
+use Rattle.std.proofs.lemmas.Grind.{common_steps}
+use Rattle.rgw_run.specs.Words.{moment_of}
+
+digits : IsNumeralModel (λ ds. list_all is_ascii_digit ds ≡ true) (digits_value 10)
+digits = numerals_by_value _ (search rules)
+
+-- digits that are no number of 64 bits say no moment
+pub moment_of-unread : {E : Type 0} (word : List ℕ) (e : E) → ParsesUnsigned 64 10 word (Err e) → list_all is_ascii_digit word ≡ true → None ≡ moment_of word
+moment_of-unread word e unread all =
+    let large = parse_digits digits 64 word (Err e) unread all in
+    grind (arith, common_steps, large)

@@ -1,0 +1,16 @@
+//! A run of the gateway: what its words ask, over any input, output and clock, and over those of the
+//! system.
+#![tactic(auto)]
+
+mod running;
+mod status;
+mod system;
+mod words;
+
+pub use running::run;
+pub use status::Status;
+pub use system::run_on_system;
+pub use words::{Once, WordsFault, read_words};
+
+#[cfg(test)]
+mod tests;

@@ -1,0 +1,227 @@
+// Words and runs whose answers come from the manual and from examples worked by hand.
+ghost use Rattle.std.specs.Prelude.{◌≤◌};
+
+use crate::running::run;
+use crate::words::{WordsFault, read_words};
+use gw_io::{SliceSource, StepClock, VecSink};
+use std::alloc::{AllocError, Global};
+use std::test::Fail;
+
+/// A PUT of `hello` and a GET of it.
+const PUT_THEN_GET: &[u8] =
+    b"PUT /swift/v1/AUTH_acme/box/k HTTP/1.1\r\nHost: h\r\nX-Auth-Token: AUTH_tk1\r\nContent-Type: text/plain\r\nContent-Length: 5\r\n\r\nhelloGET /swift/v1/AUTH_acme/box/k HTTP/1.1\r\nHost: h\r\nX-Auth-Token: AUTH_tk1\r\n\r\n";
+
+/// What they are replied on the 14th of November 2023.
+const STORED_AND_SHOWN: &[u8] =
+    b"HTTP/1.1 201 Created\r\nContent-Length: 0\r\nETag: 5d41402abc4b2a76b9719d911017c592\r\nLast-Modified: Tue, 14 Nov 2023 22:13:20 GMT\r\n\r\nHTTP/1.1 200 OK\r\nContent-Length: 5\r\nContent-Type: text/plain\r\nETag: 5d41402abc4b2a76b9719d911017c592\r\nLast-Modified: Tue, 14 Nov 2023 22:13:20 GMT\r\nAccept-Ranges: bytes\r\n\r\nhello";
+
+/// A PUT whose body is cut.
+const CUT_PUT: &[u8] =
+    b"PUT /swift/v1/AUTH_acme/box/k HTTP/1.1\r\nHost: h\r\nX-Auth-Token: AUTH_tk1\r\nContent-Type: text/plain\r\nContent-Length: 5\r\n\r\nhel";
+
+const GET_WITHOUT_TOKEN: &[u8] = b"GET /swift/v1/AUTH_acme/box/k HTTP/1.1\r\nHost: h\r\n\r\n";
+
+const UNAUTHORIZED: &[u8] =
+    b"HTTP/1.1 401 Unauthorized\r\nContent-Length: 13\r\nContent-Type: text/plain; charset=utf-8\r\nWWW-Authenticate: Swift realm=\"rgw\"\r\n\r\nUnauthorized\n";
+
+const GET_OF_NOTHING: &[u8] =
+    b"GET /swift/v1/AUTH_acme/box/k HTTP/1.1\r\nHost: h\r\nX-Auth-Token: AUTH_tk1\r\n\r\n";
+
+const NO_OBJECT: &[u8] =
+    b"HTTP/1.1 404 Not Found\r\nContent-Length: 15\r\nContent-Type: text/plain; charset=utf-8\r\n\r\nNo such object\n";
+
+const BAD_HEAD: &[u8] =
+    b"HTTP/1.1 400 Bad Request\r\nContent-Length: 18\r\nContent-Type: text/plain; charset=utf-8\r\nConnection: close\r\n\r\nBad request: head\n";
+
+const AT_ONE_MOMENT: &[&str] = &["once", "--bucket", "box", "--now", "1700000000000000"];
+
+const BY_THE_CLOCK: &[&str] = &["once", "--bucket", "box"];
+
+const REFUSED: &[&[&str]] = &[
+    &[],
+    &["once"],
+    &["once", "x"],
+    &["once", "--bucket"],
+    &["once", "box"],
+    &["once", "--bucket", ""],
+    &["once", "--bucket", "-x"],
+    &["once", "--bucket", "-"],
+    &["once", "--bucket", "a\0b"],
+    &["once", "--bucket=box"],
+    &["once", "--bucket", "box", "x"],
+    &["once", "--bucket", "box", "--now"],
+    &["once", "--bucket", "box", "--now", ""],
+    &["once", "--bucket", "box", "--now", "253402300800000000"],
+    &["once", "--bucket", "box", "--now", "18446744073709551617"],
+    &["once", "--bucket", "box", "--now", "+1"],
+    &["once", "--bucket", "box", "--now", "-1"],
+    &["once", "--bucket", "box", "--now", "1x"],
+    &["once", "--bucket", "box", "--now", "1", "x"],
+    &["once", "--bucket", "box", "--bucket", "box"],
+    &["once", "--now", "1", "--bucket", "box"],
+    &["Once", "--bucket", "box"],
+    &["serve", "--bucket", "box"],
+    &["--bucket", "box"],
+    &["--help"],
+    &["help"],
+];
+
+fn strings(alloc: Global, words: &[&str]) -> Result<Vec<String>, AllocError> {
+    let mut all = Vec::new(alloc);
+    for word in words {
+        all.push(String::from_str(alloc, word)?)?;
+    }
+    Ok(all)
+}
+
+fn letters(alloc: Global, count: usize) -> Result<String, AllocError> {
+    let mut text = String::new(alloc);
+    for _ in 0..count {
+        text.push('a')?;
+    }
+    Ok(text)
+}
+
+/// Why the words are not read, if they are not.
+fn fault_of(alloc: Global, words: &[&str]) -> Result<Option<WordsFault>, AllocError> {
+    let words = strings(alloc, words)?;
+    match read_words(alloc, &words) {
+        Ok(_) => Ok(None),
+        Err(fault) => Ok(Some(fault)),
+    }
+}
+
+/// How input and output behave: the greatest piece, and the calls that fail.
+#[derive(Drop)]
+struct Streams<'a> {
+    piece: usize,
+    failing_reads: &'a [u64],
+    failing_writes: &'a [u64],
+    ghost some: { 1 ≤ piece },
+}
+
+/// The status of a run, and what it wrote. The clock begins on the 14th of November 2023 and goes in
+/// steps of a second.
+fn outcome(
+    alloc: Global,
+    words: &[&str],
+    bytes: &[u8],
+    streams: &Streams<'_>,
+) -> Result<(u8, Vec<u8>), AllocError> {
+    let words = strings(alloc, words)?;
+    let mut input = SliceSource::new(bytes, streams.piece, streams.failing_reads);
+    let mut output = VecSink::new(alloc, streams.piece, streams.failing_writes);
+    let mut clock = StepClock::new(1_700_000_000_000_000, 1_000_000);
+    let status = run(alloc, &words, &mut input, &mut output, &mut clock);
+    Ok((status.number, output.into_bytes()))
+}
+
+#[test]
+fn words_of_once_are_taken(rt: HostRuntime) -> Result<(), Fail> {
+    let longest = letters(rt.alloc(), 256)?;
+    let longest = longest.as_str();
+    let table: [(&[&str], &str, Option<u64>); 8] = [
+        (&["once", "--bucket", "box"], "box", None),
+        (AT_ONE_MOMENT, "box", Some(1_700_000_000_000_000)),
+        (
+            &["once", "--bucket", "box", "--now", "253402300799999999"],
+            "box",
+            Some(253_402_300_799_999_999),
+        ),
+        (&["once", "--bucket", "box", "--now", "0"], "box", Some(0)),
+        (&["once", "--bucket", "box", "--now", "00"], "box", Some(0)),
+        (
+            &[
+                "once",
+                "--bucket",
+                "box",
+                "--now",
+                "000000000000000000000000000007",
+            ],
+            "box",
+            Some(7),
+        ),
+        (
+            &["once", "--bucket", "a-b é/", "--now", "7"],
+            "a-b é/",
+            Some(7),
+        ),
+        (&["once", "--bucket", longest], longest, None),
+    ];
+    for (words, bucket, now) in table {
+        let words = strings(rt.alloc(), words)?;
+        match read_words(rt.alloc(), &words) {
+            Ok(once) => {
+                assert_eq!(rt; once.bucket.as_str(), bucket);
+                assert_eq!(rt; once.now, now, "{words:?}");
+            }
+            Err(fault) => panic!(rt; "{words:?}: {fault:?}"),
+        }
+    }
+    Ok(())
+}
+
+#[test]
+fn other_words_are_refused(rt: HostRuntime) -> Result<(), Fail> {
+    for words in REFUSED {
+        assert_eq!(rt;
+            fault_of(rt.alloc(), words)?,
+            Some(WordsFault::Refused),
+            "{words:?}"
+        );
+    }
+    let too_long = letters(rt.alloc(), 257)?;
+    let words = ["once", "--bucket", too_long.as_str()];
+    assert_eq!(rt; fault_of(rt.alloc(), &words)?, Some(WordsFault::Refused));
+    Ok(())
+}
+
+#[test]
+fn connections_are_replied_so_in_any_pieces(rt: HostRuntime) -> Result<(), Fail> {
+    let table: [(&[&str], &[u8], &[u8], u8); 7] = [
+        (AT_ONE_MOMENT, PUT_THEN_GET, STORED_AND_SHOWN, 0),
+        (BY_THE_CLOCK, PUT_THEN_GET, STORED_AND_SHOWN, 0),
+        (AT_ONE_MOMENT, b"", b"", 0),
+        (AT_ONE_MOMENT, GET_WITHOUT_TOKEN, UNAUTHORIZED, 0),
+        (AT_ONE_MOMENT, GET_OF_NOTHING, NO_OBJECT, 0),
+        (AT_ONE_MOMENT, b"GET\r\n\r\n", BAD_HEAD, 5),
+        (AT_ONE_MOMENT, CUT_PUT, b"", 5),
+    ];
+    for (row, (words, bytes, replies, status)) in table.into_iter().enumerate() {
+        for piece in [1, 7, 4096] {
+            let streams = Streams {
+                piece,
+                failing_reads: &[],
+                failing_writes: &[],
+            };
+            let (number, written) = outcome(rt.alloc(), words, bytes, &streams)?;
+            assert_eq!(rt; number, status, "row {row} in pieces of {piece}");
+            assert_eq!(rt;
+                written.as_slice(),
+                replies,
+                "row {row} in pieces of {piece}"
+            );
+        }
+    }
+    Ok(())
+}
+
+#[test]
+fn a_failure_gives_its_status_and_a_front(rt: HostRuntime) -> Result<(), Fail> {
+    // In pieces of 7 bytes there are at least so many reads, the one at the end among them, and so
+    // many writes.
+    for (reads, writes, status) in [(30, 0, 2), (0, 44, 3)] {
+        for call in 0..reads + writes {
+            let calls = [call];
+            let streams = Streams {
+                piece: 7,
+                failing_reads: if reads > 0 { &calls } else { &[] },
+                failing_writes: if writes > 0 { &calls } else { &[] },
+            };
+            let (number, written) = outcome(rt.alloc(), AT_ONE_MOMENT, PUT_THEN_GET, &streams)?;
+            assert_eq!(rt; number, status, "at call {call}");
+            assert!(rt; STORED_AND_SHOWN.starts_with(&written), "at call {call}");
+        }
+    }
+    Ok(())
+}
