@@ -52,7 +52,7 @@ impl Pool {
 }
 
 impl Place<'_> {
-    ghost use Rattle.std.specs.Prelude.{◌≡◌, ◌↔◌, ◌+◌, ◌-◌, ◌^◌, ◌<◌, ◌≤◌, IfErr, IfNone, IfOk, IfSome, IsErr, IsSome, IsTrue, None, OnErr, OnOk, Some, drop, is_some, length, min, option_map, take};
+    ghost use Rattle.std.specs.Prelude.{◌≡◌, ◌↔◌, ◌+◌, ◌-◌, ◌^◌, ◌<◌, ◌≤◌, IfErr, IfNone, IfOk, IfSome, IsErr, IsOk, IsSome, IsTrue, None, OnErr, OnOk, Some, drop, is_some, length, max, min, option_map, take};
     ghost use Rattle.std.specs.Bool.{OnFalse};
     ghost use Rattle.std.specs.Int.{div_ceil};
     ghost use Rattle.std.specs.List.{splice};
@@ -181,13 +181,17 @@ impl Place<'_> {
             .remove_range(from, to)
     }
 
-    /// Makes the room of the row at the key at least `room` bytes, so that [`Place::splice_row`] can
-    /// make its value as long. After an error nothing has changed.
+    /// Makes the room of the row at the key `room` bytes, where it is lower, so that
+    /// [`Place::splice_row`] can make its value as long; where it is as great already no memory is
+    /// taken. After an error nothing has changed.
     #[tactic(auto, using(crate::proofs::PlaceLemmas::rows_now))]
     pub fn widen_row(&mut self, _alloc: Global, key: &[u8], room: u64) -> Result<(), OutOfMemory>
         requires { IsSome (value_at (rows_of self.old).rows key.now) }
         ensures change { ChangesRows self.old self.new }
         ensures ok { OnOk result (room ≤ room_at (rows_of self.new).rooms key.now) }
+        ensures exact { OnOk result (
+            room_at (rows_of self.new).rooms key.now ≡ max (room_at (rows_of self.old).rooms key.now) room) }
+        ensures enough { room ≤ room_at (rows_of self.old).rooms key.now → IsOk result }
         ensures rows { (rows_of self.new).rows ≡ (rows_of self.old).rows }
         ensures rooms { KeepsRooms (rows_of self.old) (rows_of self.new) }
         ensures spare { (rows_of self.new).spare ≡ (rows_of self.old).spare }
@@ -223,12 +227,15 @@ impl Place<'_> {
             .splice(key, start, count, bytes);
     }
 
-    /// Makes the number of spare rows at least `rows`. They stay ready while the object exists or the
-    /// place is held. After an error nothing has changed.
+    /// Makes the number of spare rows `count`, where it is lower; where there are as many already no
+    /// memory is taken. They stay ready while the object exists or the place is held. After an error
+    /// nothing has changed.
     #[tactic(auto, using(crate::proofs::PlaceLemmas::rows_now))]
     pub fn reserve_rows(&mut self, _alloc: Global, count: u64) -> Result<(), OutOfMemory>
         ensures change { ChangesRows self.old self.new }
         ensures ok { OnOk result (count ≤ (rows_of self.new).spare) }
+        ensures exact { OnOk result ((rows_of self.new).spare ≡ max (rows_of self.old).spare count) }
+        ensures enough { count ≤ (rows_of self.old).spare → IsOk result }
         ensures kept { (rows_of self.old).spare ≤ (rows_of self.new).spare }
         ensures rows { (rows_of self.new).rows ≡ (rows_of self.old).rows }
         ensures rooms { KeepsRooms (rows_of self.old) (rows_of self.new) }
