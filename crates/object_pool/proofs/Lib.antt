@@ -6,6 +6,7 @@ pub mod Keys
 pub mod Lent
 pub mod PlaceLemmas
 pub mod Replacements
+pub mod RowLemmas
 pub mod SlotLemmas
 pub mod Sweeps
 pub mod Touches

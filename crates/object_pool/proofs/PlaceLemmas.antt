@@ -1,13 +1,13 @@
 -- What a place is where the object at it is changed.
-use Rattle.std.proofs.Common.{◌≡◌, ℕ, List, Some, IsSome, Result, Ok, Err, IsErr, OnOk, OnErr, ◌↔◌, refl, sym, ◌∙◌, ap, ap₂, subst}
+use Rattle.std.proofs.Common.{◌≡◌, ℕ, ◌≤◌, List, Some, IsSome, Result, Ok, Err, IsErr, OnOk, OnErr, ◌↔◌, refl, sym, ◌∙◌, ap, ap₂, subst}
 use Rattle.std.specs.Map.{lookup, set_value}
 use Rattle.std.proofs.lemmas.Map.Steps.{set_value_same}
-use Rattle.omap_pages.specs.Contents.{Contents}
+use Rattle.omap_pages.specs.Contents.{Contents, KeepsRooms}
 use Rattle.object_pool.specs.declared.place.Place.{Place}
 use Rattle.object_pool.specs.Parts.{Parts}
 use Rattle.object_pool.specs.Lending.{with_parts}
 use Rattle.object_pool.specs.Objects.{Object, PoolView, HasFrameSum, is_key, nothing, settled, slot_at, with_object}
-use Rattle.object_pool.specs.Places.{Becomes, Changes, ChangesRows, Stays, borrow_of, key_of, object_of, pool_of, rows_of}
+use Rattle.object_pool.specs.Places.{Becomes, Changes, ChangesRows, Readies, Stays, borrow_of, key_of, object_of, pool_of, rows_of}
 use Rattle.object_pool.proofs.EntryLemmas.{found_there}
 use Rattle.object_pool.proofs.Touches.{at_key, elsewhere, same_sum, still_there}
 
@@ -55,6 +55,15 @@ rows_change old new w after key borrow attrs =
     let o = object_of old in
     let is : changed old w ≡ record o { rows = rows_of new } = λ i. record { bytes = o.bytes; attrs = attrs i; rows = (sym change.object i).rows } in
     subst (λ z. Becomes old new z (pool_of old).free) is change
+
+-- where rows, and rooms and spare rows that are no lower, are written
+pub readied : (old new : Place) (before after : Contents) → ChangesRows old new → rows_of new ≡ after → before ≡ rows_of old → after.rows ≡ before.rows → KeepsRooms before after → before.spare ≤ after.spare → Readies old new
+readied old new before after change now was rows rooms spare = record {
+  change = change;
+  rows = ap (λ (c : Contents). c.rows) now ∙ rows ∙ ap (λ (c : Contents). c.rows) was;
+  rooms = subst (λ c. KeepsRooms c (rows_of new)) was (subst (λ c. KeepsRooms before c) (sym now) rooms);
+  spare = subst (λ (c : Contents). c.spare ≤ (rows_of new).spare) was (subst (λ (c : Contents). before.spare ≤ c.spare) (sym now) spare);
+}
 
 -- after an error nothing has changed
 pub stays_on_err : {E : Type 0} (result : Result (Unit {0}) E) (old new : Place) (rows : Contents) (attrs : List ℕ) → pool_of new ≡ with_parts (pool_of old) (key_of old) (record { attrs = attrs; rows = rows }) → key_of new ≡ key_of old → borrow_of new ≡ borrow_of old → attrs ≡ (object_of old).attrs → OnErr result (rows ≡ rows_of old) → OnErr result (Stays old new)

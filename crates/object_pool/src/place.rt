@@ -19,17 +19,18 @@ pub struct Place<'a> {
 }
 
 impl Pool {
-    ghost use Rattle.std.specs.Prelude.{◌≡◌, ◌↔◌, IfOk, IfSome, IsTrue};
+    ghost use Rattle.std.specs.Prelude.{◌≡◌, ◌↔◌, IfOk, IfSome, IsOk, IsTrue};
     ghost use Rattle.std.specs.Borrow.{sem};
     ghost use Rattle.object_pool.specs.Objects.{object_at, exists};
     ghost use Rattle.object_pool.specs.Places.{IsPlaceIn, borrow_of, pool_of, rests_if_none, rests_if_refused};
 
     /// The place of a key, whether its object exists or not. A key that has none yet is copied. It
-    /// fails only for want of memory, and then the pool is as it was.
+    /// fails only for want of memory, and then the pool is as it was; it takes none where the object exists.
     pub fn place<'a>(&'a mut self, alloc: Global, key: &'a Key) -> Result<Place<'a>, OutOfMemory>
         ensures* unchanged_at_err { sem 𝓛 (rests_if_refused self.entry result) }
         ensures same_borrow { IfOk result (λ place. borrow_of place ≡ self.entry.ghost_name) }
         ensures ok { IfOk result (λ place. IsPlaceIn self.old key.now (object_at self.old key.now) place) }
+        ensures there { IsTrue (exists (object_at self.old key.now)) → IsOk result }
     {
         self.make_ready(alloc, key)?;
         Ok(Place { pool: self, key })
@@ -51,7 +52,7 @@ impl Pool {
 }
 
 impl Place<'_> {
-    ghost use Rattle.std.specs.Prelude.{◌≡◌, ◌↔◌, ◌+◌, ◌-◌, ◌^◌, ◌<◌, ◌≤◌, IfErr, IfNone, IfOk, IfSome, IsErr, IsSome, IsTrue, None, OnErr, OnOk, Some, drop, is_some, length, min, option_map, take};
+    ghost use Rattle.std.specs.Prelude.{◌≡◌, ◌↔◌, ◌+◌, ◌-◌, ◌^◌, ◌<◌, ◌≤◌, IfErr, IfNone, IfOk, IfSome, IsErr, IsOk, IsSome, IsTrue, None, OnErr, OnOk, Some, drop, is_some, length, max, min, option_map, take};
     ghost use Rattle.std.specs.Bool.{OnFalse};
     ghost use Rattle.std.specs.Int.{div_ceil};
     ghost use Rattle.std.specs.List.{splice};
@@ -60,7 +61,7 @@ impl Place<'_> {
     ghost use Rattle.omap_pages.specs.Rows as rows;
     ghost use Rattle.omap_pages.specs.Rows.{IsInOrder, value_at, with_row, without_row, rows_after, rows_within, rows_outside, HasNoneWithin, KeepsOutside};
     ghost use Rattle.object_pool.specs.Objects.{dropped, exists, frames_of};
-    ghost use Rattle.object_pool.specs.Places.{Becomes, Changes, ChangesRows, Stays, object_of, pool_of, rows_of};
+    ghost use Rattle.object_pool.specs.Places.{Becomes, Changes, ChangesRows, Readies, Stays, object_of, pool_of, rows_of};
 
     /// Whether the object has bytes, attributes or rows.
     pub fn exists(&self) -> bool
@@ -180,16 +181,21 @@ impl Place<'_> {
             .remove_range(from, to)
     }
 
-    /// Makes the room of the row at the key at least `room` bytes, so that [`Place::splice_row`] can
-    /// make its value as long. After an error nothing has changed.
+    /// Makes the room of the row at the key `room` bytes, where it is lower, so that
+    /// [`Place::splice_row`] can make its value as long; where it is as great already no memory is
+    /// taken. After an error nothing has changed.
     #[tactic(auto, using(crate::proofs::PlaceLemmas::rows_now))]
     pub fn widen_row(&mut self, _alloc: Global, key: &[u8], room: u64) -> Result<(), OutOfMemory>
         requires { IsSome (value_at (rows_of self.old).rows key.now) }
         ensures change { ChangesRows self.old self.new }
         ensures ok { OnOk result (room ≤ room_at (rows_of self.new).rooms key.now) }
+        ensures exact { OnOk result (
+            room_at (rows_of self.new).rooms key.now ≡ max (room_at (rows_of self.old).rooms key.now) room) }
+        ensures enough { room ≤ room_at (rows_of self.old).rooms key.now → IsOk result }
         ensures rows { (rows_of self.new).rows ≡ (rows_of self.old).rows }
         ensures rooms { KeepsRooms (rows_of self.old) (rows_of self.new) }
         ensures spare { (rows_of self.new).spare ≡ (rows_of self.old).spare }
+        ensures readied { Readies self.old self.new }
         ensures err { OnErr result (Stays self.old self.new) }
     {
         self.pool.parts_mut(self.key).rows_mut().widen(key, room)
@@ -221,15 +227,19 @@ impl Place<'_> {
             .splice(key, start, count, bytes);
     }
 
-    /// Makes the number of spare rows at least `rows`. They stay ready while the object exists or the
-    /// place is held. After an error nothing has changed.
+    /// Makes the number of spare rows `count`, where it is lower; where there are as many already no
+    /// memory is taken. They stay ready while the object exists or the place is held. After an error
+    /// nothing has changed.
     #[tactic(auto, using(crate::proofs::PlaceLemmas::rows_now))]
     pub fn reserve_rows(&mut self, _alloc: Global, count: u64) -> Result<(), OutOfMemory>
         ensures change { ChangesRows self.old self.new }
         ensures ok { OnOk result (count ≤ (rows_of self.new).spare) }
+        ensures exact { OnOk result ((rows_of self.new).spare ≡ max (rows_of self.old).spare count) }
+        ensures enough { count ≤ (rows_of self.old).spare → IsOk result }
         ensures kept { (rows_of self.old).spare ≤ (rows_of self.new).spare }
         ensures rows { (rows_of self.new).rows ≡ (rows_of self.old).rows }
         ensures rooms { KeepsRooms (rows_of self.old) (rows_of self.new) }
+        ensures readied { Readies self.old self.new }
         ensures err { OnErr result (Stays self.old self.new) }
     {
         self.pool.parts_mut(self.key).rows_mut().reserve(count)

@@ -1,4 +1,4 @@
-ghost use Rattle.std.specs.Prelude.{◌≡◌, ◌↔◌, ◌+◌, ◌-◌, ◌^◌, ◌<◌, ◌≤◌, [], IfOk, IfErr, OnOk, OnErr, IsErr, IsTrue, IsSome, IsNone, is_some, false, min, length, take, drop};
+ghost use Rattle.std.specs.Prelude.{◌≡◌, ◌↔◌, ◌+◌, ◌-◌, ◌^◌, ◌<◌, ◌≤◌, [], IfOk, IfErr, OnOk, OnErr, IsErr, IsOk, IsTrue, IsSome, IsNone, is_some, false, min, length, take, drop};
 ghost use Rattle.std.specs.Borrow.{sem};
 ghost use Rattle.std.specs.Int.{div_ceil};
 ghost use Rattle.std.specs.Map.{lookup};
@@ -106,6 +106,7 @@ impl Pool {
     pub(crate) fn make_ready(&mut self, alloc: Global, key: &Key) -> Result<(), OutOfMemory>
         ensures there { OnOk result (IsSome (lookup (is_key key.now) self.new.slots)) }
         ensures object { OnOk result (slot_at self.new.slots key.now ≡ object_at self.old key.now) }
+        ensures exists { IsTrue (exists (slot_at self.old.slots key.now)) → IsOk result }
         ensures objects { objects self.new ≡ objects self.old }
         ensures all { KeepsAll self.old self.new }
         ensures counts { KeepsCounts self.old self.new }

@@ -1,11 +1,9 @@
 mod callers;
-mod twin;
 
 use super::{NoSpace, OutOfMemory, Pool};
 use rgw_types::{Bytes, Key, PartNumber, Text};
 use std::alloc::Global;
 use std::test::Fail;
-use twin::Twin;
 
 fn bytes(alloc: Global, text: &[u8]) -> Result<Bytes, OutOfMemory> {
     Ok(Bytes::from_slice(alloc, text)?)
@@ -142,15 +140,5 @@ fn spare_rows_become_rows(rt: HostRuntime) -> Result<(), Fail> {
     let place = pool.find(&Key::Queue).expect(&rt, "the queue");
     assert_eq!(rt; place.row(b"1"), Some(b"one".as_slice()));
     assert!(rt; pool.find(&Key::Changes).is_none());
-    Ok(())
-}
-
-#[test]
-fn calls_agree_with_plain_objects(rt: HostRuntime) -> Result<(), Fail> {
-    let mut twin = Twin::new(rt.alloc(), 11)?;
-    for _ in 0..4000 {
-        twin.step(&rt)?;
-        twin.check(&rt)?;
-    }
     Ok(())
 }

@@ -158,3 +158,50 @@ impl Clone for MediaType {
         })
     }
 }
+
+#[cfg(test)]
+mod tests {
+    use super::*;
+    use std::test::Fail;
+
+    #[test]
+    fn names_and_their_copies(rt: HostRuntime) -> Result<(), Fail> {
+        for (text, taken) in [("k", true), ("a/b", true), ("", false), ("a\0b", false)] {
+            let text = Text::from_str(rt.alloc(), text)?;
+            assert_eq!(rt; ObjectName::new(text).is_ok(), taken);
+        }
+        let text = Text::from_str(rt.alloc(), "a/b")?;
+        let name = ObjectName::new(text).ok().ok_or("no name")?;
+        assert!(rt; name.clone()?.into_text().is("a/b"));
+        Ok(())
+    }
+
+    #[test]
+    fn the_longest_names(rt: HostRuntime) -> Result<(), Fail> {
+        for (count, object, bucket) in [
+            (256, true, true),
+            (257, true, false),
+            (1024, true, false),
+            (1025, false, false),
+        ] {
+            let text = Text::from_string("x".repeat(rt.alloc(), count)?);
+            assert_eq!(rt;
+                BucketName::new(text.clone()?).is_ok(),
+                bucket,
+                "at {count}"
+            );
+            assert_eq!(rt; ObjectName::new(text).is_ok(), object, "at {count}");
+        }
+        Ok(())
+    }
+
+    #[test]
+    fn types_and_their_copies(rt: HostRuntime) -> Result<(), Fail> {
+        let kind = MediaType::new(Text::from_str(rt.alloc(), "text/plain")?)
+            .ok()
+            .ok_or("too long")?;
+        assert!(rt; kind.clone()?.into_text().is("text/plain"));
+        assert!(rt; MediaType::absent(rt.alloc()).as_text().is_empty());
+        Ok(())
+    }
+}

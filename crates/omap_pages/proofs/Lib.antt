@@ -1,7 +1,14 @@
 pub mod CellLemmas
+pub mod CutLemmas
+pub mod DirectoryLemmas
 pub mod FilterLemmas
+pub mod FlatLemmas
+pub mod KeyLemmas
+pub mod LeavesLemmas
 pub mod PageLemmas
 pub mod PlaceLemmas
 pub mod RangeLemmas
+pub mod RowLaws
 pub mod Searched
 pub mod Splices
+pub mod WalkLemmas

@@ -1,5 +1,5 @@
 -- What a binary search finds among rows in order.
-use Rattle.std.proofs.Common.{◌≡◌, ℕ, ◌+◌, ◌<◌, true, List, length, get_or, Result, Ok, Err, IfOk, IfErr, sym, ap, ◌∙◌, arith}
+use Rattle.std.proofs.Common.{◌≡◌, ℕ, ◌+◌, ◌<◌, true, List, length, get_or, Result, Ok, Err, IfOk, IfErr, sym, ap, subst, ◌∙◌, arith}
 use Rattle.std.specs.List.Sorted.{IsSearchInRange, IsBinarySearchResult, IsNonDecreasingBy}
 use Rattle.std.specs.Ordering.{is_lt, ordering_reverse, ordering_index}
 use Rattle.std.specs.declared.cmp.Ordering.{Ordering}
@@ -12,17 +12,17 @@ use Rattle.omap_pages.specs.Rows.{key_cmp}
 use Rattle.omap_pages.specs.Places.{IsAt, IsGapFor}
 use Rattle.omap_pages.proofs.PlaceLemmas.{less_at, ComesAfter}
 
-turned : {K : Type 0} {R : K → K → Ordering} (o : IsTotalOrder R) (a b : K) (r : Ordering) → R a b ≡ r → R b a ≡ ordering_reverse r
+pub turned : {K : Type 0} {R : K → K → Ordering} (o : IsTotalOrder R) (a b : K) (r : Ordering) → R a b ≡ r → R b a ≡ ordering_reverse r
 turned o a b r e = o.antisymm b a ∙ ap ordering_reverse e
 
 module _ {K X : Type 0} {R : K → K → Ordering} (o : IsTotalOrder R) where
   comparisons_rise : (es : List (K × X)) → is_sorted R es ≡ true → (k : K) → IsNonDecreasingBy (λ e. ordering_index (R e.0 k)) es
   comparisons_rise es sorted k = searchable_from_sorted o (λ (e : K × X). e.0) es k (λ j d low high. ap is_lt (turned o _ _ Less (less_at R es sorted j (j + 1) d (omega arith) high)))
 
-  before_at : (es : List (K × X)) → is_sorted R es ≡ true → (k : K) (i : ℕ) → i < length es → ((d : K × X) → R (get_or es i d).0 k ≡ Equal) → ComesAfter R es k i
+  pub before_at : (es : List (K × X)) → is_sorted R es ≡ true → (k : K) (i : ℕ) → i < length es → ((d : K × X) → R (get_or es i d).0 k ≡ Equal) → ComesAfter R es k i
   before_at es sorted k i lt tie j d l = sym (o.congr _ _ _ (tie d)) ∙ turned o _ _ Less (less_at R es sorted j i d l lt)
 
-  after_at : (es : List (K × X)) → is_sorted R es ≡ true → (k : K) (i : ℕ) → ((d : K × X) → R (get_or es i d).0 k ≡ Equal) → (j : ℕ) (d : K × X) → i < j → j < length es → R k (get_or es j d).0 ≡ Less
+  pub after_at : (es : List (K × X)) → is_sorted R es ≡ true → (k : K) (i : ℕ) → ((d : K × X) → R (get_or es i d).0 k ≡ Equal) → (j : ℕ) (d : K × X) → i < j → j < length es → R k (get_or es j d).0 ≡ Less
   after_at es sorted k i tie j d l m = sym (o.congr _ _ _ (tie d)) ∙ less_at R es sorted i j d l m
 
 pub searched : {X : Type 0} (es : List (List ℕ × X)) → is_sorted key_cmp es ≡ true → (k : List ℕ) (r : Result ℕ ℕ) → IsSearchInRange r (length es) → IsBinarySearchResult (λ e. key_cmp e.0 k) es r → record { found : IfOk r (IsAt es k); absent : IfErr r (IsGapFor es k) }
@@ -43,3 +43,7 @@ searched es sorted k (Err i) in_range parted = record {
     after = λ j d l m. turned nat_list_cmp_total (get_or es j d).0 k Greater ((parted (comparisons_rise nat_list_cmp_total es sorted k)).1 j d l m);
   };
 }
+
+-- the list that was searched is es
+pub searched_in : {X : Type 0} (seen es : List (List ℕ × X)) → seen ≡ es → is_sorted key_cmp es ≡ true → (k : List ℕ) (r : Result ℕ ℕ) → IsSearchInRange r (length seen) → IsBinarySearchResult (λ e. key_cmp e.0 k) seen r → record { found : IfOk r (IsAt es k); absent : IfErr r (IsGapFor es k) }
+searched_in seen es same sorted k r in_range is = searched es sorted k r (subst (λ s. IsSearchInRange r (length s)) same in_range) (subst (λ s. IsBinarySearchResult (λ e. key_cmp e.0 k) s r) same is)

@@ -3,9 +3,12 @@
 #![tactic(auto)]
 
 mod error;
+mod leaf;
+mod leaves;
 mod lookup;
 mod omap;
 mod page;
+mod place;
 mod row;
 mod spares;
 

@@ -1,62 +1,97 @@
-// Where keys are in rows in order of their keys.
-ghost use Rattle.std.specs.Prelude.{◌≡◌, IsTrue, IsSome, IfOk, IfErr};
+// Where keys are in leaves whose rows are in order of their keys.
+ghost use Rattle.std.specs.Prelude.{◌≡◌, ◌<◌, length, IsTrue, IsSome, IfOk, IfErr};
 ghost use Rattle.std.specs.FinMap.Entries.{find, is_sorted};
 ghost use Rattle.std.specs.Ordering.{is_lt, is_le};
+ghost use Rattle.omap_pages.specs.Leaves.{flat, position, AreLeaves, IsPlace, IsRow};
 ghost use Rattle.omap_pages.specs.Places.{IsAt, IsGapFor, IsPartedAt};
 ghost use Rattle.omap_pages.specs.Rows.{key_cmp};
 
-use crate::row::Row;
+use crate::leaf::Leaf;
+use crate::place::Place;
 
 // The place of the key, or the place where it would go.
-pub(crate) fn search(rows: &[Row], key: &[u8]) -> Result<usize, usize>
-    requires { IsTrue (is_sorted key_cmp rows.now) }
-    ensures found { IfOk result (IsAt rows.now key.now) }
-    ensures absent { IfErr result (IsGapFor rows.now key.now) }
+pub(crate) fn search(leaves: &[Leaf], key: &[u8]) -> Result<Place, Place>
+    requires in_order { IsTrue (is_sorted key_cmp (flat leaves.now)) }
+    requires leaves { AreLeaves leaves.now }
+    ensures found { IfOk result (λ place.
+        IsAt (flat leaves.now) key.now (position leaves.now place)) }
+    ensures row { IfOk result (IsRow leaves.now) }
+    ensures absent { IfErr result (λ place.
+        IsGapFor (flat leaves.now) key.now (position leaves.now place)) }
+    ensures place { IfErr result (IsPlace leaves.now) }
+    ensures leaf { IfErr result (λ place.
+        0 < length leaves.now → place.leaf < length leaves.now) }
 {
-    rows.binary_search_by(|row| row.key().cmp(key))
+    match leaves.binary_search_by(|leaf| leaf.first_key().cmp(key)) {
+        Ok(leaf) => Ok(Place { leaf, row: 0 }),
+        Err(0) => Err(Place { leaf: 0, row: 0 }),
+        Err(above) => {
+            let leaf = above - 1;
+            match leaves[leaf].search(key) {
+                Ok(row) => Ok(Place { leaf, row }),
+                Err(row) => Err(Place { leaf, row }),
+            }
+        }
+    }
 }
 
 // The place of a key that is there.
-pub(crate) fn place_of(rows: &[Row], key: &[u8]) -> usize
-    requires in_order { IsTrue (is_sorted key_cmp rows.now) }
-    requires there { IsSome (find key_cmp key.now rows.now) }
-    ensures { IsAt rows.now key.now result }
+pub(crate) fn place_of(leaves: &[Leaf], key: &[u8]) -> Place
+    requires in_order { IsTrue (is_sorted key_cmp (flat leaves.now)) }
+    requires leaves { AreLeaves leaves.now }
+    requires there { IsSome (find key_cmp key.now (flat leaves.now)) }
+    ensures at { IsAt (flat leaves.now) key.now (position leaves.now result) }
+    ensures row { IsRow leaves.now result }
 {
-    match search(rows, key) {
-        Ok(at) => at,
+    match search(leaves, key) {
+        Ok(place) => place,
         Err(_) => unreachable!(),
     }
 }
 
 // The place where a key that is not there would go.
-pub(crate) fn gap_for(rows: &[Row], key: &[u8]) -> usize
-    requires in_order { IsTrue (is_sorted key_cmp rows.now) }
-    requires absent { find key_cmp key.now rows.now ≡ None }
-    ensures { IsGapFor rows.now key.now result }
+pub(crate) fn gap_for(leaves: &[Leaf], key: &[u8]) -> Place
+    requires in_order { IsTrue (is_sorted key_cmp (flat leaves.now)) }
+    requires leaves { AreLeaves leaves.now }
+    requires absent { find key_cmp key.now (flat leaves.now) ≡ None }
+    ensures gap { IsGapFor (flat leaves.now) key.now (position leaves.now result) }
+    ensures place { IsPlace leaves.now result }
 {
-    match search(rows, key) {
+    match search(leaves, key) {
         Ok(_) => unreachable!(),
-        Err(at) => at,
+        Err(place) => place,
     }
 }
 
 // The place of the first key that is not below this one.
-pub(crate) fn start_from(rows: &[Row], key: &[u8]) -> usize
-    requires { IsTrue (is_sorted key_cmp rows.now) }
-    ensures { IsPartedAt (λ k. is_le (key_cmp key.now k)) rows.now result }
+pub(crate) fn start_from(leaves: &[Leaf], key: &[u8]) -> Place
+    requires in_order { IsTrue (is_sorted key_cmp (flat leaves.now)) }
+    requires leaves { AreLeaves leaves.now }
+    ensures parted { IsPartedAt (λ k. is_le (key_cmp key.now k))
+        (flat leaves.now)
+        (position leaves.now result) }
+    ensures place { IsPlace leaves.now result }
+    ensures leaf { 0 < length leaves.now → result.leaf < length leaves.now }
 {
-    match search(rows, key) {
-        Ok(at) | Err(at) => at,
+    match search(leaves, key) {
+        Ok(place) | Err(place) => place,
     }
 }
 
 // The place of the first key above this one.
-pub(crate) fn start_after(rows: &[Row], key: &[u8]) -> usize
-    requires { IsTrue (is_sorted key_cmp rows.now) }
-    ensures { IsPartedAt (λ k. is_lt (key_cmp key.now k)) rows.now result }
+pub(crate) fn start_after(leaves: &[Leaf], key: &[u8]) -> Place
+    requires in_order { IsTrue (is_sorted key_cmp (flat leaves.now)) }
+    requires leaves { AreLeaves leaves.now }
+    ensures parted { IsPartedAt (λ k. is_lt (key_cmp key.now k))
+        (flat leaves.now)
+        (position leaves.now result) }
+    ensures place { IsPlace leaves.now result }
 {
-    match search(rows, key) {
-        Ok(at) => at + 1,
-        Err(at) => at,
+    match search(leaves, key) {
+        Ok(place) => Place {
+            leaf: place.leaf,
+            row: place.row + 1,
+        },
+        Err(place) => place,
     }
 }

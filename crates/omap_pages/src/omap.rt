@@ -1,4 +1,4 @@
-ghost use Rattle.std.specs.Prelude.{◌≡◌, ◌≢◌, ◌↔◌, ℕ, ◌+◌, ◌<◌, ◌≤◌, List, [], take, length, IsTrue, IsSome, IfSome, IfNone, IfOk, OnOk, OnErr, is_some, option_map, Some, None, false};
+ghost use Rattle.std.specs.Prelude.{◌≡◌, ◌≢◌, ◌↔◌, ℕ, ◌+◌, ◌<◌, ◌≤◌, List, [], take, length, max, IsTrue, IsSome, IsOk, IfSome, IfNone, IfOk, OnOk, OnErr, is_some, option_map, Some, None, false};
 ghost use Rattle.std.specs.Bool.{OnFalse};
 ghost use Rattle.std.specs.List.{splice};
 ghost use Rattle.std.specs.Option.{ForSome};
@@ -6,9 +6,11 @@ ghost use Rattle.omap_pages.specs.Contents.{room_at, KeepsRooms, KeepsOtherRooms
 ghost use Rattle.omap_pages.specs.Rows.{IsInOrder, value_at, with_row, without_row, rows_after, rows_within, rows_outside, KeepsOthers, HasNoneWithin, KeepsOutside};
 
 use crate::error::OutOfMemory;
+use crate::leaf::Leaf;
+use crate::leaves::Leaves;
 use crate::lookup::{gap_for, place_of, search, start_after, start_from};
-use crate::page::{ByteRows, Page};
-use crate::row::{Row, copies};
+use crate::page::Page;
+use crate::row::Row;
 use crate::spares::{SPARE_KEY_LEN, SPARE_VALUE_LEN, Spares};
 use rgw_types::Bytes;
 use std::alloc::Global;
@@ -26,23 +28,24 @@ use std::marker::Model;
 /// spare rows.
 #[derive(Debug, Drop)]
 pub struct Omap {
-    rows: Vec<Row>,
+    leaves: Leaves,
     spares: Spares,
 }
 
 impl Model for Omap {
-    ghost use Rattle.std.specs.Prelude.{◌+◌, ◌≤◌, vec_len, vec_capacity, IsTrue};
+    ghost use Rattle.std.specs.Prelude.{◌≤◌, IsTrue};
     ghost use Rattle.std.specs.FinMap.Entries.{is_sorted};
     ghost use Rattle.omap_pages.specs.Cells.{contents_of};
     ghost use Rattle.omap_pages.specs.Contents.{Contents};
+    ghost use Rattle.omap_pages.specs.Leaves.{flat};
     ghost use Rattle.omap_pages.specs.Rows.{key_cmp};
 
     ghost Value = { Contents };
 
-    ghost view = { λ omap. contents_of omap.rows.items omap.spares };
+    ghost view = { λ omap. contents_of (flat omap.leaves.leaves) omap.spares };
 
-    ghost invariant = { λ omap. IsTrue (is_sorted key_cmp omap.rows.items)
-        × (vec_len omap.rows + omap.spares ≤ vec_capacity omap.rows) };
+    ghost invariant = { λ omap. IsTrue (is_sorted key_cmp (flat omap.leaves.leaves))
+        × (omap.spares ≤ omap.leaves.free) };
 }
 
 impl Omap {
@@ -51,7 +54,7 @@ impl Omap {
         ensures { IfOk result (λ omap. omap ≡ record { rows = []; rooms = []; spare = 0 }) }
     {
         Ok(Omap {
-            rows: Vec::new(alloc),
+            leaves: Leaves::new(alloc),
             spares: Spares::new(alloc),
         })
     }
@@ -60,7 +63,7 @@ impl Omap {
     pub fn is_empty(&self) -> bool
         ensures { IsTrue result ↔ (self.now.rows ≡ []) }
     {
-        self.rows.is_empty()
+        self.leaves.is_empty()
     }
 
     /// The value at the key.
@@ -70,8 +73,8 @@ impl Omap {
         ensures no_room { IfNone result (room_at self.now.rooms key.now ≡ 0) }
         ensures in_order { IsInOrder self.now.rows }
     {
-        match search(self.rows.as_slice(), key) {
-            Ok(at) => Some(self.rows[at].value()),
+        match search(self.leaves.as_slice(), key) {
+            Ok(place) => Some(self.leaves.row(place).value()),
             Err(_) => None,
         }
     }
@@ -87,12 +90,17 @@ impl Omap {
         ensures spare { self.new.spare ≡ self.old.spare }
         ensures err { OnErr result (self.new ≡ self.old) }
     {
-        match search(self.rows.as_slice(), key.as_slice()) {
-            Ok(at) => self.rows[at].set_value(value.into_vec()),
-            Err(at) => {
-                self.rows.reserve(1 + self.spares.len())?;
+        match search(self.leaves.as_slice(), key.as_slice()) {
+            Ok(place) => self.leaves.row_mut(place).set_value(value.into_vec()),
+            Err(place) => {
                 let row = Row::new(key.into_vec(), value.into_vec());
-                self.rows.insert(at, row).unwrap();
+                if self.leaves.has_room(place) {
+                    self.leaves.insert(place, row);
+                } else {
+                    self.leaves.reserve(1 + self.spares.len())?;
+                    let leaf = Leaf::new(self.leaves.allocator())?;
+                    self.leaves.insert_with(place, row, leaf);
+                }
             }
         }
         Ok(())
@@ -102,7 +110,7 @@ impl Omap {
     pub fn clear(&mut self)
         ensures { self.new ≡ record { rows = []; rooms = []; spare = self.old.spare } }
     {
-        self.rows.clear();
+        self.leaves.clear();
     }
 
     /// Removes the row at the key, and says whether it was there. Takes no memory.
@@ -115,9 +123,9 @@ impl Omap {
         ensures spare { self.new.spare ≡ self.old.spare }
         ensures absent { OnFalse result (self.new ≡ self.old) }
     {
-        match search(self.rows.as_slice(), key) {
-            Ok(at) => {
-                self.rows.remove(at);
+        match search(self.leaves.as_slice(), key) {
+            Ok(place) => {
+                self.leaves.remove(place);
                 true
             }
             Err(_) => false,
@@ -135,24 +143,29 @@ impl Omap {
         ensures spare { self.new.spare ≡ self.old.spare }
         ensures none { result ≡ 0 → self.new ≡ self.old }
     {
-        let start = start_from(self.rows.as_slice(), from);
-        let end = start_from(self.rows.as_slice(), to).max(start);
-        drop(self.rows.drain(start..end));
-        (end - start) as u64
+        if self.leaves.is_empty() {
+            return 0;
+        }
+        let start = start_from(self.leaves.as_slice(), from);
+        let end = start_from(self.leaves.as_slice(), to).later(start);
+        self.leaves.remove_range(start, end) as u64
     }
 
-    /// Makes the room of the row at the key at least `room` bytes.
-    /// After an error nothing has changed.
+    /// Makes the room of the row at the key at least `room` bytes, and no greater than it was where
+    /// it is that already. Then no memory is taken. After an error nothing has changed.
     pub fn widen(&mut self, key: &[u8], room: u64) -> Result<(), OutOfMemory>
         requires { IsSome (value_at self.old.rows key.now) }
         ensures ok { OnOk result (room ≤ room_at self.new.rooms key.now) }
+        ensures exact { OnOk result (
+            room_at self.new.rooms key.now ≡ max (room_at self.old.rooms key.now) room) }
+        ensures enough { room ≤ room_at self.old.rooms key.now → IsOk result }
         ensures rows { self.new.rows ≡ self.old.rows }
         ensures rooms { KeepsRooms self.old self.new }
         ensures spare { self.new.spare ≡ self.old.spare }
         ensures err { OnErr result (self.new ≡ self.old) }
     {
-        let at = place_of(self.rows.as_slice(), key);
-        self.rows[at].widen(room as usize)?;
+        let place = place_of(self.leaves.as_slice(), key);
+        self.leaves.row_mut(place).widen(room as usize)?;
         Ok(())
     }
 
@@ -174,21 +187,25 @@ impl Omap {
         ensures rooms { KeepsRooms self.old self.new }
         ensures spare { self.new.spare ≡ self.old.spare }
     {
-        let at = place_of(self.rows.as_slice(), key);
-        self.rows[at].splice(start as usize, count as usize, bytes);
+        let place = place_of(self.leaves.as_slice(), key);
+        self.leaves
+            .row_mut(place)
+            .splice(start as usize, count as usize, bytes);
     }
 
-    /// Makes the number of spare rows at least `rows`.
-    /// After an error nothing has changed.
+    /// Makes the number of spare rows `rows`, where it is lower. Where there are as many already no
+    /// memory is taken. After an error nothing has changed.
     pub fn reserve(&mut self, rows: u64) -> Result<(), OutOfMemory>
         ensures ok { OnOk result (rows ≤ self.new.spare) }
+        ensures exact { OnOk result (self.new.spare ≡ max self.old.spare rows) }
+        ensures enough { rows ≤ self.old.spare → IsOk result }
         ensures kept { self.old.spare ≤ self.new.spare }
         ensures rows { self.new.rows ≡ self.old.rows }
         ensures rooms { KeepsRooms self.old self.new }
         ensures err { OnErr result (self.new ≡ self.old) }
     {
         let count = self.spares.len().max(rows as usize);
-        self.rows.reserve(count)?;
+        self.leaves.reserve(count)?;
         self.spares.reserve(count)?;
         Ok(())
     }
@@ -207,9 +224,9 @@ impl Omap {
         ensures rooms { KeepsRooms self.old self.new }
         ensures spare { self.new.spare + 1 ≡ self.old.spare }
     {
-        let at = gap_for(self.rows.as_slice(), key);
-        let row = self.spares.make_row(key, value);
-        self.rows.insert(at, row).unwrap();
+        let place = gap_for(self.leaves.as_slice(), key);
+        let (row, leaf) = self.spares.make_row(key, value);
+        self.leaves.insert_with(place, row, leaf);
     }
 
     /// Copies of the first rows whose keys are above `after`, at most `limit` of them, and whether
@@ -221,13 +238,7 @@ impl Omap {
             IsTrue page.end ↔ (length (rows_after self.now.rows after.now) ≤ limit)) }
         ensures in_order { IfOk result (λ page. IsInOrder page.rows) }
     {
-        let start = start_after(self.rows.as_slice(), after);
-        let rest = &self.rows.as_slice()[start..];
-        let count = rest.len().min(limit as usize);
-        let rows = copies(alloc, &rest[..count])?;
-        Ok(Page {
-            rows: ByteRows::from_vec(rows),
-            end: count == rest.len(),
-        })
+        let start = start_after(self.leaves.as_slice(), after);
+        Ok(self.leaves.page(alloc, start, limit as usize)?)
     }
 }

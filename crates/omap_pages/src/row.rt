@@ -1,4 +1,4 @@
-ghost use Rattle.std.specs.Prelude.{◌≡◌, ◌+◌, ◌≤◌, length, vec_len, vec_capacity, IfOk, OnOk, OnErr};
+ghost use Rattle.std.specs.Prelude.{◌≡◌, ◌+◌, ◌≤◌, ◌++◌, length, max, vec_len, vec_capacity, IsOk, OnOk, OnErr};
 ghost use Rattle.std.specs.List.{splice};
 ghost use Rattle.omap_pages.specs.Cells.{values_of};
 
@@ -53,16 +53,16 @@ impl Row {
         self.value = value;
     }
 
-    // Makes the room at least this. After an error nothing has changed.
+    // Raises the room to this, where it is lower. After an error nothing has changed.
     pub(crate) fn widen(&mut self, room: usize) -> Result<(), AllocError>
-        ensures ok { OnOk result (room ≤ self.new.1.room) }
+        ensures ok { OnOk result (self.new.1.room ≡ max self.old.1.room room) }
+        ensures enough { room ≤ self.old.1.room → IsOk result }
         ensures key { self.new.0 ≡ self.old.0 }
         ensures value { self.new.1.value ≡ self.old.1.value }
-        ensures kept { self.old.1.room ≤ self.new.1.room }
         ensures err { OnErr result (self.new ≡ self.old) }
     {
         let missing = room.saturating_sub(self.value.len());
-        self.value.reserve(missing)
+        self.value.reserve_exact(missing)
     }
 
     // Puts `bytes` in the place of `count` bytes from `start`, within the row's room.
@@ -106,15 +106,19 @@ fn insert_reserved(value: &mut Vec<u8>, start: usize, bytes: &[u8])
     value[start..].rotate_right(bytes.len());
 }
 
-// Copies of the keys and values.
-pub(crate) fn copies(alloc: Global, rows: &[Row]) -> Result<Vec<(Bytes, Bytes)>, AllocError>
-    ensures { IfOk result (λ pairs. pairs.items ≡ values_of rows.now) }
+// Puts copies of the keys and values behind the pairs.
+pub(crate) fn copy_rows(
+    alloc: Global,
+    rows: &[Row],
+    pairs: &mut Vec<(Bytes, Bytes)>,
+) -> Result<(), AllocError>
+    ensures { OnOk result (pairs.new.items ≡ pairs.old.items ++ values_of rows.now) }
 {
-    let mut pairs = Vec::with_capacity(alloc, rows.len())?;
+    pairs.reserve(rows.len())?;
     for row in rows {
         let key = Bytes::from_slice(alloc, row.key())?;
         let value = Bytes::from_slice(alloc, row.value())?;
         pairs.push((key, value))?;
     }
-    Ok(pairs)
+    Ok(())
 }

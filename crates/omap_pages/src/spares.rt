@@ -1,6 +1,7 @@
-ghost use Rattle.std.specs.Prelude.{◌≡◌, ◌+◌, ◌<◌, ◌≤◌, length, max, vec_len, vec_capacity, IfOk, OnOk, OnErr};
+ghost use Rattle.std.specs.Prelude.{◌≡◌, ◌+◌, ◌^◌, ◌<◌, ◌≤◌, [], length, max, vec_len, vec_capacity, IsOk, IfOk, OnOk, OnErr};
 ghost use Rattle.omap_pages.specs.declared.spares.TheConstants.{SPARE_KEY_LEN, SPARE_VALUE_LEN};
 
+use crate::leaf::Leaf;
 use crate::row::Row;
 use std::alloc::{AllocError, Global};
 use std::marker::Model;
@@ -11,13 +12,15 @@ pub const SPARE_KEY_LEN: usize = 16;
 /// The longest value that a spare row takes, in bytes.
 pub const SPARE_VALUE_LEN: usize = 1040;
 
-// The buffers of a row that is not there yet.
+// The buffers of a row that is not there yet, and a leaf for it.
 #[derive(Debug, Drop)]
 struct SpareRow {
     key: Vec<u8>,
     value: Vec<u8>,
+    leaf: Leaf,
     ghost key_room: { SPARE_KEY_LEN ≤ vec_capacity key },
     ghost value_room: { SPARE_VALUE_LEN ≤ vec_capacity value },
+    ghost no_rows: { leaf ≡ [] },
 }
 
 impl SpareRow {
@@ -25,6 +28,7 @@ impl SpareRow {
         Ok(SpareRow {
             key: Vec::with_capacity(alloc, SPARE_KEY_LEN)?,
             value: Vec::with_capacity(alloc, SPARE_VALUE_LEN)?,
+            leaf: Leaf::new(alloc)?,
         })
     }
 }
@@ -53,7 +57,8 @@ impl Spares {
     }
 
     pub(crate) fn len(&self) -> usize
-        ensures { result ≡ self.now }
+        ensures count { result ≡ self.now }
+        ensures bound { self.now < 2 ^ 63 }
     {
         self.rows.len()
     }
@@ -61,6 +66,7 @@ impl Spares {
     // Makes this many ready, where there are fewer. After an error nothing has changed.
     pub(crate) fn reserve(&mut self, count: usize) -> Result<(), AllocError>
         ensures ok { OnOk result (self.new ≡ max self.old count) }
+        ensures enough { count ≤ self.old → IsOk result }
         ensures err { OnErr result (self.new ≡ self.old) }
     {
         let missing = count.saturating_sub(self.rows.len());
@@ -68,23 +74,26 @@ impl Spares {
         self.rows.append(&mut added)
     }
 
-    // One of them as a row with this key and value. Takes no memory.
-    pub(crate) fn make_row(&mut self, key: &[u8], value: &[u8]) -> Row
+    // One of them as a row with this key and value, and its leaf. Takes no memory.
+    pub(crate) fn make_row(&mut self, key: &[u8], value: &[u8]) -> (Row, Leaf)
         requires some { 0 < self.old }
         requires key_fits { length key.now ≤ SPARE_KEY_LEN }
         requires value_fits { length value.now ≤ SPARE_VALUE_LEN }
         ensures fewer { self.new + 1 ≡ self.old }
-        ensures key { result.0 ≡ key.now }
-        ensures value { result.1.value ≡ value.now }
-        ensures fits { length value.now ≤ result.1.room }
+        ensures key { result.0.0 ≡ key.now }
+        ensures value { result.0.1.value ≡ value.now }
+        ensures fits { length value.now ≤ result.0.1.room }
+        ensures leaf { result.1 ≡ [] }
     {
         let spare = self.rows.pop().unwrap();
-        Row::new(filled(spare.key, key), filled(spare.value, value))
+        let row = Row::new(filled(spare.key, key), filled(spare.value, value));
+        (row, spare.leaf)
     }
 }
 
 fn several(alloc: Global, count: usize) -> Result<Vec<SpareRow>, AllocError>
-    ensures { IfOk result (λ spares. vec_len spares ≡ count) }
+    ensures ok { IfOk result (λ spares. vec_len spares ≡ count) }
+    ensures none { count ≡ 0 → IsOk result }
 {
     let mut spares = Vec::with_capacity(alloc, count)?;
     for _ in 0..count {

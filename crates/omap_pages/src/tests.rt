@@ -57,12 +57,46 @@ fn pages_splices_and_spare_rows(rt: HostRuntime) -> Result<(), Fail> {
     Ok(())
 }
 
+fn name_of(alloc: Global, number: u16) -> Result<String, OutOfMemory> {
+    Ok(format!(in alloc; "k{number:04}")?)
+}
+
 #[test]
-fn calls_agree_with_a_plain_list(rt: HostRuntime) -> Result<(), Fail> {
+fn ten_thousand_rows_in_falling_order(rt: HostRuntime) -> Result<(), Fail> {
+    let alloc = rt.alloc();
+    let mut omap = Omap::new(alloc)?;
+    for number in (0..10_000).rev() {
+        put(alloc, &mut omap, name_of(alloc, number)?.as_bytes(), b"")?;
+    }
+    for half in 0..5_000 {
+        assert!(rt; omap.remove(name_of(alloc, 2 * half)?.as_bytes()));
+    }
+
+    let mut last = Vec::new(alloc);
+    let mut number = 1;
+    for count in 1..=50 {
+        let page = omap.page(alloc, last.as_slice(), 100)?;
+        assert_eq!(rt; page.rows.len(), 100);
+        assert_eq!(rt; page.end, count == 50);
+        for row in page.rows.as_slice() {
+            assert_eq!(rt; row.0.as_slice(), name_of(alloc, number)?.as_bytes());
+            number = number.wrapping_add(2);
+            last = row.0.as_slice().to_vec(alloc)?;
+        }
+    }
+    assert_eq!(rt; last.as_slice(), b"k9999".as_slice());
+    Ok(())
+}
+
+#[test]
+fn calls_agree_with_a_sorted_vector(rt: HostRuntime) -> Result<(), Fail> {
     let mut twin = Twin::new(rt.alloc(), 5)?;
-    for _ in 0..5000 {
-        twin.step(&rt)?;
+    for _ in 0..100 {
+        for _ in 0..100 {
+            twin.step(&rt)?;
+        }
         twin.check(&rt)?;
     }
+    assert!(rt; twin.most_rows() > 256);
     Ok(())
 }

@@ -9,6 +9,8 @@ pub mod Rising
 pub mod Agreeing
 pub mod Makers
 pub mod MadeOnce
+pub mod FrameLemmas
+pub mod Framing
 pub mod SuitsLemmas
 pub mod Doing
 pub mod Deciding

@@ -40,13 +40,13 @@ module _ (settings : SettingsView) (st : State) (zone : ℕ) where
         ap (λ s. touched settings st (at_shard zone key s)) same
         ∙ ap (λ shards. record st { shards = shards }) (put_in_same st.shards zone key)
 
-    head_same : (head : Head) → head ≡ st.heads zone key → touched settings st (at_head zone key head) ≡ st
+    pub head_same : (head : Head) → head ≡ st.heads zone key → touched settings st (at_head zone key head) ≡ st
     head_same head same =
         let heads = put_in_same st.heads zone key in
         let free = free_stays settings.frame st.free zone (first_bytes (st.heads zone key).slot) in
         ap (λ h. touched settings st (at_head zone key h)) same ∙ (λ i. record st { heads = heads i; free = free i })
 
-    tail_same : (tail : Tail) → tail ≡ st.tails zone key → touched settings st (at_tail zone key tail) ≡ st
+    pub tail_same : (tail : Tail) → tail ≡ st.tails zone key → touched settings st (at_tail zone key tail) ≡ st
     tail_same tail same =
         let tails = put_in_same st.tails zone key in
         let free = free_stays settings.frame st.free zone (st.tails zone key).bytes in

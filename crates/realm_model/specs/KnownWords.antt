@@ -104,8 +104,8 @@ abbrev pub stamp : ℕ → Stamp
 stamp micros = record { micros = micros; zone = 1 }
 
 -- the row of an object of this size, stamped in zone 1
-abbrev pub row : ℕ → ℕ → List ℕ → RowView
-row size micros etag = record { exists = true; size = size; stamp = stamp micros; etag = etag; kind = plain }
+abbrev pub stamped_row : ℕ → ℕ → List ℕ → RowView
+stamped_row size micros etag = record { exists = true; size = size; stamp = stamp micros; etag = etag; kind = plain }
 
 -- where the bytes of an object are
 abbrev pub manifest : ℕ → ℕ → ℕ → ManifestView
@@ -157,19 +157,19 @@ abbrev pub hello : ℕ → NewHead
 hello write = content write 4194304 5 (codes "hello") (hex (codes "5d41402abc4b2a76b9719d911017c592"))
 
 abbrev pub hello_row : ℕ → RowView
-hello_row micros = row 5 micros (hex (codes "5d41402abc4b2a76b9719d911017c592"))
+hello_row micros = stamped_row 5 micros (hex (codes "5d41402abc4b2a76b9719d911017c592"))
 
 abbrev pub empty : ℕ → NewHead
 empty write = content write 4194304 0 [] (hex (codes "d41d8cd98f00b204e9800998ecf8427e"))
 
 abbrev pub empty_row : ℕ → RowView
-empty_row micros = row 0 micros (hex (codes "d41d8cd98f00b204e9800998ecf8427e"))
+empty_row micros = stamped_row 0 micros (hex (codes "d41d8cd98f00b204e9800998ecf8427e"))
 
 abbrev pub alphabet : ℕ → NewHead
 alphabet write = content write 16 26 (codes "abcdefghijklmnop") (hex (codes "c3fcd3d76192e4007dfb496cca67e13b"))
 
 abbrev pub alphabet_row : ℕ → RowView
-alphabet_row micros = row 26 micros (hex (codes "c3fcd3d76192e4007dfb496cca67e13b"))
+alphabet_row micros = stamped_row 26 micros (hex (codes "c3fcd3d76192e4007dfb496cca67e13b"))
 
 -- a page that shows one entry, and that nothing follows
 abbrev pub one_entry : List ℕ → ℕ → ℕ → RowView → List Tag → ℕ → EntryPage
@@ -192,7 +192,7 @@ abbrev pub xs : ℕ → ℕ → ℕ → NewHead
 xs write stripe size = content write stripe size (letters (min stripe size)) (replicate 16 120)
 
 abbrev pub xs_row : ℕ → ℕ → RowView
-xs_row size micros = row size micros (replicate 16 120)
+xs_row size micros = stamped_row size micros (replicate 16 120)
 
 -- a page that shows no entry
 abbrev pub no_entries : ℕ → EntryPage

@@ -7,7 +7,8 @@ use Rattle.rgw_types.specs.Stripes.{tails_of}
 use Rattle.object_words.specs.declared.head.SeenSlot.{SeenSlot}
 use Rattle.object_words.specs.declared.head.SeenSlot.TheVariants.{Live}
 use Rattle.object_words.specs.Keys.{is_key, head_key}
-use Rattle.object_words.specs.Heads.{first_bytes, frames_for}
+use Rattle.object_words.specs.Heads.{Head as HeadOf, first_bytes, frames_for}
+use Rattle.object_words.specs.Tails.{Tail as TailOf}
 use Rattle.realm_model.specs.Settings.{SettingsView}
 use Rattle.realm_model.specs.States.{State}
 use Rattle.realm_model.specs.Needs.{is_between}
@@ -34,19 +35,19 @@ takes_tail op reply zone write part = false
 abbrev pub is_collected : List Event → ℕ → ℕ → ℕ → Bool
 is_collected history zone write part = list_any (λ e. takes_tail e.op e.reply zone write part) history
 
--- the bytes of an object that lie in frames
-abbrev pub framed_bytes : State → ℕ → Key → List ℕ
-framed_bytes st zone (Head container name) = first_bytes (st.heads zone (Head container name)).slot
-framed_bytes st zone (Tail write part) = (st.tails zone (Tail write part)).bytes
-framed_bytes st zone key = []
+-- the bytes of an object that lie in frames: those of a head and of a tail
+abbrev pub framed_bytes : (ℕ → Key → HeadOf) → (ℕ → Key → TailOf) → ℕ → Key → List ℕ
+framed_bytes heads tails zone (Head container name) = first_bytes (heads zone (Head container name)).slot
+framed_bytes heads tails zone (Tail write part) = (tails zone (Tail write part)).bytes
+framed_bytes heads tails zone key = []
 
--- the frames that an object takes
-abbrev pub frames_at : SettingsView → State → ℕ → Key → ℕ
-frames_at settings st zone key = frames_for settings.frame (framed_bytes st zone key)
-
--- the free frames of a zone, with the frames of each of its objects, are all its frames
-pub record HasFrameSum (settings : SettingsView) (st : State) (zone : ℕ) : Type 0 where
+-- the free frames, with the frames of the bytes of each object, are all frames
+pub record FrameSum (frame frames : ℕ) (bytes : Key → List ℕ) (free : ℕ) : Type 0 where
   pub keys : List Key
   pub apart : IsDistinct is_key keys
-  pub others : (key : Key) → list_any (is_key key) keys ≡ false → framed_bytes st zone key ≡ []
-  pub sum : st.free zone + sum_by (frames_at settings st zone) keys ≡ settings.frames
+  pub others : (key : Key) → list_any (is_key key) keys ≡ false → bytes key ≡ []
+  pub sum : free + sum_by (λ key. frames_for frame (bytes key)) keys ≡ frames
+
+-- the frames of a zone are free or taken by its objects
+abbrev pub HasFrameSum : SettingsView → State → ℕ → Type 0
+HasFrameSum settings st zone = FrameSum settings.frame settings.frames (framed_bytes st.heads st.tails zone) (st.free zone)

@@ -9,6 +9,7 @@ ghost use Rattle.realm_model.specs.Decisions.{Stands};
 ghost use Rattle.realm_model.specs.Doors.{mine, NoneByPass};
 ghost use Rattle.realm_model.specs.Settings.{SettingsView};
 ghost use Rattle.realm_model.specs.States.{State, Touch, number_next, clock_at, at_moment, touched};
+ghost use Rattle.realm_model.specs.Stripes.{HasFrameSum};
 ghost use Rattle.realm_model.specs.Suits.{Suits};
 ghost use Rattle.realm_model.specs.Worlds.{actor_of};
 ghost use Rattle.realm_model.specs.Steps.{reply_of, touch_of, after};
@@ -104,6 +105,12 @@ pub fn a_tail_is_made_once()
     ensures bytes { (settings : SettingsView) (history : List EventOf) → Legal settings history
         → (zone write part : ℕ) → ((state_of settings history).tails zone (tail_key write part)).bytes
         ≡ unwrap_or ((world_of settings history).stripes.made zone write part) [] }
+{}
+
+/// In each zone the free frames, with the frames that each object takes, are all its frames.
+pub fn frames_are_free_or_taken()
+    ensures { (settings : SettingsView) (history : List EventOf) (zone : ℕ)
+        → HasFrameSum settings (state_of settings history) zone }
 {}
 
 /// The answer of the step is of a kind that the operation may have.

@@ -21,8 +21,8 @@ pub use known::{
 pub use laws::{
     a_step_adds_its_number, a_tail_is_made_once, an_event_touches_one_object, an_own_event_is_done,
     computed_histories_are_legal, deciding_events_stand, events_are_numbered,
-    events_follow_from_the_history, maps_are_what_heads_hold, no_event_lowers_a_number,
-    others_change_no_phase, replies_suit_their_operations,
+    events_follow_from_the_history, frames_are_free_or_taken, maps_are_what_heads_hold,
+    no_event_lowers_a_number, others_change_no_phase, replies_suit_their_operations,
 };
 pub use op::Op;
 pub use refused::{these_changes_are_refused, these_steps_are_refused, these_tails_are_refused};

@@ -2,7 +2,7 @@
 ghost use Rattle.std.specs.Prelude.{◌≡◌, ◌+◌, ◌-◌, ◌↔◌, IsErr, IfOk, OnOk, OnErr, IsTrue, ◌<◌, length};
 ghost use Rattle.std.specs.Int.{div_ceil};
 ghost use Rattle.object_pool.specs.Objects.{HasFrameSum, KeepsAll, KeepsOthers, exists, nothing, object_at, settled};
-ghost use Rattle.object_pool.specs.Places.{Stays, borrow_of, key_of, object_of, pool_of};
+ghost use Rattle.object_pool.specs.Places.{Stays, borrow_of, key_of, object_of, pool_of, rows_of};
 
 use crate::{NoSpace, OutOfMemory, Place, Pool};
 use rgw_types::{Bytes, Key};
@@ -47,4 +47,23 @@ fn drop_if_there(pool: &mut Pool, key: &Key) -> bool
         }
         None => false,
     }
+}
+
+// A row that is put where none was, and then taken, leaves the rows as they were.
+#[tactic(auto, using(crate::proofs::RowLemmas::put_then_taken))]
+fn put_and_take(
+    alloc: Global,
+    place: &mut Place<'_>,
+    key: Bytes,
+    value: Bytes,
+) -> Result<(), OutOfMemory>
+    ensures { OnOk result ((rows_of place.new).rows ≡ (rows_of place.old).rows) }
+{
+    if place.row(key.as_slice()).is_some() {
+        return Ok(());
+    }
+    let again = Bytes::from_slice(alloc, key.as_slice())?;
+    place.put_row(alloc, key, value)?;
+    place.take_row(again.as_slice());
+    Ok(())
 }

@@ -1,5 +1,6 @@
-// An ordered map and a plain list of pairs that change together.
-ghost use Rattle.std.specs.Prelude.{◌<◌, length, IfSome};
+// An ordered map and a sorted vector of pairs that change together.
+ghost use Rattle.std.specs.Prelude.{◌<◌, ◌≤◌, length};
+ghost use Rattle.std.specs.List.Sorted.{IsSearchInRange};
 
 use crate::{Omap, OutOfMemory};
 use rgw_types::Bytes;
@@ -7,6 +8,9 @@ use std::alloc::Global;
 use std::process::Abort;
 
 type Pair = (Vec<u8>, Vec<u8>);
+
+// A key has fewer letters.
+const KEY_SIDES: u64 = 8;
 
 // A linear congruential generator.
 #[derive(Drop)]
@@ -27,46 +31,49 @@ impl Dice {
         (self.state >> 33) % sides
     }
 
-    // Fewer than `sides` letters of three.
+    // Fewer than `sides` letters of three, rather many than few.
     fn letters(&mut self, alloc: Global, sides: u64) -> Result<Vec<u8>, OutOfMemory>
         requires { 0 < sides }
     {
         let mut letters = Vec::new(alloc);
-        for _ in 0..self.roll(sides) {
+        let count = self.roll(sides).max(self.roll(sides));
+        for _ in 0..count {
             letters.push(b'a' + self.roll(3) as u8)?;
         }
         Ok(letters)
     }
 }
 
-// The place of the key.
-fn place(plain: &[Pair], key: &[u8]) -> Option<usize>
-    ensures { IfSome result (λ at. at < length plain.now) }
+// The place of the key in a sorted vector, or the place where it would go.
+fn place(plain: &[Pair], key: &[u8]) -> Result<usize, usize>
+    ensures { IsSearchInRange result (length plain.now) }
 {
-    plain.iter().position(|pair| pair.0.as_slice() == key)
+    plain.binary_search_by(|pair| pair.0.as_slice().cmp(key))
 }
 
 fn put_plain(plain: &mut Vec<Pair>, key: Vec<u8>, value: Vec<u8>) -> Result<(), OutOfMemory> {
     match place(plain.as_slice(), key.as_slice()) {
-        Some(at) => plain[at].1 = value,
-        None => plain.push((key, value))?,
+        Ok(at) => plain[at].1 = value,
+        Err(at) => plain.insert(at, (key, value))?,
     }
     Ok(())
 }
 
 // The pair with the least key above this one.
 fn next_after<'a>(plain: &'a [Pair], key: &[u8]) -> Option<&'a Pair> {
-    let mut least: Option<&'a Pair> = None;
-    for pair in plain {
-        let nearer = match least {
-            Some(other) => pair.0.as_slice() < other.0.as_slice(),
-            None => true,
-        };
-        if pair.0.as_slice() > key && nearer {
-            least = Some(pair);
-        }
+    match place(plain, key) {
+        Ok(at) => plain.get(at + 1),
+        Err(at) => plain.get(at),
     }
-    least
+}
+
+// The place of the first pair whose key is not below this one.
+fn start_from(plain: &[Pair], key: &[u8]) -> usize
+    ensures { result ≤ length plain.now }
+{
+    match place(plain, key) {
+        Ok(at) | Err(at) => at,
+    }
 }
 
 #[derive(Drop)]
@@ -75,6 +82,7 @@ pub(super) struct Twin {
     omap: Omap,
     plain: Vec<Pair>,
     dice: Dice,
+    most_rows: usize,
 }
 
 impl Twin {
@@ -84,23 +92,24 @@ impl Twin {
             omap: Omap::new(alloc)?,
             plain: Vec::new(alloc),
             dice: Dice { state: seed },
+            most_rows: 0,
         })
     }
 
     // One call on both, picked by chance.
     pub(super) fn step(&mut self, rt: &impl Abort) -> Result<(), OutOfMemory> {
-        match self.dice.roll(7) {
-            0 | 1 => self.put(),
-            2 => self.remove(rt),
-            3 => self.remove_range(rt),
-            4 => self.splice(rt),
-            5 => self.put_spares(rt),
+        match self.dice.roll(100) {
+            0..40 => self.put(),
+            40..55 => self.remove(rt),
+            55..57 => self.remove_range(rt),
+            57..70 => self.splice(rt),
+            70..85 => self.put_spares(rt),
             _ => self.page(rt),
         }
     }
 
     fn put(&mut self) -> Result<(), OutOfMemory> {
-        let key = self.dice.letters(self.alloc, 4)?;
+        let key = self.dice.letters(self.alloc, KEY_SIDES)?;
         let value = self.dice.letters(self.alloc, 20)?;
         let as_key = Bytes::from_slice(self.alloc, key.as_slice())?;
         let as_value = Bytes::from_slice(self.alloc, value.as_slice())?;
@@ -109,29 +118,28 @@ impl Twin {
     }
 
     fn remove(&mut self, rt: &impl Abort) -> Result<(), OutOfMemory> {
-        let key = self.dice.letters(self.alloc, 4)?;
+        let key = self.dice.letters(self.alloc, KEY_SIDES)?;
         let at = place(self.plain.as_slice(), key.as_slice());
-        assert_eq!(rt; self.omap.remove(key.as_slice()), at.is_some());
-        if let Some(at) = at {
-            drop(self.plain.swap_remove(at));
+        assert_eq!(rt; self.omap.remove(key.as_slice()), at.is_ok());
+        if let Ok(at) = at {
+            drop(self.plain.remove(at));
         }
         Ok(())
     }
 
     fn remove_range(&mut self, rt: &impl Abort) -> Result<(), OutOfMemory> {
-        let from = self.dice.letters(self.alloc, 4)?;
-        let to = self.dice.letters(self.alloc, 4)?;
-        let before = self.plain.len();
-        self.plain.retain(|pair| {
-            pair.0.as_slice() < from.as_slice() || pair.0.as_slice() >= to.as_slice()
-        });
+        let from = self.dice.letters(self.alloc, KEY_SIDES)?;
+        let to = self.dice.letters(self.alloc, KEY_SIDES)?;
+        let start = start_from(self.plain.as_slice(), from.as_slice());
+        let end = start_from(self.plain.as_slice(), to.as_slice()).max(start);
+        drop(self.plain.drain(start..end));
         let count = self.omap.remove_range(from.as_slice(), to.as_slice());
-        assert_eq!(rt; count, (before - self.plain.len()) as u64);
+        assert_eq!(rt; count, (end - start) as u64);
         Ok(())
     }
 
     fn splice(&mut self, rt: &impl Abort) -> Result<(), OutOfMemory> {
-        let key = self.dice.letters(self.alloc, 4)?;
+        let key = self.dice.letters(self.alloc, KEY_SIDES)?;
         let bytes = self.dice.letters(self.alloc, 9)?;
         let Some(old) = self.omap.get(key.as_slice()) else {
             return Ok(());
@@ -153,10 +161,10 @@ impl Twin {
     }
 
     fn put_spares(&mut self, rt: &impl Abort) -> Result<(), OutOfMemory> {
-        let first = self.dice.letters(self.alloc, 4)?;
-        let second = self.dice.letters(self.alloc, 4)?;
+        let first = self.dice.letters(self.alloc, KEY_SIDES)?;
+        let second = self.dice.letters(self.alloc, KEY_SIDES)?;
         let value = self.dice.letters(self.alloc, 20)?;
-        assert!(rt; first.len() < 4 && second.len() < 4 && value.len() < 20);
+        assert!(rt; first.len() < 8 && second.len() < 8 && value.len() < 20);
         if self.omap.get(first.as_slice()).is_some() {
             return Ok(());
         }
@@ -171,8 +179,8 @@ impl Twin {
     }
 
     fn page(&mut self, rt: &impl Abort) -> Result<(), OutOfMemory> {
-        let after = self.dice.letters(self.alloc, 4)?;
-        let limit = self.dice.roll(5) as u32;
+        let after = self.dice.letters(self.alloc, KEY_SIDES)?;
+        let limit = self.dice.roll(200) as u32;
         let page = self.omap.page(self.alloc, after.as_slice(), limit)?;
         let mut last = after.clone()?;
         for row in page.rows.as_slice() {
@@ -190,15 +198,21 @@ impl Twin {
         Ok(())
     }
 
-    // Each pair of the list is in the map, and no other key.
-    pub(super) fn check(&self, rt: &impl Abort) -> Result<(), OutOfMemory> {
+    // The most rows that a check saw.
+    pub(super) fn most_rows(&self) -> usize {
+        self.most_rows
+    }
+
+    // Each pair of the vector is in the map, and no other key.
+    pub(super) fn check(&mut self, rt: &impl Abort) -> Result<(), OutOfMemory> {
         for pair in &self.plain {
             assert_eq!(rt; self.omap.get(pair.0.as_slice()), Some(pair.1.as_slice()));
         }
-        let rows = self.omap.page(self.alloc, b"", 100)?.rows.len();
+        let rows = self.omap.page(self.alloc, b"", 10_000)?.rows.len();
         let empty_key = usize::from(self.omap.get(b"").is_some());
-        assert_eq!(rt; rows + empty_key, self.plain.len());
+        assert_eq!(rt; rows.checked_add(empty_key), Some(self.plain.len()));
         assert_eq!(rt; self.omap.is_empty(), self.plain.is_empty());
+        self.most_rows = self.most_rows.max(self.plain.len());
         Ok(())
     }
 }

@@ -1,5 +1,7 @@
-use Rattle.std.proofs.Common.{◌≡◌, OnErr, refl, subst, ◌∙◌}
-use Rattle.object_pool.proofs.PlaceLemmas.{parts_there, parts_sum, rows_change, stays_on_err}
+use Rattle.std.proofs.Common.{◌≡◌, OnErr, ap, refl, subst, ◌∙◌}
+use Rattle.object_pool.specs.Objects.{Object}
+use Rattle.object_pool.specs.Places.{object_of}
+use Rattle.object_pool.proofs.PlaceLemmas.{parts_there, parts_sum, rows_change, readied, rows_now, stays_on_err}
 use Rattle.object_pool.proofs.place.Place.reserve_rows.Goals as goal
 
 pub invariant_of-self : goal.invariant_of-self
@@ -12,3 +14,9 @@ returns-clause-change c = rows_change c.args.self.now _ (record { attrs = c.part
 
 pub returns-clause-err : goal.returns-clause-err
 returns-clause-err c = stays_on_err c.reserve.result c.args.self.now _ c.reserve.new.self c.parts_mut.result.now.attrs refl refl refl c.parts_mut.ensures.attrs (subst (λ z. OnErr c.reserve.result (c.reserve.new.self ≡ z)) (c.rows_mut.ensures.value ∙ c.parts_mut.ensures.rows) c.reserve.ensures.err)
+
+pub returns-clause-readied : goal.returns-clause-readied
+returns-clause-readied c =
+    let old = c.args.self.now in
+    let rows = rows_now old (record (object_of old) { attrs = c.parts_mut.result.now.attrs; rows = c.reserve.new.self }) in
+    readied old _ c.rows_mut.result.now c.reserve.new.self (returns-clause-change c) (ap (λ (o : Object). o.rows) rows) (c.rows_mut.ensures.value ∙ c.parts_mut.ensures.rows) c.reserve.ensures.rows c.reserve.ensures.rooms (c.reserve.ensures.kept)

@@ -1,36 +1,74 @@
-use Rattle.std.proofs.Common.{◌≡◌, set, is_some, refl, ap, sym, ◌∙◌, arith}
+use Rattle.std.proofs.Common.{◌≡◌, max, is_some, refl, ap, subst, sym, ◌∙◌, arith}
 use Rattle.std.specs.FinMap.Entries.{find, put, is_sorted}
+use Rattle.std.proofs.lemmas.Result.{err_from_is_err_and}
+use Rattle.omap_pages.specs.Cells.{contents_of}
+use Rattle.omap_pages.specs.Contents.{room_at}
+use Rattle.omap_pages.specs.Leaves.{flat, with_row_at, IsRow}
 use Rattle.omap_pages.specs.Rows.{key_cmp}
 use Rattle.omap_pages.proofs.CellLemmas.{is_put, sorted_put, put_same, is_some_seen, value_seen, room_seen, order_seen}
-use Rattle.omap_pages.proofs.PlaceLemmas.{set_at_place, find_here}
+use Rattle.omap_pages.proofs.KeyLemmas.{found, written}
+use Rattle.omap_pages.proofs.LeavesLemmas.{flat-set_same}
 use Rattle.omap_pages.proofs.omap.Omap.widen.Goals as goal
 
-pub place_of-at-requires : goal.place_of-at-requires
-place_of-at-requires c = record {
-  in_order = ap (is_sorted key_cmp) c.as_slice.ensures.value ∙ c.self.invariant.0;
-  there = ap (λ rows. is_some (find key_cmp c.args.key.now rows)) c.as_slice.ensures.value ∙ sym (is_some_seen c.self.inside.rows.items c.self.inside.spares c.args.self.now c.self.view_is c.args.key.now) ∙ c.requires;
+pub place_of-place-requires : goal.place_of-place-requires
+place_of-place-requires c = record {
+  in_order = ap (λ z. is_sorted key_cmp (flat z)) c.as_slice.ensures.leaves ∙ c.self.invariant.0;
+  leaves = c.as_slice.ensures.sizes;
+  there = ap (λ z. is_some (find key_cmp c.args.key.now (flat z))) c.as_slice.ensures.leaves ∙ sym (is_some_seen (flat c.self.inside.leaves.leaves) c.self.inside.spares c.args.self.now c.self.view_is c.args.key.now) ∙ c.requires;
 }
 
 -- the row at the key is written over by the wider one
-over : (c : goal.In_ok-widen) → set c.self.inside.rows.items c.place_of-at.result c.widen.new.self ≡ put key_cmp c.args.key.now c.widen.new.self.1 c.self.inside.rows.items
-over c = set_at_place c.self.inside.rows.items c.as_slice.result.now c.args.key.now c.args.key.now c.place_of-at.result c.index_mut.result.now c.widen.new.self c.as_slice.ensures.value refl c.place_of-at.ensures c.index_mut.ensures.value c.widen.ensures.key
+over : (c : goal.In_ok-widen) → flat (with_row_at c.self.inside.leaves.leaves c.place_of-place.result c.widen.new.self) ≡ put key_cmp c.args.key.now c.widen.new.self.1 (flat c.self.inside.leaves.leaves)
+over c = written c.as_slice.result.now c.self.inside.leaves.leaves c.as_slice.ensures.leaves c.args.key.now c.args.key.now refl c.place_of-place.result c.place_of-place.ensures.at c.place_of-place.ensures.row c.row_mut.result.now c.widen.new.self c.row_mut.ensures.value c.widen.ensures.key
 
 pub invariant_of-self-2 : goal.invariant_of-self-2
-invariant_of-self-2 c = (sorted_put c.self.inside.rows.items _ c.self.invariant.0 _ _ (over c), c.self.invariant.1)
+invariant_of-self-2 c = (sorted_put (flat c.self.inside.leaves.leaves) _ c.self.invariant.0 _ _ (over c), c.self.invariant.1)
 
 pub returns : goal.returns
 returns c =
-    let cells = c.self.inside.rows.items in
+    let cells = flat c.self.inside.leaves.leaves in
     let spare = c.self.inside.spares in
     let key = c.args.key.now in
-    let found = find_here cells c.as_slice.result.now key c.place_of-at.result c.as_slice.ensures.value c.index_mut.result.now c.place_of-at.ensures c.index_mut.ensures.value in
-    let value = value_seen cells spare c.args.self.now c.self.view_is key _ found in
-    let room = room_seen cells spare c.args.self.now c.self.view_is key _ found in
-    let seen = is_put cells spare c.args.self.now c.self.view_is (set cells c.place_of-at.result c.widen.new.self) key c.index_mut.result.now.1.value c.widen.new.self.1 c.widen.ensures.value (over c) in
+    let is = found c.as_slice.result.now c.self.inside.leaves.leaves c.as_slice.ensures.leaves key key refl c.place_of-place.result c.place_of-place.ensures.at c.row_mut.result.now c.row_mut.ensures.value in
+    let value = value_seen cells spare c.args.self.now c.self.view_is key _ is in
+    let room = room_seen cells spare c.args.self.now c.self.view_is key _ is in
+    let seen = is_put cells spare c.args.self.now c.self.view_is (flat (with_row_at c.self.inside.leaves.leaves c.place_of-place.result c.widen.new.self)) key c.row_mut.result.now.1.value c.widen.new.self.1 c.widen.ensures.value (over c) in
     record {
       ok = omega (arith, seen.room, c.in_ok-widen.ensures.ok);
-      rows = seen.rows ∙ put_same c.args.self.now.rows key c.index_mut.result.now.1.value (order_seen cells spare c.args.self.now c.self.view_is c.self.invariant.0) value;
-      rooms = seen.all_rooms (omega (arith, room));
+      exact = seen.room ∙ c.in_ok-widen.ensures.ok ∙ ap (λ n. max n c.args.room) (sym room);
+      enough = λ le. refl;
+      rows = seen.rows ∙ put_same c.args.self.now.rows key c.row_mut.result.now.1.value (order_seen cells spare c.args.self.now c.self.view_is c.self.invariant.0) value;
+      rooms = seen.all_rooms (omega (arith, room, c.in_ok-widen.ensures.ok));
       spare = ap (λ o. o.spare) c.self.view_is;
       err = tt;
     }
+
+-- after an error the row is what it was
+unchanged : (c : goal.After-from_residual) → flat (with_row_at c.self.inside.leaves.leaves c.place_of-place.result c.widen.new.self) ≡ flat c.self.inside.leaves.leaves
+unchanged c =
+    let ls = c.self.inside.leaves.leaves in
+    let place = c.place_of-place.result in
+    let row = subst (λ z. IsRow z place) c.as_slice.ensures.leaves c.place_of-place.ensures.row in
+    ap (λ w. flat (with_row_at ls place w)) c.in_err-widen.ensures.err ∙ flat-set_same ls place row.leaf c.row_mut.result.now row.row c.row_mut.ensures.value
+
+pub invariant_of-self : goal.invariant_of-self
+invariant_of-self c = (ap (is_sorted key_cmp) (unchanged c) ∙ c.self.invariant.0, c.self.invariant.1)
+
+pub returns-in_err-widen-clause-rows : goal.returns-in_err-widen-clause-rows
+returns-in_err-widen-clause-rows c = ap (λ z. (contents_of z c.self.inside.spares).rows) (unchanged c) ∙ ap (λ o. o.rows) c.self.view_is
+
+pub returns-in_err-widen-clause-rooms : goal.returns-in_err-widen-clause-rooms
+returns-in_err-widen-clause-rooms c = λ q. omega (arith, ap (λ z. room_at (contents_of z c.self.inside.spares).rooms q) (unchanged c), ap (λ o. room_at o.rooms q) c.self.view_is)
+
+pub returns-in_err-widen-clause-err : goal.returns-in_err-widen-clause-err
+returns-in_err-widen-clause-err c =
+    let p = err_from_is_err_and c.from_residual.result c.from_residual.ensures.1 in
+    rw p.1 (ap (λ z. contents_of z c.self.inside.spares) (unchanged c) ∙ c.self.view_is)
+
+-- a room that is there already takes no memory
+pub returns-in_err-widen-clause-enough : goal.returns-in_err-widen-clause-enough
+returns-in_err-widen-clause-enough c = λ le.
+    let cells = flat c.self.inside.leaves.leaves in
+    let is = found c.as_slice.result.now c.self.inside.leaves.leaves c.as_slice.ensures.leaves c.args.key.now c.args.key.now refl c.place_of-place.result c.place_of-place.ensures.at c.row_mut.result.now c.row_mut.ensures.value in
+    let room = room_seen cells c.self.inside.spares c.args.self.now c.self.view_is c.args.key.now _ is in
+    absurd (let no = c.in_err-widen.ensures.enough (omega (arith, room, le)) in cc no)
