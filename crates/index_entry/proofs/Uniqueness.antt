@@ -1,10 +1,17 @@
--- Bytes are the encoding of one entry at most.
-use Rattle.std.proofs.Common.{◌≡◌, ℕ, ◌+◌, ◌*◌, ◌^◌, ◌<◌, ◌≤◌, Bool, true, false, List, [], ◌∷◌, ◌++◌, length, take, drop, refl, sym, ap, ◌∙◌, arith, append_assoc}
+-- Bytes are the encoding of one entry at most, and of one header.
+use Rattle.std.proofs.Common.{◌≡◌, ℕ, ◌+◌, ◌*◌, ◌/◌, ◌%◌, ◌^◌, ◌<◌, ◌≤◌, Bool, true, false, List, [], ◌∷◌, ◌++◌, length, take, drop, refl, sym, ap, ◌∙◌, arith, append_assoc}
 use Rattle.std.specs.Int.{w16, w64, from_be_bytes}
 use Rattle.std.specs.List.{AllByRecursion}
 use Rattle.object_words.specs.declared.entry.Tag.{Tag}
 use Rattle.object_words.specs.Rows.{RowView}
 use Rattle.object_words.specs.Entries.{EntryView}
+use Rattle.object_words.specs.declared.shard.Hold.{Hold}
+use Rattle.object_words.specs.declared.shard.Hold.TheVariants.{Free, Reshard, Closing}
+use Rattle.object_words.specs.declared.shard.Fate.{Fate}
+use Rattle.object_words.specs.declared.shard.Fate.TheVariants.{Serving, Moved, Closed}
+use Rattle.index_entry.specs.declared.header.ShardHeader.{ShardHeader}
+use Rattle.index_entry.specs.Headers.{IsHeader, fate_kind, fate_number, header_bytes, hold_kind, hold_number}
+use Rattle.index_entry.proofs.HeaderLemmas.{both_halves, fate_byte, header_read, hold_byte, last_number, same_header}
 use Rattle.index_entry.specs.Numbers.{number_bytes, short_bytes}
 use Rattle.index_entry.specs.Layouts.{IsEntry, IsTag, IsWritten, entry_bytes, row_bytes, tags_bytes}
 use Rattle.index_entry.proofs.PieceLemmas.{behind, taken, number_once, short_once, length-number_bytes}
@@ -60,3 +67,40 @@ one_entry a b p q e =
 
 pub entry_most : (e : EntryView) → IsEntry e → length (entry_bytes e) ≤ 318 + 16 * length e.tags
 entry_most e is = omega (arith, length-entry_bytes e, row_most e.row is.row_fits)
+
+same_hold : (a b : Hold) → hold_kind a ≡ hold_kind b → hold_number a ≡ hold_number b → a ≡ b
+same_hold Free Free k n = refl
+same_hold Free (Reshard y) k n = absurd (omega (arith, k))
+same_hold Free (Closing y) k n = absurd (omega (arith, k))
+same_hold (Reshard x) Free k n = absurd (omega (arith, k))
+same_hold (Reshard x) (Reshard y) k n = ap Reshard n
+same_hold (Reshard x) (Closing y) k n = absurd (omega (arith, k))
+same_hold (Closing x) Free k n = absurd (omega (arith, k))
+same_hold (Closing x) (Reshard y) k n = absurd (omega (arith, k))
+same_hold (Closing x) (Closing y) k n = ap Closing n
+
+same_fate : (a b : Fate) → fate_kind a ≡ fate_kind b → fate_number a ≡ fate_number b → a ≡ b
+same_fate Serving Serving k n = refl
+same_fate Serving (Moved y) k n = absurd (omega (arith, k))
+same_fate Serving Closed k n = absurd (omega (arith, k))
+same_fate (Moved x) Serving k n = absurd (omega (arith, k))
+same_fate (Moved x) (Moved y) k n = ap Moved n
+same_fate (Moved x) Closed k n = absurd (omega (arith, k))
+same_fate Closed Serving k n = absurd (omega (arith, k))
+same_fate Closed (Moved y) k n = absurd (omega (arith, k))
+same_fate Closed Closed k n = refl
+
+pub one_header : (a b : ShardHeader) → IsHeader a → IsHeader b → header_bytes a ≡ header_bytes b → a ≡ b
+one_header a b p q e =
+    let bs = header_bytes a in
+    let r = header_read bs a refl in
+    let s = header_read bs b e in
+    let high = same_number bs 10 (a.bytes / 2 ^ 64) (b.bytes / 2 ^ 64) _ _ (omega (arith, p.bytes_fit)) (omega (arith, q.bytes_fit)) r.at_10 s.at_10 in
+    let low = same_number bs 18 (a.bytes % 2 ^ 64) (b.bytes % 2 ^ 64) _ _ (omega arith) (omega arith) r.at_18 s.at_18 in
+    let sum : a.bytes ≡ b.bytes = sym (both_halves (a.bytes / 2 ^ 64) (a.bytes % 2 ^ 64) a.bytes refl refl) ∙ both_halves (a.bytes / 2 ^ 64) (a.bytes % 2 ^ 64) b.bytes high low in
+    same_header a b (same_number bs 2 a.objects b.objects _ _ p.objects_fit q.objects_fit r.at_2 s.at_2) sum
+    (same_number bs 26 a.tags b.tags _ _ p.tags_fit q.tags_fit r.at_26 s.at_26) (same_number bs 34 a.last b.last _ _ p.last_fits q.last_fits r.at_34 s.at_34)
+    (same_hold a.hold b.hold (hold_byte bs a r ∙ sym (hold_byte bs b s)) (same_number bs 51 (hold_number a.hold) (hold_number b.hold) _ _ p.hold_fits q.hold_fits r.at_51 s.at_51))
+    (same_fate a.fate b.fate (fate_byte bs a r ∙ sym (fate_byte bs b s))
+    (same_number bs 60 (fate_number a.fate) (fate_number b.fate) _ _ p.fate_fits q.fate_fits (last_number bs a refl) (last_number bs b e)))
+    (same_number bs 42 a.fence b.fence _ _ p.fence_fits q.fence_fits r.at_42 s.at_42)

@@ -1,12 +1,19 @@
 //! Laws of the layouts: the functions here do nothing.
 ghost use Rattle.std.specs.Prelude.{◌≡◌, ◌≢◌, ◌+◌, ◌*◌, ◌≤◌, [], codes, drop, length, take, true};
 ghost use Rattle.object_words.specs.Entries.{EntryView};
+ghost use Rattle.index_entry.specs.declared.header.ShardHeader.{ShardHeader as HeaderOf};
+ghost use Rattle.index_entry.specs.Headers.{IsHeader, header_bytes};
 ghost use Rattle.index_entry.specs.Layouts.{IsEntry, entry_bytes};
 
 /// Bytes are the encoding of one entry at most, and as many as its tags let them be.
 pub fn an_entry_has_one_spelling()
     ensures one { (a b : EntryView) → IsEntry a → IsEntry b → entry_bytes a ≡ entry_bytes b → a ≡ b }
     ensures most { (e : EntryView) → IsEntry e → length (entry_bytes e) ≤ 318 + 16 * length e.tags }
+{}
+
+/// Bytes are the encoding of one header at most.
+pub fn a_header_has_one_spelling()
+    ensures { (a b : HeaderOf) → IsHeader a → IsHeader b → header_bytes a ≡ header_bytes b → a ≡ b }
 {}
 
 /// An entry of version 8 and revision 2 without tags: 5 bytes, written at moment 5 in zone 1.

@@ -10,7 +10,7 @@ mod numbers;
 pub use codec::{decode_entry, encode_entry};
 pub use entry::{EntryFront, FRONT_MOST, TAG_LEN, front, tag_at, write_front, write_tag};
 pub use header::{HEADER_LEN, ShardHeader, decode_header, encode_header};
-pub use laws::{an_entry_has_one_spelling, entries_are_written_so};
+pub use laws::{a_header_has_one_spelling, an_entry_has_one_spelling, entries_are_written_so};
 pub use std::alloc::AllocError as OutOfMemory;
 
 #[cfg(test)]
