@@ -3,7 +3,7 @@ use Rattle.std.specs.Prelude.{◌≡◌, ◌≢◌, ◌⊎◌, ℕ, List, ◌++�
 use Rattle.std.specs.Io.KnownBytes.{Appends}
 use Rattle.gw_io.specs.Outside.{Rose}
 use Rattle.md5.specs.Md5.{md5}
-use Rattle.rgw_model.specs.declared.stamp.Stamp.{Stamp}
+use Rattle.rgw_types.specs.declared.stamp.Stamp.{Stamp}
 use Rattle.rgw_model.specs.declared.slot.Slot.TheVariants.{Live}
 use Rattle.rgw_model.specs.declared.slot.Slot.{Slot}
 use Rattle.http_model.specs.declared.reply.ReplyForm.{ReplyForm}

@@ -17,8 +17,8 @@ use crate::{PlainStore, ServeFault};
 use gw_io::{Clock, Sink, write_all};
 use http_model::{BadRequest, ReplyForm};
 use md5::{Digest, Md5};
-use rgw_model::{Content, Refusal, Slot, Stamp, counted_moment};
-use rgw_types::{Bytes, Pairs, Text};
+use rgw_model::{Content, Refusal, Slot, counted_moment};
+use rgw_types::{Bytes, Pairs, Stamp, Text};
 use std::alloc::{AllocError, Global};
 
 /// The number of the one zone.

@@ -9,7 +9,8 @@ ghost use Rattle.rgw_model.specs.Answers.{shown_whole};
 use date_words::date_text_of_micros;
 use http::StatusCode;
 use http_model::{BadRequest, ReplyForm};
-use rgw_model::{Content, Refusal, Stamp};
+use rgw_model::{Content, Refusal};
+use rgw_types::Stamp;
 use std::alloc::AllocError;
 
 /// The phrase of a status code.

@@ -9,8 +9,7 @@ use crate::OutOfMemory;
 use crate::entry::{FRONT_MOST, TAG_LEN, front, size_of_row, tag_in, write_front, write_tag};
 use crate::numbers::{u16_at, u64_at};
 use object_words::{Entry, EntryRow, MediaType, ObjectName, Tags};
-use rgw_model::Stamp;
-use rgw_types::{Bytes, Text};
+use rgw_types::{Bytes, Stamp, Text};
 use std::alloc::Global;
 
 /// The bytes of an entry, without its name. They are at most 318, and 16 for each tag.

@@ -1,7 +1,7 @@
 -- What each call does to a head: why it is refused, and what it leaves, which is the head as it was where it is refused.
 use Rattle.std.specs.Prelude.{ℕ, ◌==◌, nat_lt, nat_le, Option, Some, None, unwrap_or, if◌then◌else◌}
-use Rattle.rgw_model.specs.declared.stamp.Stamp.{Stamp}
-use Rattle.rgw_model.specs.Stamps.{stamp_above}
+use Rattle.rgw_types.specs.declared.stamp.Stamp.{Stamp}
+use Rattle.rgw_types.specs.Stamps.{stamp_above}
 use Rattle.object_words.specs.declared.entry.Guard.{Guard}
 use Rattle.object_words.specs.declared.head.NewHead.{NewHead}
 use Rattle.object_words.specs.declared.head.HeadSeen.{HeadSeen}

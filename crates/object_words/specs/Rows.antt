@@ -1,6 +1,6 @@
 -- What the index says of an object.
 use Rattle.std.specs.Prelude.{◌≡◌, ◌≤◌, ℕ, Bool, false, List, [], length, replicate}
-use Rattle.rgw_model.specs.declared.stamp.Stamp.{Stamp}
+use Rattle.rgw_types.specs.declared.stamp.Stamp.{Stamp}
 use Rattle.object_words.specs.Limits.{media_type_limit}
 
 -- whether the object exists, with its size, stamp, digest and type

@@ -1,5 +1,5 @@
 use crate::{Entries, MediaType, ObjectName, Tags};
-use rgw_model::Stamp;
+use rgw_types::Stamp;
 use std::alloc::Global;
 use std::marker::Model;
 

@@ -1,6 +1,5 @@
 use crate::{EntryRow, MediaType, Texts};
-use rgw_model::Stamp;
-use rgw_types::{Bytes, Manifest, Pairs};
+use rgw_types::{Bytes, Manifest, Pairs, Stamp};
 
 /// What a head keeps of an object: where its bytes are, the first of them, and its attributes.
 #[derive(Debug, Drop)]

@@ -2,7 +2,7 @@ ghost use Rattle.std.specs.Prelude.{◌≡◌};
 ghost use Rattle.object_words.specs.declared.why.ClassFault.TheVariants.{OutOfMemory, No};
 
 use crate::ObjectName;
-use rgw_model::Stamp;
+use rgw_types::Stamp;
 use std::alloc::AllocError;
 
 /// Why an operation was refused.

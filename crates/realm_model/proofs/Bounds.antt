@@ -2,8 +2,9 @@
 use Rattle.std.proofs.Common.{◌≡◌, ℕ, ◌+◌, ◌<◌, ◌≤◌, ◌^◌, ◌⊎◌, inl, inr, Bool, true, false, cond, List, Option, Some, None, refl, sym, subst, arith, nat_lt}
 use Rattle.std.specs.Prelude.{IfSome}
 use Rattle.std.proofs.lemmas.Bool.Decides.{nat_tests}
-use Rattle.rgw_model.specs.declared.stamp.Stamp.{Stamp}
-use Rattle.rgw_model.specs.Stamps.{IsEarlier, counted_moment, stamp_above}
+use Rattle.rgw_types.specs.declared.stamp.Stamp.{Stamp}
+use Rattle.rgw_types.specs.Stamps.{IsEarlier, stamp_above}
+use Rattle.rgw_model.specs.Stamps.{counted_moment}
 use Rattle.object_words.specs.declared.bucket.Bucket.{Bucket}
 use Rattle.object_words.specs.declared.entry.Tag.{Tag}
 use Rattle.object_words.specs.declared.entry.Guard.{Guard}

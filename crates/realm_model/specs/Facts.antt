@@ -2,7 +2,7 @@
 use Rattle.std.specs.Prelude.{ℕ, Bool, List, Option}
 use Rattle.rgw_types.specs.declared.pool_key.Key.{Key}
 use Rattle.rgw_model.specs.declared.slot.Slot.{Slot}
-use Rattle.rgw_model.specs.declared.stamp.Stamp.{Stamp}
+use Rattle.rgw_types.specs.declared.stamp.Stamp.{Stamp}
 use Rattle.realm_model.specs.Phases.{ActorId, OwnChange}
 use Rattle.realm_model.specs.Maps.{Made}
 

@@ -1,7 +1,7 @@
 -- What an event never lowers: stamps, versions and revisions.
 use Rattle.std.specs.Prelude.{◌≡◌, ℕ, ◌<◌, ◌≤◌, ◌⊎◌, List, Option, Some, None, IfSome, IsSomeAnd}
 use Rattle.rgw_types.specs.declared.pool_key.Key.{Key}
-use Rattle.rgw_model.specs.Stamps.{IsEarlier}
+use Rattle.rgw_types.specs.Stamps.{IsEarlier}
 use Rattle.object_words.specs.declared.bucket.Bucket.{Bucket}
 use Rattle.object_words.specs.Names.{at}
 use Rattle.object_words.specs.Entries.{EntryView, entry_of}

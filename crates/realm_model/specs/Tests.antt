@@ -1,7 +1,7 @@
 -- Whether two values are one, as tests.
 use Rattle.std.specs.Prelude.{ℕ, ◌==◌, ◌&&◌, nat_eq, not, Bool, true, false, List, bytes_eq, Option, Some, None}
 use Rattle.std.specs.Cmp.Lexicographic.{pointwise}
-use Rattle.rgw_model.specs.declared.stamp.Stamp.{Stamp}
+use Rattle.rgw_types.specs.declared.stamp.Stamp.{Stamp}
 use Rattle.object_words.specs.declared.entry.Guard.{Guard}
 use Rattle.object_words.specs.Rows.{RowView}
 

@@ -1,7 +1,7 @@
 -- All that a history leaves: the objects, what each actor knows, and facts of the history.
 use Rattle.std.specs.Prelude.{ℕ, ◌==◌, ◌&&◌, Bool, true, false, List, bytes_eq, Option, Some, None, if◌then◌else◌}
 use Rattle.rgw_model.specs.declared.slot.Slot.{Slot}
-use Rattle.rgw_model.specs.declared.stamp.Stamp.{Stamp}
+use Rattle.rgw_types.specs.declared.stamp.Stamp.{Stamp}
 use Rattle.rgw_types.specs.Stripes.{ManifestView, tails_of}
 use Rattle.object_words.specs.declared.bucket.Bucket.{Bucket}
 use Rattle.object_words.specs.declared.head.SeenSlot.TheVariants.{Live}

@@ -2,7 +2,7 @@
 -- v1, objects).
 use Rattle.std.specs.Prelude.{ℕ, List, [], length, Option, unwrap_or, codes}
 use Rattle.md5.specs.Md5.{md5}
-use Rattle.rgw_model.specs.declared.stamp.Stamp.{Stamp}
+use Rattle.rgw_types.specs.declared.stamp.Stamp.{Stamp}
 use Rattle.rgw_model.specs.declared.slot.Content.{Content}
 use Rattle.rgw_model.specs.declared.slot.Slot.{Slot}
 use Rattle.rgw_model.specs.declared.slot.Slot.TheVariants.{Nothing, Live, Mark}

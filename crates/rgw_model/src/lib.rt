@@ -3,12 +3,12 @@
 #![tactic(auto)]
 
 mod laws;
+mod moment;
 mod reply;
 mod slot;
-mod stamp;
 
 pub use date_words::LATEST_MOMENT;
 pub use laws::a_change_is_stamped_later;
+pub use moment::counted_moment;
 pub use reply::{MapReply, Refusal};
 pub use slot::{Content, Slot};
-pub use stamp::{Stamp, counted_moment, stamps_are_in_one_order};

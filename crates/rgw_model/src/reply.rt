@@ -1,5 +1,4 @@
-use crate::Stamp;
-use rgw_types::{Pairs, Text};
+use rgw_types::{Pairs, Stamp, Text};
 
 /// Why the gateway does not do what a request asks.
 #[derive(Clone, Copy, Debug, PartialEq, Eq)]

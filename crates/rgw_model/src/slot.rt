@@ -1,7 +1,6 @@
 ghost use Rattle.std.specs.Prelude.{◌≡◌};
 
-use crate::Stamp;
-use rgw_types::{Bytes, Pairs, Text};
+use rgw_types::{Bytes, Pairs, Stamp, Text};
 
 /// What is stored under a name.
 #[derive(Debug, Drop)]

@@ -1,5 +1,5 @@
 use Rattle.std.proofs.Common.{sym, ap, subst, arith}
-use Rattle.rgw_model.specs.declared.stamp.Stamp.{Stamp}
+use Rattle.rgw_types.specs.declared.stamp.Stamp.{Stamp}
 use Rattle.object_words.specs.Rows.{IsRow}
 use Rattle.index_entry.proofs.EntryLemmas.{live_parts, same_row}
 use Rattle.index_entry.proofs.codec.row_of.Goals as goal

@@ -1,8 +1,6 @@
 ghost use Rattle.std.specs.Prelude.{◌≡◌, ◌+◌, ◌<◌, ◌^◌, ◌↔◌, ◌⊎◌, ℕ, IsTrue};
-ghost use Rattle.rgw_model.specs.declared.stamp.Stamp.{Stamp as StampOf};
-ghost use Rattle.rgw_model.specs.Stamps.{IsEarlier, counted_moment, stamp_above};
-
-use date_words::LATEST_MOMENT;
+ghost use Rattle.rgw_types.specs.declared.stamp.Stamp.{Stamp as StampOf};
+ghost use Rattle.rgw_types.specs.Stamps.{IsEarlier, stamp_above};
 
 /// When a change was made and in which zone: the order of changes of one name.
 /// The moment counts first, in microseconds since 1970, and then the zone.
@@ -10,13 +8,6 @@ use date_words::LATEST_MOMENT;
 pub struct Stamp {
     pub micros: u64,
     pub zone: u8,
-}
-
-/// The moment as it counts: a later one than the last of the year 9999 is taken as that.
-pub fn counted_moment(moment: u64) -> u64
-    ensures { result ≡ counted_moment moment }
-{
-    moment.min(LATEST_MOMENT)
 }
 
 impl Stamp {
