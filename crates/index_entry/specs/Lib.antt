@@ -1,3 +1,4 @@
 pub mod Numbers
 pub mod Layouts
 pub mod Headers
+pub mod LogRows
