@@ -1,0 +1,5 @@
+//! Words alone, for now.
+#![tactic(auto)]
+
+/// Nothing.
+pub fn nothing() {}

@@ -1,0 +1,4 @@
+pub mod StandLemmas
+pub mod Given
+pub mod BoundLemmas
+pub mod SmallLemmas

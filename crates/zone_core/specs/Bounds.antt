@@ -1,0 +1,29 @@
+-- How large the objects of a zone can be after so many events: what leaves room for one event more.
+use Rattle.std.specs.Prelude.{ℕ, ◌*◌, ◌^◌, ◌<◌, ◌≤◌, List, Option, None, Some, IfSome}
+use Rattle.std.specs.List.{AllByRecursion}
+use Rattle.rgw_types.specs.declared.pool_key.Key.{Key}
+use Rattle.object_words.specs.Names.{at}
+use Rattle.object_words.specs.Shards.{Shard, byte_count, object_count, sum_over, tag_count}
+use Rattle.realm_model.specs.States.{State}
+use Rattle.realm_model.specs.declared.op.Op.{Op}
+use Rattle.realm_model.specs.declared.op.Op.TheVariants.{Complete, Suggest}
+
+-- after so many events a shard's sums, its last position and the numbers of its tags are at most so great
+pub record IsSmallBy (count : ℕ) (s : Shard) : Type 0 where
+  pub objects : sum_over object_count s ≤ count
+  pub bytes : sum_over byte_count s ≤ count * 2 ^ 64
+  pub tags : sum_over tag_count s ≤ count
+  pub last : s.log.last ≤ count
+  pub below : (name : List ℕ) → IfSome (at s.entries name) (λ e. AllByRecursion (λ t. t.tag ≤ count) e.tags)
+
+-- after so many events the objects of a zone are at most so large
+pub record AreSmallBy (count zone : ℕ) (st : State) : Type 0 where
+  pub root : (st.root zone).log.last ≤ count
+  pub changes : (st.changes zone).last ≤ count
+  pub shards : (key : Key) → IfSome (st.shards zone key) (IsSmallBy count)
+
+-- the sizes that an operation brings are numbers of 64 bits
+abbrev pub FitsOp : Op → Type 0
+FitsOp (Complete zone key name tag version row) = row.size < 2 ^ 64
+FitsOp (Suggest zone key name revision seen version row) = row.size < 2 ^ 64
+FitsOp op = Unit {0}

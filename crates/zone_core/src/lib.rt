@@ -1,0 +1,5 @@
+//! The objects of one zone.
+#![tactic(auto)]
+
+/// Nothing.
+pub fn nothing() {}
