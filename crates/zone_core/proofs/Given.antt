@@ -14,7 +14,7 @@ use Rattle.class_words.specs.Works.{WorksWith}
 use Rattle.cls_head.specs.Heads.{IsHead}
 use Rattle.cls_head.specs.Tails.{IsTail}
 use Rattle.cls_record.specs.RootObjects.{IsRoot}
-use Rattle.zone_core.specs.Stands.{IsChanges}
+use Rattle.cls_log.specs.LogObjects.{IsLogObject}
 
 -- what a call on the place of a key left
 pub record Gave (p f : PoolView) (key : Key) (is : Object) (left : ℕ) : Type 0 where
@@ -97,10 +97,10 @@ settled_root o r is = by_existence (λ x. IsRoot x r) o (λ there. is) (λ absen
   log = is.log;
 })
 
-pub settled_changes : (o : Object) (log : Log) → IsChanges o log → IsChanges (settled o) log
-settled_changes o log is = by_existence (λ x. IsChanges x log) o (λ there. is) (λ absent. record {
+pub settled_changes : (o : Object) (log : Log) → IsLogObject o log → IsLogObject (settled o) log
+settled_changes o log is = by_existence (λ x. IsLogObject x log) o (λ there. is) (λ absent. record {
   bytes = refl;
   attrs = sym (no_attrs o absent) ∙ is.attrs;
-  rows = λ key. ap (λ rows. value_at rows key) (sym (no_rows_left o absent)) ∙ is.rows key;
-  log = is.log;
+  rows = sym (no_rows_left o absent) ∙ is.rows;
+  is_log = is.is_log;
 })

@@ -2,3 +2,5 @@ pub mod StandLemmas
 pub mod Given
 pub mod BoundLemmas
 pub mod SmallLemmas
+pub mod ShardCallLemmas
+pub mod HeadCallLemmas

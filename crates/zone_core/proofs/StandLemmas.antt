@@ -17,7 +17,8 @@ use Rattle.cls_head.specs.Tails.{IsTail}
 use Rattle.cls_record.specs.RootObjects.{IsRoot}
 use Rattle.realm_model.specs.Settings.{SettingsView}
 use Rattle.realm_model.specs.States.{State, at_changes, at_head, at_root, at_shard, at_tail, free_after, put_in, touched}
-use Rattle.zone_core.specs.Stands.{IsChanges, Stands}
+use Rattle.cls_log.specs.LogObjects.{IsLogObject}
+use Rattle.zone_core.specs.Stands.{Stands}
 
 -- ---- kinds of keys
 
@@ -78,19 +79,19 @@ module _ (settings : SettingsView) (zone : ℕ) (p f : PoolView) (st : State) (s
     shards = λ key is. subst (λ o. IsShardOr o (st.shards zone key)) (sym (others key (λ same. true≢false (sym is ∙ ap is_shard_key same)))) (stands.shards key is);
     heads = λ container name. subst (λ o. IsHead o (st.heads zone (Head container name))) (sym (others (Head container name) (apart_by is_root (Head container name) Root refl refl))) (stands.heads container name);
     tails = λ write part. subst (λ o. IsTail o (st.tails zone (Tail write part))) (sym (others (Tail write part) (apart_by is_root (Tail write part) Root refl refl))) (stands.tails write part);
-    changes = subst (λ o. IsChanges o (st.changes zone)) (sym (others Changes (apart_by is_root Changes Root refl refl))) stands.changes;
+    changes = subst (λ o. IsLogObject o (st.changes zone)) (sym (others Changes (apart_by is_root Changes Root refl refl))) stands.changes;
     frame = frame ∙ stands.frame;
     free = free ∙ stands.free;
   }
 
-  pub stands_changes : (log : Log) → KeepsOthers p f Changes → f.frame ≡ p.frame → f.free ≡ p.free → IsChanges (object_at f Changes) log
+  pub stands_changes : (log : Log) → KeepsOthers p f Changes → f.frame ≡ p.frame → f.free ≡ p.free → IsLogObject (object_at f Changes) log
       → Stands settings zone f (touched settings st (at_changes zone log))
   stands_changes log others frame free here = record {
     root = subst (λ o. IsRoot o (st.root zone)) (sym (others Root (apart_by is_changes Root Changes refl refl))) stands.root;
     shards = λ key is. subst (λ o. IsShardOr o (st.shards zone key)) (sym (others key (λ same. true≢false (sym is ∙ ap is_shard_key same)))) (stands.shards key is);
     heads = λ container name. subst (λ o. IsHead o (st.heads zone (Head container name))) (sym (others (Head container name) (apart_by is_changes (Head container name) Changes refl refl))) (stands.heads container name);
     tails = λ write part. subst (λ o. IsTail o (st.tails zone (Tail write part))) (sym (others (Tail write part) (apart_by is_changes (Tail write part) Changes refl refl))) (stands.tails write part);
-    changes = subst (IsChanges (object_at f Changes)) (sym (put_here st.changes zone log)) here;
+    changes = subst (IsLogObject (object_at f Changes)) (sym (put_here st.changes zone log)) here;
     frame = frame ∙ stands.frame;
     free = free ∙ stands.free;
   }
@@ -105,7 +106,7 @@ module _ (settings : SettingsView) (zone : ℕ) (p f : PoolView) (st : State) (s
             (λ differs. subst (λ o. IsShardOr o (st.shards zone q)) (sym (others q differs)) (stands.shards q is));
         heads = λ container name. subst (λ o. IsHead o (st.heads zone (Head container name))) (sym (other (Head container name) refl)) (stands.heads container name);
         tails = λ write part. subst (λ o. IsTail o (st.tails zone (Tail write part))) (sym (other (Tail write part) refl)) (stands.tails write part);
-        changes = subst (λ o. IsChanges o (st.changes zone)) (sym (other Changes refl)) stands.changes;
+        changes = subst (λ o. IsLogObject o (st.changes zone)) (sym (other Changes refl)) stands.changes;
         frame = frame ∙ stands.frame;
         free = free ∙ stands.free;
       }
@@ -119,7 +120,7 @@ module _ (settings : SettingsView) (zone : ℕ) (p f : PoolView) (st : State) (s
     heads = λ c n. after_put (λ k x. IsHead (object_at f k) x) st.heads zone (Head container name) (Head c n) h here
         (λ differs. subst (λ o. IsHead o (st.heads zone (Head c n))) (sym (others (Head c n) differs)) (stands.heads c n));
     tails = λ write part. subst (λ o. IsTail o (st.tails zone (Tail write part))) (sym (others (Tail write part) (apart_by is_head (Tail write part) (Head container name) refl refl))) (stands.tails write part);
-    changes = subst (λ o. IsChanges o (st.changes zone)) (sym (others Changes (apart_by is_head Changes (Head container name) refl refl))) stands.changes;
+    changes = subst (λ o. IsLogObject o (st.changes zone)) (sym (others Changes (apart_by is_head Changes (Head container name) refl refl))) stands.changes;
     frame = frame ∙ stands.frame;
     free = free ∙ sym (put_here st.free zone _);
   }
@@ -133,7 +134,7 @@ module _ (settings : SettingsView) (zone : ℕ) (p f : PoolView) (st : State) (s
     heads = λ c n. subst (λ o. IsHead o (st.heads zone (Head c n))) (sym (others (Head c n) (apart_by is_tail (Head c n) (Tail write part) refl refl))) (stands.heads c n);
     tails = λ w n. after_put (λ k x. IsTail (object_at f k) x) st.tails zone (Tail write part) (Tail w n) t here
         (λ differs. subst (λ o. IsTail o (st.tails zone (Tail w n))) (sym (others (Tail w n) differs)) (stands.tails w n));
-    changes = subst (λ o. IsChanges o (st.changes zone)) (sym (others Changes (apart_by is_tail Changes (Tail write part) refl refl))) stands.changes;
+    changes = subst (λ o. IsLogObject o (st.changes zone)) (sym (others Changes (apart_by is_tail Changes (Tail write part) refl refl))) stands.changes;
     frame = frame ∙ stands.frame;
     free = free ∙ sym (put_here st.free zone _);
   }

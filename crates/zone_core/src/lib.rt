@@ -1,5 +1,4 @@
-//! The objects of one zone.
+//! The objects of one zone: one operation on one of them.
 #![tactic(auto)]
 
-/// Nothing.
-pub fn nothing() {}
+mod heads;
