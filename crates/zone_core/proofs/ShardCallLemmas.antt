@@ -50,13 +50,13 @@ settled_shard o s is = subst (λ b. IsShard (cond b o nothing) s) (sym (shard_ex
 
 -- ---- the answers of a call in other words
 
-answers_as : {V S S' : Type 0} (result : Result V ClassFault) (refusal refusal' : Option Why) (IsValue : V → Type 0) (Is : S → Type 0) (Is' : S' → Type 0) (before after : S) (before' after' : S')
+pub answers_as : {V S S' : Type 0} (result : Result V ClassFault) (refusal refusal' : Option Why) (IsValue : V → Type 0) (Is : S → Type 0) (Is' : S' → Type 0) (before after : S) (before' after' : S')
     → refusal' ≡ refusal → (Is before → Is' before') → (Is after → Is' after') → Answers result refusal IsValue Is before after → Answers result refusal' IsValue Is' before' after'
 answers_as (Ok value) refusal refusal' IsValue Is Is' before after before' after' same b a answers = (same ∙ answers.0, answers.1, a answers.2)
 answers_as (Err (No why)) refusal refusal' IsValue Is Is' before after before' after' same b a answers = (same ∙ answers.0, a answers.1)
 answers_as (Err OutOfMemory) refusal refusal' IsValue Is Is' before after before' after' same b a answers = b answers
 
-replies_as : {V S S' : Type 0} (result : Result V Why) (refusal refusal' : Option Why) (IsValue : V → Type 0) (Is : S → Type 0) (Is' : S' → Type 0) (after : S) (after' : S')
+pub replies_as : {V S S' : Type 0} (result : Result V Why) (refusal refusal' : Option Why) (IsValue : V → Type 0) (Is : S → Type 0) (Is' : S' → Type 0) (after : S) (after' : S')
     → refusal' ≡ refusal → (Is after → Is' after') → Replies result refusal IsValue Is after → Replies result refusal' IsValue Is' after'
 replies_as (Ok value) refusal refusal' IsValue Is Is' after after' same a replies = (same ∙ replies.0, replies.1, a replies.2)
 replies_as (Err why) refusal refusal' IsValue Is Is' after after' same a replies = (same ∙ replies.0, a replies.1)

@@ -58,7 +58,23 @@ fn write_at(
 }
 
 /// Makes the tail of a key.
-pub(crate) fn make_tail_at(pool: &mut Pool, alloc: Global, write: u64, part: PartNumber, bytes: &[u8]) -> Result<(), ClassFault>
+fn make_at(alloc: Global, pool: &mut Pool, key: &Key, bytes: &[u8]) -> Result<(), ClassFault>
+    requires stands { (settings : SettingsView) × (zone : ℕ) × (st : State) × (write : ℕ) × (part : ℕ) × Stands settings zone pool.old st × (key.now ≡ tail_key write part) }
+    ensures { (settings : SettingsView) (zone : ℕ) (st : State) (write part : ℕ) → Stands settings zone pool.old st → key.now ≡ tail_key write part
+        → Answers result (tail_refusal bytes.now (st.free zone) settings.frame) (λ _. Unit {0})
+        (Stands settings zone pool.new) st (touched settings st (at_tail zone key.now (tail_made (st.tails zone key.now) bytes.now (st.free zone) settings.frame))) }
+{
+    let Ok(mut tail) = pool.place(alloc, key) else {
+        return Err(ClassFault::OutOfMemory);
+    };
+    match make_tail(&mut tail, bytes) {
+        Ok(()) => Ok(()),
+        Err(why) => Err(ClassFault::No(why)),
+    }
+}
+
+/// Makes a tail of a write.
+pub(crate) fn make_tail_at(alloc: Global, pool: &mut Pool, write: u64, part: PartNumber, bytes: &[u8]) -> Result<(), ClassFault>
     requires stands { (settings : SettingsView) × (zone : ℕ) × (st : State) × Stands settings zone pool.old st }
     ensures { (settings : SettingsView) (zone : ℕ) (st : State) → Stands settings zone pool.old st
         → let key = tail_key write part in
@@ -66,10 +82,34 @@ pub(crate) fn make_tail_at(pool: &mut Pool, alloc: Global, write: u64, part: Par
         (Stands settings zone pool.new) st (touched settings st (at_tail zone key (tail_made (st.tails zone key) bytes.now (st.free zone) settings.frame))) }
 {
     let key = Key::Tail { write, part };
-    let Ok(mut tail) = pool.place(alloc, &key) else {
-        return Err(ClassFault::OutOfMemory);
-    };
-    Ok(make_tail(&mut tail, bytes)?)
+    make_at(alloc, pool, &key, bytes)
+}
+
+/// Gives a name new content.
+pub(crate) fn write_head(
+    alloc: Global,
+    pool: &mut Pool,
+    container: u64,
+    name: &ObjectName,
+    guard: Guard,
+    new: &NewHead,
+    when: &Conditions,
+    zone: u8,
+    number: u64,
+    clock: u64,
+) -> Result<Changed, ClassFault>
+    requires stands { (settings : SettingsView) × (st : State) × Stands settings zone pool.old st }
+    requires zone_low { 1 ≤ zone }
+    requires zone_high { zone ≤ 8 }
+    ensures { (settings : SettingsView) (st : State) → Stands settings zone pool.old st
+        → let key = head_key container name.now in
+        let after = written (st.heads zone key) guard new.now when.now zone number clock (st.free zone) settings.frame in
+        Answers result (write_refusal (st.heads zone key) guard new.now when.now clock (st.free zone) settings.frame)
+        (λ changed. changed ≡ change_of (st.heads zone key) after) (Stands settings zone pool.new) st (touched settings st (at_head zone key after)) }
+{
+    let name = name.as_text().clone()?;
+    let key = Key::Head { container, name };
+    write_at(alloc, pool, &key, guard, new, when, zone, number, clock)
 }
 
 /// What is there of a range of a tail.
