@@ -4,3 +4,4 @@ pub mod BoundLemmas
 pub mod SmallLemmas
 pub mod ShardCallLemmas
 pub mod HeadCallLemmas
+pub mod RecordLemmas
