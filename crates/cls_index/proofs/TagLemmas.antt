@@ -1,11 +1,11 @@
 -- Tags of which one goes or comes.
-use Rattle.std.proofs.Common.{◌≡◌, ℕ, zero, suc, ◌+◌, ◌<◌, ◌==◌, ◌&&◌, ◌||◌, nat_lt, Bool, true, false, true≢false, List, [], ◌∷◌, length, take, get_or, refl, sym, ap, arith}
+use Rattle.std.proofs.Common.{◌≡◌, ℕ, zero, suc, ◌+◌, ◌<◌, ◌==◌, ◌&&◌, ◌||◌, ◌≤◌, nat_le, nat_lt, Bool, true, false, true≢false, List, [], ◌∷◌, length, take, get_or, refl, sym, ap, arith}
 use Rattle.std.specs.List.{AllByRecursion, remove}
 use Rattle.std.proofs.lemmas.List.{take_more}
 use Rattle.std.proofs.lemmas.List.Folds.{list_any-append}
 use Rattle.std.proofs.lemmas.Bool.Decides.{nat_tests}
 use Rattle.object_words.specs.declared.entry.Tag.{Tag}
-use Rattle.object_words.specs.Tags.{has_tag, tags_rise, with_tag, without_tag}
+use Rattle.object_words.specs.Tags.{has_due, has_tag, is_due, tags_rise, with_tag, without_tag}
 
 -- each tag is below all that follow it
 abbrev pub Rise : List Tag → Type 0
@@ -89,3 +89,24 @@ found_at tag (suc place) (t ∷ ts) d some none here =
     let b = both_false (t.tag == tag) (has_tag tag (take place ts)) none in
     let rest = found_at tag place ts d (omega (arith, some)) b.1 here in
     rw b.0 (rest.0, ap (λ l. t ∷ l) rest.1)
+
+-- no tag of the first ones is due
+pub none_due : (moment place : ℕ) (ts : List Tag) (d : Tag) → place < length ts → has_due moment (take place ts) ≡ false → nat_le (get_or ts place d).deadline moment ≡ false → has_due moment (take (place + 1) ts) ≡ false
+none_due moment place ts d some none other =
+    rw (take_more ts place d some, list_any-append (is_due moment) (take place ts) (get_or ts place d ∷ []), none, other) refl
+
+-- the tag at a place is due
+pub due_at : (moment place : ℕ) (ts : List Tag) (d : Tag) → place < length ts → nat_le (get_or ts place d).deadline moment ≡ true → has_due moment ts ≡ true
+due_at moment zero [] d some here = absurd (omega (arith, some))
+due_at moment zero (t ∷ ts) d some here = rw here refl
+due_at moment (suc place) [] d some here = absurd (omega (arith, some))
+due_at moment (suc place) (t ∷ ts) d some here = rw (due_at moment place ts d (omega (arith, some)) here) (or_true (is_due moment t)) where
+  or_true : (a : Bool) → (a || true) ≡ true
+  or_true true = refl
+  or_true false = refl
+
+pub at_most : (a b : ℕ) → a ≤ b → nat_le a b ≡ true
+at_most a b le = grind (arith, nat_tests)
+
+pub above : (a b : ℕ) → (a ≤ b → ⊥) → nat_le a b ≡ false
+above a b no = grind (arith, nat_tests)

@@ -18,7 +18,7 @@ pub use completing::complete;
 pub use paging::page;
 pub use preparing::prepare;
 pub use statistics::stats;
-pub use suggesting::suggest;
+pub use suggesting::{suggest, untimely};
 
 #[cfg(test)]
 mod tests;

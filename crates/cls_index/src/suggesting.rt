@@ -1,8 +1,8 @@
-ghost use Rattle.std.specs.Prelude.{◌≡◌, ℕ, true};
+ghost use Rattle.std.specs.Prelude.{◌≡◌, ℕ, Option, true};
 ghost use Rattle.object_pool.specs.Places.{object_of};
 ghost use Rattle.object_words.specs.Answers.{Replies};
 ghost use Rattle.object_words.specs.Shards.{Shard as ShardOf, entry_at};
-ghost use Rattle.object_words.specs.ShardCalls.{suggest_refusal, suggested};
+ghost use Rattle.object_words.specs.ShardCalls.{suggest_refusal, suggested, untimely_refusal};
 ghost use Rattle.object_words.specs.Tags.{has_due};
 ghost use Rattle.class_words.specs.Shards.{IsShard, IsSmall};
 ghost use Rattle.class_words.specs.Works.{Works};
@@ -10,7 +10,7 @@ ghost use Rattle.class_words.specs.Works.{Works};
 use crate::header::{check_changes, header_at};
 use crate::rows::front_at;
 use crate::settling::{bytes_of, settle};
-use crate::tags::take_due;
+use crate::tags::{has_due, take_due};
 use index_entry::EntryFront;
 use object_pool::Place;
 use object_words::{EntryRow, ObjectName, Why};
@@ -47,4 +47,20 @@ pub fn suggest(
     let left = EntryFront { tags, ..front };
     settle(shard, name, &header, &left, front.tags - tags, version, row);
     Ok(())
+}
+
+/// Why a suggestion is untimely: the entry is as it was seen, and no tag of it was due at that moment.
+/// An event that suggests is refused for this reason first.
+pub fn untimely(shard: &Place<'_>, name: &ObjectName, revision: u64, seen: u64) -> Option<Why>
+    requires { (s : ShardOf) × IsShard (object_of shard.now) s }
+    ensures { (s : ShardOf) → IsShard (object_of shard.now) s → result ≡ untimely_refusal s name.now revision seen }
+{
+    let text = bytes_of(name);
+    let Some(front) = front_at(shard, text) else {
+        return if revision == 0 { Some(Why::Stale { revision }) } else { None };
+    };
+    if front.revision != revision || has_due(shard, text, front.tags, seen) {
+        return None;
+    }
+    Some(Why::Stale { revision })
 }

@@ -4,7 +4,7 @@ ghost use Rattle.std.specs.List.{remove};
 ghost use Rattle.object_pool.specs.Places.{rows_of};
 ghost use Rattle.object_words.specs.declared.entry.Tag.{Tag as TagOf};
 ghost use Rattle.object_words.specs.Entries.{EntryView, entry_of};
-ghost use Rattle.object_words.specs.Tags.{has_tag, tags_due_taken, without_tag};
+ghost use Rattle.object_words.specs.Tags.{has_due, has_tag, tags_due_taken, without_tag};
 ghost use Rattle.index_entry.specs.Layouts.{IsEntry, entry_bytes, front_of};
 ghost use Rattle.class_words.specs.Shards.{HasEntry};
 ghost use Rattle.cls_index.specs.Rows.{KeepsToName};
@@ -68,4 +68,17 @@ pub(crate) fn take_due(shard: &mut Place<'_>, name: &[u8], front: &EntryFront, m
         }
     }
     left.tags
+}
+
+/// Whether some tag of the entry of a name is due at a moment.
+pub(crate) fn has_due(shard: &Place<'_>, name: &[u8], count: u64, moment: u64) -> bool
+    requires { (e : EntryView) × HasEntry (rows_of shard.now) name.now (Some e) × (count ≡ length e.tags) }
+    ensures { (e : EntryView) → HasEntry (rows_of shard.now) name.now (Some e) → count ≡ length e.tags → result ≡ has_due moment e.tags }
+{
+    for place in 0..count {
+        if moment >= tag_of(shard, name, place).deadline {
+            return true;
+        }
+    }
+    false
 }
