@@ -1,5 +1,5 @@
 -- A shard of which the row of one name was changed, and not yet the header.
-use Rattle.std.proofs.Common.{◌≡◌, ℕ, ◌+◌, ◌-◌, ◌≤◌, ◌<◌, ◌==◌, ◌||◌, not, Bool, true, false, cond, List, length, Option, Some, None, IfSome, refl, sym, ap, ◌∙◌, subst, arith}
+use Rattle.std.proofs.Common.{◌≡◌, ℕ, ◌+◌, ◌-◌, ◌≤◌, ◌<◌, ◌==◌, ◌||◌, ◌&&◌, not, Bool, true, false, cond, List, length, Option, Some, None, IfSome, refl, sym, ap, ◌∙◌, subst, arith}
 use Rattle.std.specs.List.{AllByRecursion, remove}
 use Rattle.std.proofs.lemmas.List.Edits.{length-remove}
 use Rattle.std.proofs.lemmas.Bool.Decides.{nat_tests}
@@ -12,11 +12,11 @@ use Rattle.object_words.specs.declared.entry.Tag.{Tag}
 use Rattle.object_words.specs.declared.why.Why.{Why}
 use Rattle.object_words.specs.declared.why.Why.TheVariants.{Stale}
 use Rattle.object_words.specs.Refusals.{change_refusal, fate_refusal, first_refusal, hold_refusal, unless_refused}
-use Rattle.object_words.specs.Tags.{has_tag, with_tag, without_tag}
+use Rattle.object_words.specs.Tags.{has_due, has_tag, with_tag, without_tag}
 use Rattle.object_words.specs.Entries.{EntryView, entry_of, is_kept, with_tags}
 use Rattle.object_words.specs.Names.{at}
 use Rattle.object_words.specs.Shards.{Shard, byte_count, entry_at, object_count, sum_over, tag_count, with_entry}
-use Rattle.object_words.specs.ShardCalls.{suggest_refusal, tag_refusal}
+use Rattle.object_words.specs.ShardCalls.{suggest_refusal, tag_refusal, untimely_refusal}
 use Rattle.index_entry.specs.declared.entry.EntryFront.{EntryFront}
 use Rattle.index_entry.specs.declared.header.ShardHeader.{ShardHeader}
 use Rattle.index_entry.specs.Headers.{header_bytes}
@@ -131,3 +131,24 @@ stale s name revision kept free read differs =
 
 pub not_stale : (s : Shard) (name : List ℕ) (revision : ℕ) → change_refusal s ≡ None → (entry_at s name).revision ≡ revision → suggest_refusal s name revision ≡ None
 not_stale s name revision free same = rw (free, is_equal (entry_at s name).revision revision same) refl
+
+-- ---- untimely
+
+-- the entry changed since it was seen
+pub changed_since : (s : Shard) (name : List ℕ) (revision seen kept : ℕ) → kept ≡ (entry_at s name).revision → (kept ≡ revision → ⊥) → untimely_refusal s name revision seen ≡ None
+changed_since s name revision seen kept read differs =
+    let other = not_equal (entry_at s name).revision revision (λ same. differs (read ∙ same)) in
+    rw other refl
+
+-- a tag was due
+pub was_due : (s : Shard) (name : List ℕ) (revision seen : ℕ) → has_due seen (entry_at s name).tags ≡ true → untimely_refusal s name revision seen ≡ None
+was_due s name revision seen due = rw due (neither ((entry_at s name).revision == revision)) where
+  neither : (b : Bool) → cond (b && false) (Some (Stale (entry_at s name).revision)) None ≡ None
+  neither true = refl
+  neither false = refl
+
+-- the entry is as it was seen, with no tag that was due
+pub too_early : (s : Shard) (name : List ℕ) (revision seen kept : ℕ) → kept ≡ (entry_at s name).revision → kept ≡ revision → has_due seen (entry_at s name).tags ≡ false → untimely_refusal s name revision seen ≡ Some (Stale revision)
+too_early s name revision seen kept read same none =
+    let equal = is_equal (entry_at s name).revision revision (sym read ∙ same) in
+    rw (equal, none) (ap (λ n. Some (Stale n)) (sym read ∙ same))

@@ -108,5 +108,5 @@ due_at moment (suc place) (t ∷ ts) d some here = rw (due_at moment place ts d 
 pub at_most : (a b : ℕ) → a ≤ b → nat_le a b ≡ true
 at_most a b le = grind (arith, nat_tests)
 
-pub above : (a b : ℕ) → (a ≤ b → ⊥) → nat_le a b ≡ false
-above a b no = grind (arith, nat_tests)
+pub above : (a b : ℕ) → b < a → nat_le a b ≡ false
+above a b greater = grind (arith, nat_tests)
