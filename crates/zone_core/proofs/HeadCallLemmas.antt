@@ -4,7 +4,7 @@ use Rattle.rgw_types.specs.declared.pool_key.Key.{Key}
 use Rattle.rgw_types.specs.declared.pool_key.Key.TheVariants.{Root, Head, Tail, Changes}
 use Rattle.object_pool.specs.declared.place.Place.{Place}
 use Rattle.object_pool.specs.Objects.{KeepsAll, KeepsCounts, PoolView, exists, nothing, object_at}
-use Rattle.object_pool.specs.Places.{IsPlaceIn, object_of, pool_of}
+use Rattle.object_pool.specs.Places.{IsPlaceIn, Stays, object_of, pool_of}
 use Rattle.object_words.specs.declared.why.Why.{Why}
 use Rattle.object_words.specs.declared.why.ClassFault.{ClassFault}
 use Rattle.object_words.specs.Answers.{Answers, Replies}
@@ -36,6 +36,12 @@ module _ (settings : SettingsView) (zone : ℕ) (p f : PoolView) (st : State) (s
     frame = frame ∙ stands.frame;
     free = free ∙ stands.free;
   }
+
+  -- nor where a call on a place changed nothing
+  pub stands_stays : (key : Key) (place place' : Place) → IsPlaceIn p key (object_at p key) place → f ≡ pool_of place' → Stays place place' → Stands settings zone f st
+  stands_stays key place place' at ends stays =
+      let same = ends ∙ stays.pool in
+      stands_still (λ q. ap (λ (v : PoolView). object_at v q) same ∙ at.all q) (ap (λ (v : PoolView). v.frame) same ∙ at.counts.frame) (ap (λ (v : PoolView). v.free) same ∙ at.counts.free)
 
   -- the free frames after a change, as the state counts them
   left : (place place' : Place) (key : Key) (old new : List ℕ) → IsPlaceIn p key (object_at p key) place

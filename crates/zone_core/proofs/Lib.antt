@@ -5,3 +5,4 @@ pub mod SmallLemmas
 pub mod ShardCallLemmas
 pub mod HeadCallLemmas
 pub mod RecordLemmas
+pub mod ReplyLemmas

@@ -1,5 +1,7 @@
 -- A call of a class on a shard, as the state sees it.
-use Rattle.std.proofs.Common.{◌≡◌, ℕ, ◌&&◌, ◌==◌, not, Bool, true, false, cond, List, length, Option, Some, None, Result, Ok, Err, refl, sym, ap, ◌∙◌, subst, arith}
+use Rattle.std.proofs.Common.{◌≡◌, ℕ, ◌&&◌, ◌==◌, not, Bool, true, false, cond, ◌+◌, ◌<◌, ◌≤◌, ◌^◌, List, [], ◌∷◌, length, Option, Some, None, IfSome, Result, Ok, Err, refl, sym, ap, ◌∙◌, subst, arith}
+use Rattle.std.specs.Prelude.{OnErr, OnOk}
+use Rattle.std.specs.List.{AllByRecursion}
 use Rattle.std.proofs.lemmas.Bool.{true≢false}
 use Rattle.std.proofs.lemmas.Bool.Decides.{nat_tests}
 use Rattle.rgw_types.specs.declared.pool_key.Key.{Key}
@@ -9,19 +11,27 @@ use Rattle.object_pool.specs.Places.{IsPlaceIn, object_of, pool_of}
 use Rattle.object_words.specs.declared.why.Why.{Why}
 use Rattle.object_words.specs.declared.why.ClassFault.{ClassFault}
 use Rattle.object_words.specs.declared.why.ClassFault.TheVariants.{OutOfMemory, No}
+use Rattle.object_words.specs.declared.why.Why.TheVariants.{Stale}
+use Rattle.object_words.specs.declared.entry.Tag.{Tag}
 use Rattle.object_words.specs.Answers.{Answers, Replies}
 use Rattle.object_words.specs.Keys.{is_shard_key}
-use Rattle.object_words.specs.Shards.{Shard}
+use Rattle.object_words.specs.Names.{at}
+use Rattle.object_words.specs.Refusals.{first_refusal, unless_refused}
+use Rattle.object_words.specs.Shards.{Shard, entry_at, new_shard}
+use Rattle.object_words.specs.ShardCalls.{made, untimely_refusal}
+use Rattle.object_words.specs.Tags.{has_due}
 use Rattle.index_entry.proofs.HeaderLemmas.{header_long}
-use Rattle.class_words.specs.Shards.{IsShard, IsShardOr, header_of}
+use Rattle.class_words.specs.Shards.{HasTagsBelow, IsShard, IsShardOr, IsSmall, header_of}
 use Rattle.class_words.specs.Works.{Works}
 use Rattle.class_words.proofs.WorksLemmas.{works_with}
 use Rattle.realm_model.specs.Settings.{SettingsView}
 use Rattle.realm_model.specs.States.{State, at_shard, touched}
 use Rattle.realm_model.specs.Steps.{change_at}
 use Rattle.realm_model.proofs.TouchLemmas.{put_in_same}
+use Rattle.zone_core.specs.Bounds.{AreSmallBy, IsReady, IsSmallBy}
 use Rattle.zone_core.specs.Calls.{refusal_at}
 use Rattle.zone_core.specs.Stands.{Stands}
+use Rattle.zone_core.proofs.BoundLemmas.{if_some}
 use Rattle.zone_core.proofs.Given.{Gave, gave}
 use Rattle.zone_core.proofs.StandLemmas.{stands_shard}
 
@@ -129,3 +139,69 @@ module _ (settings : SettingsView) (zone : ℕ) (p f : PoolView) (st : State) (k
           (touched settings st (at_shard zone key (change_at (st.shards zone key) change))) (ap (λ o. refusal_at o refusal) here.1) (becomes s change here.1)
           (replies s here.1 (subst (λ o. IsShard o s) (sym at.object) here.2)),
         )
+
+-- ---- a shard that is made
+
+pub settled_made : (o : Object) (found : Option Shard) → IsShardOr o (made found) → IsShardOr (settled o) (made found)
+settled_made o None is = settled_shard o new_shard is
+settled_made o (Some s) is = settled_shard o s is
+
+-- a shard that is there, or was made
+pub stands_made : (settings : SettingsView) (zone : ℕ) (p f : PoolView) (st : State) (key : Key) → is_shard_key key ≡ true → Stands settings zone p st
+    → (place place' : Place) → IsPlaceIn p key (object_at p key) place → Works place place' → f ≡ pool_of place' → IsShardOr (object_of place') (made (st.shards zone key))
+    → Stands settings zone f (touched settings st (at_shard zone key (made (st.shards zone key))))
+stands_made settings zone p f st key kind stands place place' at works ends is =
+    let given = gave p f key (object_at p key) place place' _ at (works_with place place' works) ends in
+    stands_shard settings zone p f st stands key (made (st.shards zone key)) kind given.others given.frame (given.free ∙ at.counts.free)
+    (subst (λ o. IsShardOr o (made (st.shards zone key))) (sym given.object) (settled_made (object_of place') (st.shards zone key) is))
+
+-- ---- a shard that leaves room for one event more
+
+pub is_small : (count : ℕ) (s : Shard) → IsSmallBy count s → count < 2 ^ 62 → IsSmall s
+is_small count s small few = record {
+  objects = omega (arith, small.objects);
+  bytes = omega (arith, small.bytes);
+  tags = omega (arith, small.tags);
+  last = omega (arith, small.last);
+}
+
+all_below : (count number : ℕ) (tags : List Tag) → count < number → AllByRecursion (λ t. t.tag ≤ count) tags → AllByRecursion (λ t. t.tag < number) tags
+all_below count number [] more all = tt
+all_below count number (t ∷ tags) more all = (omega (arith, all.0), all_below count number tags more all.1)
+
+pub has_tags_below : (count number : ℕ) (s : Shard) → IsSmallBy count s → number ≡ count + 1 → HasTagsBelow number s
+has_tags_below count number s small next name = if_some (at s.entries name) _ _ (λ e all. all_below count number e.tags (omega (arith, next)) all) (small.below name)
+
+module _ (settings : SettingsView) (zone : ℕ) (p : PoolView) (st : State) (key : Key) (ready : IsReady settings zone p st) where
+  pub small_here : (s : Shard) → st.shards zone key ≡ Some s → IsSmallBy st.count s
+  small_here s found = subst (λ o. IfSome o (IsSmallBy st.count)) found (ready.small.shards key)
+
+  pub room_here : (s : Shard) → st.shards zone key ≡ Some s → IsSmall s
+  room_here s found = is_small st.count s (small_here s found) ready.few
+
+-- ---- a suggestion in time
+
+pub had_due : (s : Shard) (name : List ℕ) (revision seen : ℕ) → untimely_refusal s name revision seen ≡ None → (entry_at s name).revision ≡ revision → has_due seen (entry_at s name).tags ≡ true
+had_due s name revision seen none same =
+    let equal : ((entry_at s name).revision == revision) ≡ true = grind (arith, nat_tests) in
+    some_due (has_due seen (entry_at s name).tags) (rw equal at none) where
+  some_due : (b : Bool) → cond (not b) (Some (Stale (entry_at s name).revision)) None ≡ None → b ≡ true
+  some_due true none = refl
+  some_due false none = cc
+
+-- what a suggestion in time leaves
+pub in_time : {V : Type 0} (result : Result V Why) (untimely refusal : Option Why) (IsValue : V → Type 0) (Is : Shard → Type 0) (s new : Shard) → untimely ≡ None → Replies result refusal IsValue Is (unless_refused refusal s new)
+    → Replies result (first_refusal untimely refusal) IsValue Is (unless_refused (first_refusal untimely refusal) s (unless_refused refusal s new))
+in_time result None None IsValue Is s new none replies = replies
+in_time result None (Some why) IsValue Is s new none replies = replies
+in_time result (Some why) refusal IsValue Is s new none replies = absurd cc
+
+-- ---- what holds where a call ends well, or fails
+
+pub on_ok : {V E A B : Type 0} (result : Result V E) → (A → B) → OnOk result A → OnOk result B
+on_ok (Ok value) step is = step is
+on_ok (Err fault) step is = tt
+
+pub on_err : {V E A B : Type 0} (result : Result V E) → (A → B) → OnErr result A → OnErr result B
+on_err (Ok value) step is = tt
+on_err (Err fault) step is = step is

@@ -4,9 +4,12 @@ use Rattle.std.specs.List.{AllByRecursion}
 use Rattle.rgw_types.specs.declared.pool_key.Key.{Key}
 use Rattle.object_words.specs.Names.{at}
 use Rattle.object_words.specs.Shards.{Shard, byte_count, object_count, sum_over, tag_count}
+use Rattle.object_pool.specs.Objects.{PoolView}
+use Rattle.realm_model.specs.Settings.{SettingsView}
 use Rattle.realm_model.specs.States.{State}
 use Rattle.realm_model.specs.declared.op.Op.{Op}
 use Rattle.realm_model.specs.declared.op.Op.TheVariants.{Complete, Suggest}
+use Rattle.zone_core.specs.Stands.{Stands}
 
 -- after so many events a shard's sums, its last position and the numbers of its tags are at most so great
 pub record IsSmallBy (count : ℕ) (s : Shard) : Type 0 where
@@ -21,6 +24,12 @@ pub record AreSmallBy (count zone : ℕ) (st : State) : Type 0 where
   pub root : (st.root zone).log.last ≤ count
   pub changes : (st.changes zone).last ≤ count
   pub shards : (key : Key) → IfSome (st.shards zone key) (IsSmallBy count)
+
+-- the pool has the zone's objects, and they leave room for one event more
+pub record IsReady (settings : SettingsView) (zone : ℕ) (pool : PoolView) (st : State) : Type 0 where
+  pub stands : Stands settings zone pool st
+  pub small : AreSmallBy st.count zone st
+  pub few : st.count < 2 ^ 62
 
 -- the sizes that an operation brings are numbers of 64 bits
 abbrev pub FitsOp : Op → Type 0

@@ -1,10 +1,32 @@
--- A call on an object that may not exist.
-use Rattle.std.specs.Prelude.{Option, Some, None}
+-- A call on an object that may not exist, and what an operation answers and leaves.
+use Rattle.std.specs.Prelude.{◌≡◌, ℕ, Option, Some, None, Result, Ok, Err, MatchResult}
+use Rattle.omap_pages.specs.declared.error.OutOfMemory.{OutOfMemory as OutOf}
+use Rattle.object_pool.specs.Objects.{PoolView}
 use Rattle.object_words.specs.declared.why.Why.{Why}
 use Rattle.object_words.specs.declared.why.Why.TheVariants.{Closed}
+use Rattle.object_words.specs.declared.why.ClassFault.{ClassFault}
+use Rattle.object_words.specs.declared.why.ClassFault.TheVariants.{OutOfMemory, No as refused}
 use Rattle.object_words.specs.Shards.{Shard}
+use Rattle.realm_model.specs.Settings.{SettingsView}
+use Rattle.realm_model.specs.States.{State, touched}
+use Rattle.realm_model.specs.Steps.{reply_of, touch_of}
+use Rattle.realm_model.specs.declared.op.Op.{Op}
+use Rattle.realm_model.specs.declared.event.Reply.{Reply}
+use Rattle.realm_model.specs.declared.event.Reply.TheVariants.{No}
+use Rattle.zone_core.specs.Stands.{Stands}
 
 -- a call on a shard that was never made is refused as one on a closed shard
 abbrev pub refusal_at : Option Shard → (Shard → Option Why) → Option Why
 refusal_at None refusal = Some Closed
 refusal_at (Some s) refusal = refusal s
+
+-- the reply to a call that failed: the refusal, or none for want of memory
+abbrev pub fault_reply : ClassFault → Result Reply OutOf
+fault_reply (refused why) = Ok (No why)
+fault_reply OutOfMemory = Err (record {})
+
+-- the reply is that of the step, and the pool has what the step leaves; for want of memory it has what it had
+abbrev pub Performs : SettingsView → ℕ → State → Op → Result Reply OutOf → PoolView → Type 0
+Performs settings zone st op result pool = MatchResult result
+    (λ reply. (reply ≡ reply_of settings st op) × Stands settings zone pool (touched settings st (touch_of settings st op)))
+    (λ _. Stands settings zone pool st)

@@ -2,4 +2,9 @@
 #![tactic(auto)]
 
 mod heads;
+mod performing;
 mod records;
+mod shards;
+mod steps;
+
+pub use performing::perform;
