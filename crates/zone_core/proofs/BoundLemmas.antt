@@ -208,4 +208,4 @@ small_cancelled count s name tag small =
     let fewer = length-one_less tag e.tags in
     unless count (complete_refusal s name tag) s (with_entry s name (with_tags e (without_tag tag e.tags))) small
     (small_with count s name (with_tags e (without_tag tag e.tags)) s.log small (omega arith) (omega (arith, fewer)) (omega arith)
-      (no_more count (without_tag tag e.tags) (one_less count tag e.tags (tags_here count s name small))))
+    (no_more count (without_tag tag e.tags) (one_less count tag e.tags (tags_here count s name small))))

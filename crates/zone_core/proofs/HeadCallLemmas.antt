@@ -136,7 +136,7 @@ module _ (settings : SettingsView) (zone : ℕ) (p f : PoolView) (st : State) (s
       let head = h (Head container name) in
       subst After (sym same)
       (head_answers settings zone p f st stands result container name place place' (subst (λ k. IsPlaceIn p k (object_at p k) place) same at) works ends (refusal head) (IsValue head) (after head)
-        (subst Before same answers))
+      (subst Before same answers))
 
   pub tail_replies_at : {V : Type 0} (result : Result V Why) (key : Key) (write part : ℕ) → key ≡ Tail write part
       → (place place' : Place) → IsPlaceIn p key (object_at p key) place → WorksWith place place' (pool_of place').free → f ≡ pool_of place'
@@ -149,4 +149,4 @@ module _ (settings : SettingsView) (zone : ℕ) (p f : PoolView) (st : State) (s
       let After : Key → Type 0 = λ k. Replies result (refusal (st.free zone) settings.frame) IsValue (Stands settings zone f) (touched settings st (at_tail zone k (after (t k) (st.free zone) settings.frame))) in
       subst After (sym same)
       (tail_replies settings zone p f st stands result write part place place' (subst (λ k. IsPlaceIn p k (object_at p k) place) same at) works ends refusal IsValue (after (t (Tail write part)))
-        (subst Before same replies))
+      (subst Before same replies))

@@ -121,8 +121,8 @@ module _ (settings : SettingsView) (zone : ℕ) (p f : PoolView) (st : State) (k
           s,
           here.1,
           answers_as result (refusal s) (refusal_at (st.shards zone key) refusal) (IsValue s) (IsShard (object_of place')) (Stands settings zone f) s (change s) st
-          (touched settings st (at_shard zone key (change_at (st.shards zone key) change))) (ap (λ o. refusal_at o refusal) here.1) (same_shard s here.1) (becomes s change here.1)
-          (answers s here.1 (subst (λ o. IsShard o s) (sym at.object) here.2)),
+              (touched settings st (at_shard zone key (change_at (st.shards zone key) change))) (ap (λ o. refusal_at o refusal) here.1) (same_shard s here.1) (becomes s change here.1)
+              (answers s here.1 (subst (λ o. IsShard o s) (sym at.object) here.2)),
         )
 
     -- a class call that takes no memory
@@ -136,8 +136,8 @@ module _ (settings : SettingsView) (zone : ℕ) (p f : PoolView) (st : State) (k
           s,
           here.1,
           replies_as result (refusal s) (refusal_at (st.shards zone key) refusal) (IsValue s) (IsShard (object_of place')) (Stands settings zone f) (change s)
-          (touched settings st (at_shard zone key (change_at (st.shards zone key) change))) (ap (λ o. refusal_at o refusal) here.1) (becomes s change here.1)
-          (replies s here.1 (subst (λ o. IsShard o s) (sym at.object) here.2)),
+              (touched settings st (at_shard zone key (change_at (st.shards zone key) change))) (ap (λ o. refusal_at o refusal) here.1) (becomes s change here.1)
+              (replies s here.1 (subst (λ o. IsShard o s) (sym at.object) here.2)),
         )
 
 -- ---- a shard that is made
@@ -185,9 +185,9 @@ pub had_due : (s : Shard) (name : List ℕ) (revision seen : ℕ) → untimely_r
 had_due s name revision seen none same =
     let equal : ((entry_at s name).revision == revision) ≡ true = grind (arith, nat_tests) in
     some_due (has_due seen (entry_at s name).tags) (rw equal at none) where
-  some_due : (b : Bool) → cond (not b) (Some (Stale (entry_at s name).revision)) None ≡ None → b ≡ true
-  some_due true none = refl
-  some_due false none = cc
+      some_due : (b : Bool) → cond (not b) (Some (Stale (entry_at s name).revision)) None ≡ None → b ≡ true
+      some_due true none = refl
+      some_due false none = cc
 
 -- what a suggestion in time leaves
 pub in_time : {V : Type 0} (result : Result V Why) (untimely refusal : Option Why) (IsValue : V → Type 0) (Is : Shard → Type 0) (s new : Shard) → untimely ≡ None → Replies result refusal IsValue Is (unless_refused refusal s new)

@@ -23,10 +23,10 @@ use Rattle.zone_core.proofs.BoundLemmas.{if_some, small_cancelled, small_complet
 
 -- what holds of every value of a function, also where it has another one
 put_all : {A : Type 0} (Is : A → Type 0) (f : ℕ → A) (n : ℕ) (x : A) (q : ℕ) → Is x → Is (f q) → Is (put f n x q)
-put_all Is f n x q here other = elim (n == q) as (λ b. Is (cond b x (f q))) [ | true ↦ here | false ↦ other ]
+put_all Is f n x q here other = elim (n == q) as (λ b. Is (cond b x (f q))) [ true ↦ here | false ↦ other ]
 
 put_key_all : {A : Type 0} (Is : A → Type 0) (f : Key → A) (key : Key) (x : A) (q : Key) → Is x → Is (f q) → Is (put_key f key x q)
-put_key_all Is f key x q here other = elim (is_key key q) as (λ b. Is (cond b x (f q))) [ | true ↦ here | false ↦ other ]
+put_key_all Is f key x q here other = elim (is_key key q) as (λ b. Is (cond b x (f q))) [ true ↦ here | false ↦ other ]
 
 put_in_all : {A : Type 0} (Is : A → Type 0) (f : ℕ → Key → A) (zone : ℕ) (key : Key) (x : A) (z : ℕ) (q : Key) → Is x → Is (f zone q) → Is (f z q) → Is (put_in f zone key x z q)
 put_in_all Is f zone key x z q here same other = put_all (λ g. Is (g q)) f zone (put_key (f zone) key x) z (put_key_all Is (f zone) key x q here same) other
@@ -92,10 +92,10 @@ small_after settings st (Cancel zone key name tag) z fits small = at_shard_small
     (changed st.count (st.shards zone key) (λ s. cancelled s name tag) (λ s here. small_cancelled st.count s name tag here) ((small zone).shards key))
 small_after settings st (Suggest zone key name revision seen version row) z fits small = at_shard_small settings st.count zone z st key _ small
     (changed st.count (st.shards zone key) (λ s. unless_refused (suggest_event_refusal s name revision seen) s (suggested s name revision seen version row))
-      (λ s here. of s (suggest_event_refusal s name revision seen) here) ((small zone).shards key)) where
-  of : (s : Shard) (refusal : Option Why) → IsSmallBy st.count s → IsSmallBy (st.count + 1) (unless_refused refusal s (suggested s name revision seen version row))
-  of s None here = small_suggested st.count s name revision seen version row here fits
-  of s (Some why) here = small_next st.count s here
+    (λ s here. of s (suggest_event_refusal s name revision seen) here) ((small zone).shards key)) where
+      of : (s : Shard) (refusal : Option Why) → IsSmallBy st.count s → IsSmallBy (st.count + 1) (unless_refused refusal s (suggested s name revision seen version row))
+      of s None here = small_suggested st.count s name revision seen version row here fits
+      of s (Some why) here = small_next st.count s here
 small_after settings st (Announce zone container instance shard bucket) z fits small = record {
   root = omega (arith, (small z).root);
   changes = put_all (λ log. log.last ≤ st.count + 1) st.changes zone _ z (grown (st.changes zone) (shard_row container instance shard bucket) st.count (small zone).changes) (omega (arith, (small z).changes));

@@ -9,12 +9,20 @@ ghost use Rattle.zone_core.specs.Stands.{Stands};
 
 use cls_head::{make_tail, read, read_tail, write};
 use object_pool::{OutOfMemory, Pool};
-use object_words::{Changed, ClassFault, Conditions, Guard, HeadSeen, NewHead, ObjectName, SeenSlot, Why};
+use object_words::{
+    Changed, ClassFault, Conditions, Guard, HeadSeen, NewHead, ObjectName, SeenSlot, Why,
+};
 use rgw_types::{Bytes, Key, PartNumber};
 use std::alloc::Global;
 
 /// What an event of this number sees of the head of a name.
-pub(crate) fn read_head(alloc: Global, pool: &mut Pool, container: u64, name: &ObjectName, number: u64) -> Result<HeadSeen, OutOfMemory>
+pub(crate) fn read_head(
+    alloc: Global,
+    pool: &mut Pool,
+    container: u64,
+    name: &ObjectName,
+    number: u64,
+) -> Result<HeadSeen, OutOfMemory>
     requires { (settings : SettingsView) × (zone : ℕ) × (st : State) × Stands settings zone pool.old st }
     ensures found { (settings : SettingsView) (zone : ℕ) (st : State) → Stands settings zone pool.old st
         → IfOk result (λ found. found ≡ seen (st.heads zone (head_key container name.now)) number) }
@@ -74,7 +82,13 @@ fn make_at(alloc: Global, pool: &mut Pool, key: &Key, bytes: &[u8]) -> Result<()
 }
 
 /// Makes a tail of a write.
-pub(crate) fn make_tail_at(alloc: Global, pool: &mut Pool, write: u64, part: PartNumber, bytes: &[u8]) -> Result<(), ClassFault>
+pub(crate) fn make_tail_at(
+    alloc: Global,
+    pool: &mut Pool,
+    write: u64,
+    part: PartNumber,
+    bytes: &[u8],
+) -> Result<(), ClassFault>
     requires stands { (settings : SettingsView) × (zone : ℕ) × (st : State) × Stands settings zone pool.old st }
     ensures { (settings : SettingsView) (zone : ℕ) (st : State) → Stands settings zone pool.old st
         → let key = tail_key write part in
@@ -113,7 +127,15 @@ pub(crate) fn write_head(
 }
 
 /// What is there of a range of a tail.
-pub(crate) fn read_tail_at(alloc: Global, pool: &mut Pool, write: u64, part: PartNumber, start: u64, count: u64, clock: u64) -> Result<Bytes, ClassFault>
+pub(crate) fn read_tail_at(
+    alloc: Global,
+    pool: &mut Pool,
+    write: u64,
+    part: PartNumber,
+    start: u64,
+    count: u64,
+    clock: u64,
+) -> Result<Bytes, ClassFault>
     requires { (settings : SettingsView) × (zone : ℕ) × (st : State) × Stands settings zone pool.old st }
     ensures found { (settings : SettingsView) (zone : ℕ) (st : State) → Stands settings zone pool.old st
         → let tail = st.tails zone (tail_key write part) in

@@ -28,24 +28,77 @@ pub fn perform(
 {
     match op {
         Op::BucketRead { name, .. } => steps::bucket_read(alloc, pool, name),
-        Op::BucketSwap { zone, name, expected, new } => steps::bucket_swap(alloc, pool, *zone, name, *expected, new, number),
+        Op::BucketSwap {
+            zone,
+            name,
+            expected,
+            new,
+        } => steps::bucket_swap(alloc, pool, *zone, name, *expected, new, number),
         Op::ShardMake { key, .. } => steps::shard_make(alloc, pool, *key),
-        Op::Prepare { key, name, .. } => steps::prepare(alloc, pool, settings, *key, name, number, clock),
-        Op::Complete { key, name, tag, version, row, .. } => steps::complete(pool, *key, name, *tag, *version, row),
+        Op::Prepare { key, name, .. } => steps::prepare(
+            alloc, pool, settings, *key, name, number, clock,
+        ),
+        Op::Complete {
+            key,
+            name,
+            tag,
+            version,
+            row,
+            ..
+        } => steps::complete(pool, *key, name, *tag, *version, row),
         Op::Cancel { key, name, tag, .. } => steps::cancel(pool, *key, name, *tag),
-        Op::Page { key, after, limit, .. } => steps::page(alloc, pool, *key, after, *limit, clock),
-        Op::Suggest { key, name, revision, seen, version, row, .. } => {
-            steps::suggest(pool, *key, name, *revision, *seen, *version, row)
-        }
+        Op::Page {
+            key,
+            after,
+            limit,
+            ..
+        } => steps::page(alloc, pool, *key, after, *limit, clock),
+        Op::Suggest {
+            key,
+            name,
+            revision,
+            seen,
+            version,
+            row,
+            ..
+        } => { steps::suggest(pool, *key, name, *revision, *seen, *version, row) }
         Op::Stats { key, .. } => steps::stats(pool, *key),
-        Op::HeadRead { container, name, .. } => steps::head_read(alloc, pool, *container, name, number, clock),
-        Op::HeadWrite { zone, container, name, guard, new, when } => {
-            steps::head_write(alloc, pool, *zone, *container, name, *guard, new, when, number, clock)
+        Op::HeadRead {
+            container,
+            name,
+            ..
+        } => steps::head_read(alloc, pool, *container, name, number, clock),
+        Op::HeadWrite {
+            zone,
+            container,
+            name,
+            guard,
+            new,
+            when,
+        } => {
+            steps::head_write(
+                alloc, pool, *zone, *container, name, *guard, new, when, number, clock,
+            )
         }
-        Op::TailMake { write, part, bytes, .. } => steps::tail_make(alloc, pool, *write, *part, bytes.as_slice()),
-        Op::TailRead { write, part, start, count, .. } => steps::tail_read(alloc, pool, *write, *part, *start, *count, clock),
-        Op::Announce { container, instance, shard, bucket, .. } => {
-            steps::announce_shard(alloc, pool, *container, *instance, *shard, bucket)
-        }
+        Op::TailMake {
+            write,
+            part,
+            bytes,
+            ..
+        } => steps::tail_make(alloc, pool, *write, *part, bytes.as_slice()),
+        Op::TailRead {
+            write,
+            part,
+            start,
+            count,
+            ..
+        } => steps::tail_read(alloc, pool, *write, *part, *start, *count, clock),
+        Op::Announce {
+            container,
+            instance,
+            shard,
+            bucket,
+            ..
+        } => { steps::announce_shard(alloc, pool, *container, *instance, *shard, bucket) }
     }
 }

@@ -15,7 +15,11 @@ use rgw_types::Key;
 use std::alloc::{AllocError, Global};
 
 /// The row of a container.
-pub(crate) fn read_bucket(alloc: Global, pool: &mut Pool, name: &BucketName) -> Result<Option<Bucket>, AllocError>
+pub(crate) fn read_bucket(
+    alloc: Global,
+    pool: &mut Pool,
+    name: &BucketName,
+) -> Result<Option<Bucket>, AllocError>
     requires { (settings : SettingsView) × (zone : ℕ) × (st : State) × Stands settings zone pool.old st }
     ensures found { (settings : SettingsView) (zone : ℕ) (st : State) → Stands settings zone pool.old st
         → IfOk result (λ found. found ≡ at (st.root zone).buckets name.now) }

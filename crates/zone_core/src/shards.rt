@@ -122,7 +122,14 @@ pub(crate) fn suggest_at(
 }
 
 /// Entries of the shard of a key, above a text.
-pub(crate) fn page_at(alloc: Global, pool: &mut Pool, key: &Key, after: &[u8], limit: u32, clock: u64) -> Result<EntryPage, ClassFault>
+pub(crate) fn page_at(
+    alloc: Global,
+    pool: &mut Pool,
+    key: &Key,
+    after: &[u8],
+    limit: u32,
+    clock: u64,
+) -> Result<EntryPage, ClassFault>
     requires shard { is_shard_key key.now ≡ true }
     requires stands { (settings : SettingsView) × (zone : ℕ) × (st : State) × Stands settings zone pool.old st }
     ensures { (settings : SettingsView) (zone : ℕ) (st : State) → Stands settings zone pool.old st

@@ -10,7 +10,10 @@ use crate::heads::{make_tail_at, read_head, read_tail_at, write_head};
 use crate::records::{announce, read_bucket, swap_bucket};
 use crate::shards::{cancel_at, complete_at, make_at, page_at, prepare_at, stats_at, suggest_at};
 use object_pool::{OutOfMemory, Pool};
-use object_words::{Bucket, BucketName, ClassFault, Conditions, EntryRow, Guard, LogWhat, NewHead, ObjectName, ShardKey, Why};
+use object_words::{
+    Bucket, BucketName, ClassFault, Conditions, EntryRow, Guard, LogWhat, NewHead, ObjectName,
+    ShardKey, Why,
+};
 use realm_model::{Reply, Settings};
 use rgw_types::{PartNumber, Text};
 use std::alloc::Global;
@@ -25,7 +28,11 @@ fn fault_reply(fault: ClassFault) -> Result<Reply, OutOfMemory>
     }
 }
 
-pub(crate) fn bucket_read(alloc: Global, pool: &mut Pool, name: &BucketName) -> Result<Reply, OutOfMemory>
+pub(crate) fn bucket_read(
+    alloc: Global,
+    pool: &mut Pool,
+    name: &BucketName,
+) -> Result<Reply, OutOfMemory>
     requires ready { (settings : SettingsView) × (zone : ℕ) × (st : State) × IsReady settings zone pool.old st }
     ensures { (settings : SettingsView) (zone : ℕ) (st : State) → IsReady settings zone pool.old st
         → Performs settings zone st (BucketRead zone name.now) result pool.new }
@@ -59,7 +66,11 @@ pub(crate) fn bucket_swap(
     }
 }
 
-pub(crate) fn shard_make(alloc: Global, pool: &mut Pool, key: ShardKey) -> Result<Reply, OutOfMemory>
+pub(crate) fn shard_make(
+    alloc: Global,
+    pool: &mut Pool,
+    key: ShardKey,
+) -> Result<Reply, OutOfMemory>
     requires ready { (settings : SettingsView) × (zone : ℕ) × (st : State) × IsReady settings zone pool.old st }
     ensures { (settings : SettingsView) (zone : ℕ) (st : State) → IsReady settings zone pool.old st
         → Performs settings zone st (ShardMake zone key) result pool.new }
@@ -110,7 +121,12 @@ pub(crate) fn complete(
     }
 }
 
-pub(crate) fn cancel(pool: &mut Pool, key: ShardKey, name: &ObjectName, tag: u64) -> Result<Reply, OutOfMemory>
+pub(crate) fn cancel(
+    pool: &mut Pool,
+    key: ShardKey,
+    name: &ObjectName,
+    tag: u64,
+) -> Result<Reply, OutOfMemory>
     requires ready { (settings : SettingsView) × (zone : ℕ) × (st : State) × IsReady settings zone pool.old st }
     ensures { (settings : SettingsView) (zone : ℕ) (st : State) → IsReady settings zone pool.old st
         → Performs settings zone st (Cancel zone key name.now tag) result pool.new }
@@ -142,7 +158,14 @@ pub(crate) fn suggest(
     }
 }
 
-pub(crate) fn page(alloc: Global, pool: &mut Pool, key: ShardKey, after: &Text, limit: u32, clock: u64) -> Result<Reply, OutOfMemory>
+pub(crate) fn page(
+    alloc: Global,
+    pool: &mut Pool,
+    key: ShardKey,
+    after: &Text,
+    limit: u32,
+    clock: u64,
+) -> Result<Reply, OutOfMemory>
     requires ready { (settings : SettingsView) × (zone : ℕ) × (st : State) × IsReady settings zone pool.old st }
     ensures { (settings : SettingsView) (zone : ℕ) (st : State) → IsReady settings zone pool.old st → clock ≡ st.clock
         → Performs settings zone st (Page zone key after.now limit) result pool.new }
@@ -166,7 +189,14 @@ pub(crate) fn stats(pool: &mut Pool, key: ShardKey) -> Result<Reply, OutOfMemory
     }
 }
 
-pub(crate) fn head_read(alloc: Global, pool: &mut Pool, container: u64, name: &ObjectName, number: u64, clock: u64) -> Result<Reply, OutOfMemory>
+pub(crate) fn head_read(
+    alloc: Global,
+    pool: &mut Pool,
+    container: u64,
+    name: &ObjectName,
+    number: u64,
+    clock: u64,
+) -> Result<Reply, OutOfMemory>
     requires ready { (settings : SettingsView) × (zone : ℕ) × (st : State) × IsReady settings zone pool.old st }
     ensures { (settings : SettingsView) (zone : ℕ) (st : State) → IsReady settings zone pool.old st → number ≡ number_next st → clock ≡ st.clock
         → Performs settings zone st (HeadRead zone container name.now) result pool.new }
@@ -195,13 +225,21 @@ pub(crate) fn head_write(
     ensures { (settings : SettingsView) (st : State) → IsReady settings zone pool.old st → number ≡ number_next st → clock ≡ st.clock
         → Performs settings zone st (HeadWrite zone container name.now guard new.now when.now) result pool.new }
 {
-    match write_head(alloc, pool, container, name, guard, new, when, zone, number, clock) {
+    match write_head(
+        alloc, pool, container, name, guard, new, when, zone, number, clock,
+    ) {
         Ok(changed) => Ok(Reply::Changed(changed)),
         Err(fault) => fault_reply(fault),
     }
 }
 
-pub(crate) fn tail_make(alloc: Global, pool: &mut Pool, write: u64, part: PartNumber, bytes: &[u8]) -> Result<Reply, OutOfMemory>
+pub(crate) fn tail_make(
+    alloc: Global,
+    pool: &mut Pool,
+    write: u64,
+    part: PartNumber,
+    bytes: &[u8],
+) -> Result<Reply, OutOfMemory>
     requires ready { (settings : SettingsView) × (zone : ℕ) × (st : State) × IsReady settings zone pool.old st }
     ensures { (settings : SettingsView) (zone : ℕ) (st : State) → IsReady settings zone pool.old st
         → Performs settings zone st (TailMake zone write part bytes.now) result pool.new }
@@ -244,7 +282,12 @@ pub(crate) fn announce_shard(
         → Performs settings zone st (Announce zone container instance shard bucket.now) result pool.new }
 {
     let bucket = bucket.clone()?;
-    let what = LogWhat::Shard { container, instance, shard, bucket };
+    let what = LogWhat::Shard {
+        container,
+        instance,
+        shard,
+        bucket,
+    };
     match announce(alloc, pool, &what) {
         Ok(position) => Ok(Reply::Position(position)),
         Err(fault) => Err(fault),

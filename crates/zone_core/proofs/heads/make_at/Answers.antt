@@ -16,13 +16,13 @@ returns-in-Ok-make_tail c settings zone st write part stands at =
     tail_replies_at settings zone c.args.pool.now _ st stands (Ok c.in-Ok-make_tail.field-0) c.args.key.now write part at c.in-Ok.tail c.make_tail.new.tail c.in-Ok.ensures.ok c.make_tail.ensures.works (search rules)
     (λ free frame. tail_refusal c.args.bytes.now free frame) (λ _. Unit {0}) (λ t free frame. tail_made t c.args.bytes.now free frame)
     (c.in-Ok-make_tail.ensures.answers (st.tails zone c.args.key.now)
-      (subst (λ o. IsTail o (st.tails zone c.args.key.now)) (sym c.in-Ok.ensures.ok.object)
-        (subst (λ k. IsTail (object_at c.args.pool.now k) (st.tails zone k)) (sym at) (stands.tails write part))))
+    (subst (λ o. IsTail o (st.tails zone c.args.key.now)) (sym c.in-Ok.ensures.ok.object)
+    (subst (λ k. IsTail (object_at c.args.pool.now k) (st.tails zone k)) (sym at) (stands.tails write part))))
 
 pub returns-in-Err : goal.returns-in-Err
 returns-in-Err c settings zone st write part stands at =
     tail_replies_at settings zone c.args.pool.now _ st stands {V = Unit {0}} (Err c.in-Err.why) c.args.key.now write part at c.in-Ok.tail c.make_tail.new.tail c.in-Ok.ensures.ok c.make_tail.ensures.works (search rules)
     (λ free frame. tail_refusal c.args.bytes.now free frame) (λ _. Unit {0}) (λ t free frame. tail_made t c.args.bytes.now free frame)
     (c.in-Err.ensures.answers (st.tails zone c.args.key.now)
-      (subst (λ o. IsTail o (st.tails zone c.args.key.now)) (sym c.in-Ok.ensures.ok.object)
-        (subst (λ k. IsTail (object_at c.args.pool.now k) (st.tails zone k)) (sym at) (stands.tails write part))))
+    (subst (λ o. IsTail o (st.tails zone c.args.key.now)) (sym c.in-Ok.ensures.ok.object)
+    (subst (λ k. IsTail (object_at c.args.pool.now k) (st.tails zone k)) (sym at) (stands.tails write part))))

@@ -18,5 +18,5 @@ returns c settings st container name stands at =
     (λ h free frame changed. changed ≡ change_of h (written h c.args.guard c.args.new.now c.args.when.now c.args.zone c.args.number c.args.clock free frame))
     (λ h free frame. written h c.args.guard c.args.new.now c.args.when.now c.args.zone c.args.number c.args.clock free frame)
     (c.write.ensures.answers (st.heads c.args.zone c.args.key.now)
-      (subst (λ o. IsHead o (st.heads c.args.zone c.args.key.now)) (sym c.in-Ok.ensures.ok.object)
-        (subst (λ k. IsHead (object_at c.args.pool.now k) (st.heads c.args.zone k)) (sym at) (stands.heads container name))))
+    (subst (λ o. IsHead o (st.heads c.args.zone c.args.key.now)) (sym c.in-Ok.ensures.ok.object)
+    (subst (λ k. IsHead (object_at c.args.pool.now k) (st.heads c.args.zone k)) (sym at) (stands.heads container name))))

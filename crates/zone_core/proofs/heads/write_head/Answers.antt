@@ -14,9 +14,9 @@ returns c settings st stands =
     let zone = c.args.zone in
     let same : c.in_ok-name.name ≡ c.args.name.now = c.in_ok-name.ensures.cases ∙ c.as_text.ensures.text in
     subst (λ name.
-        let key = head_key c.args.container name in
-        let h = st.heads zone key in
-        let after = written h c.args.guard c.args.new.now c.args.when.now zone c.args.number c.args.clock (st.free zone) settings.frame in
-        Answers c.write_at.result (write_refusal h c.args.guard c.args.new.now c.args.when.now c.args.clock (st.free zone) settings.frame)
-        (λ changed. changed ≡ change_of h after) (Stands settings zone c.write_at.new.pool) st (touched settings st (at_head zone key after))) same
+    let key = head_key c.args.container name in
+    let h = st.heads zone key in
+    let after = written h c.args.guard c.args.new.now c.args.when.now zone c.args.number c.args.clock (st.free zone) settings.frame in
+    Answers c.write_at.result (write_refusal h c.args.guard c.args.new.now c.args.when.now c.args.clock (st.free zone) settings.frame)
+    (λ changed. changed ≡ change_of h after) (Stands settings zone c.write_at.new.pool) st (touched settings st (at_head zone key after))) same
     (c.write_at.ensures settings st c.args.container c.in_ok-name.name stands refl)

@@ -37,8 +37,8 @@ returns c settings zone st ready =
     (λ s. suggest_event_refusal s name c.args.revision c.args.seen) (λ s done. Unit {0})
     (λ s. unless_refused (suggest_event_refusal s name c.args.revision c.args.seen) s (suggested s name c.args.revision c.args.seen c.args.version c.args.row.now))
     (λ s found is.
-      let none = sym (c.untimely.ensures s is) ∙ c.in_default-untimely.is in
-      in_time c.suggest.result (untimely_refusal s name c.args.revision c.args.seen) (suggest_refusal s name c.args.revision) (λ done. Unit {0}) (IsShard (object_of c.suggest.new.shard)) s
-      (settled s name (tags_due_taken c.args.seen (entry_at s name).tags) c.args.version c.args.row.now) none
-      (c.suggest.ensures.answers s is (room_here settings zone p st key ready s found) (had_due s name c.args.revision c.args.seen none))) in
+    let none = sym (c.untimely.ensures s is) ∙ c.in_default-untimely.is in
+    in_time c.suggest.result (untimely_refusal s name c.args.revision c.args.seen) (suggest_refusal s name c.args.revision) (λ done. Unit {0}) (IsShard (object_of c.suggest.new.shard)) s
+    (settled s name (tags_due_taken c.args.seen (entry_at s name).tags) c.args.version c.args.row.now) none
+    (c.suggest.ensures.answers s is (room_here settings zone p st key ready s found) (had_due s name c.args.revision c.args.seen none))) in
     told.2

@@ -22,7 +22,7 @@ returns-in-Ok c settings st ready number =
     let Left : Option Bucket → Type 0 = λ new. Stands settings zone c.swap_bucket.new.pool (touched settings st (at_root zone (swapped root c.args.name.now c.args.expected new (is_master zone) c.args.number))) in (
       done (swap_refusal root c.args.name.now c.args.expected) Done told.0,
       subst (λ n. Stands settings zone c.swap_bucket.new.pool (touched settings st (at_root zone (swapped root c.args.name.now c.args.expected c.args.new.now (is_master zone) n)))) number
-      (subst Left c.as_ref.ensures.value told.2),
+          (subst Left c.as_ref.ensures.value told.2),
     )
 
 pub returns-in-Err : goal.returns-in-Err
@@ -33,10 +33,10 @@ returns-in-Err c settings st ready number =
     let refusal = swap_refusal root c.args.name.now c.args.expected in
     let told = c.in-Err.ensures settings zone st ready.stands (omega (arith, ready.small.root, ready.few)) in
     let Left : Option Bucket → Type 0 = λ new.
-        Answers {V = Unit {0}} (Err c.in-Err.fault) refusal (λ _. Unit {0}) (Stands settings zone pool) st (touched settings st (at_root zone (swapped root c.args.name.now c.args.expected new (is_master zone) c.args.number))) in
+    Answers {V = Unit {0}} (Err c.in-Err.fault) refusal (λ _. Unit {0}) (Stands settings zone pool) st (touched settings st (at_root zone (swapped root c.args.name.now c.args.expected new (is_master zone) c.args.number))) in
     let left = subst (λ n.
-        Answers {V = Unit {0}} (Err c.in-Err.fault) refusal (λ _. Unit {0}) (Stands settings zone pool) st (touched settings st (at_root zone (swapped root c.args.name.now c.args.expected c.args.new.now (is_master zone) n)))) number
-        (subst Left c.as_ref.ensures.value told) in
+    Answers {V = Unit {0}} (Err c.in-Err.fault) refusal (λ _. Unit {0}) (Stands settings zone pool) st (touched settings st (at_root zone (swapped root c.args.name.now c.args.expected c.args.new.now (is_master zone) n)))) number
+    (subst Left c.as_ref.ensures.value told) in
     faulted {V = Unit {0}} c.in-Err.fault c.fault_reply.result refusal _ (λ _. Unit {0}) (Stands settings zone pool) st
     (touched settings st (at_root zone (swapped root c.args.name.now c.args.expected c.args.new.now (is_master zone) (number_next st)))) c.fault_reply.ensures
     (λ why is. call_refused refusal Done why is) left
