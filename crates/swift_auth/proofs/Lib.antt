@@ -1,0 +1,5 @@
+pub mod Comparing
+pub mod NoColon
+pub mod Reading
+pub mod Finding
+pub mod Differing
