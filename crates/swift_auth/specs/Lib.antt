@@ -3,3 +3,4 @@ pub mod Users
 pub mod UsersTexts
 pub mod Lists
 pub mod Policies
+pub mod Grants
