@@ -1,18 +1,24 @@
 -- Users texts that were read by hand.
-use Rattle.std.proofs.Common.{◌≡◌, [], ◌∷◌, Some, None, codes, refl}
-use Rattle.swift_auth.specs.Users.{UserView, account_of, logged_in, owner_of}
+use Rattle.std.proofs.Common.{◌≡◌, [], ◌∷◌, Some, None, codes, lit≤, refl}
+use Rattle.std.specs.List.{IsDistinct}
+use Rattle.swift_auth.specs.Users.{UserView, AreUsers, standard_user, account_of, logged_in, owner_of}
 use Rattle.swift_auth.specs.UsersTexts.{users_in}
 use Rattle.swift_auth.proofs.OnLiterals.{swift_auth_on_literals}
 
 abbrev ann : UserView
-ann = record { full_name = codes "acme:ann"; key = codes "secret"; token = codes "AUTH_tk1" }
+ann = standard_user
 
 abbrev bob : UserView
 bob = record { full_name = codes "b.e-t_a:7"; key = codes "!~"; token = codes "t,\"" }
 
-one : users_in (codes "[{\"user\":\"acme:ann\",\"key\":\"secret\",\"token\":\"AUTH_tk1\"}]") ≡ Some (ann ∷ [])
+pub one : users_in (codes "[{\"user\":\"acme:ann\",\"key\":\"secret\",\"token\":\"AUTH_tk1\"}]") ≡ Some (ann ∷ [])
 unfolding swift_auth_on_literals
 one = refl
+
+-- one user has nobody to be told apart from
+pub just_one : AreUsers (standard_user ∷ [])
+unfolding IsDistinct
+just_one = record { some = lit≤ tt; most = lit≤ tt; names_differ = (tt, tt); tokens_differ = (tt, tt) }
 
 two : users_in (codes " [{\"key\":\"!~\",\"user\":\"b.e-t_a:7\",\"x\":{},\"token\":\"t\\u002c\\\"\"} , {\"user\":2,\"user\":\"acme:ann\",\"key\":\"secret\",\"token\":\"AUTH_tk1\"}]\n") ≡ Some (bob ∷ ann ∷ [])
 unfolding swift_auth_on_literals

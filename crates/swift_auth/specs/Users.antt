@@ -1,5 +1,5 @@
 -- The users of the gateway. What an account, a name, a key and a token may be is own.
-use Rattle.std.specs.Prelude.{◌≡◌, ◌≤◌, ℕ, Bool, ◌&&◌, ◌||◌, ◌==◌, List, map, length, nat_le, nat_lt, bytes_eq, All, Contains, find, Option, Some, None}
+use Rattle.std.specs.Prelude.{◌≡◌, ◌≤◌, ℕ, Bool, ◌&&◌, ◌||◌, ◌==◌, List, map, length, codes, nat_le, nat_lt, bytes_eq, All, Contains, find, Option, Some, None}
 use Rattle.std.specs.Char.{is_ascii_alphanumeric, is_ascii_graphic}
 use Rattle.std.specs.List.{list_all, before_first, after_first, IsDistinct}
 
@@ -53,6 +53,10 @@ pub record AreUsers (users : List UserView) : Type 0 where
   pub most : length users ≤ most_users
   pub names_differ : IsDistinct bytes_eq (map (λ u. u.full_name) users)
   pub tokens_differ : IsDistinct bytes_eq (map (λ u. u.token) users)
+
+-- the one user of a gateway to which no users are given
+abbrev pub standard_user : UserView
+standard_user = record { full_name = codes "acme:ann"; key = codes "secret"; token = codes "AUTH_tk1" }
 
 -- the user with this full name and this key
 abbrev pub logged_in : List UserView → List ℕ → List ℕ → Option UserView

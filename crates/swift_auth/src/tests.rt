@@ -1,4 +1,5 @@
 // The users text by its rules, and the policy by its table.
+mod callers;
 mod texts;
 mod verdicts;
 

@@ -1,6 +1,6 @@
-ghost use Rattle.std.specs.Prelude.{◌≡◌, ◌↔◌, List, IsTrue, bytes_eq, option_copied, map, slice_get, IfOk};
+ghost use Rattle.std.specs.Prelude.{◌≡◌, ◌≢◌, ◌↔◌, ◌∷◌, [], List, IsTrue, bytes_eq, option_copied, map, slice_get, IfOk};
 ghost use Rattle.std.specs.List.{IsDistinct};
-ghost use Rattle.swift_auth.specs.Users.{UserView, AreUsers, logged_in, owner_of, IsTheOne};
+ghost use Rattle.swift_auth.specs.Users.{UserView, AreUsers, standard_user, logged_in, owner_of, IsTheOne};
 ghost use Rattle.swift_auth.specs.UsersTexts.{IsUsersText};
 
 use crate::users_text::read_users;
@@ -9,6 +9,9 @@ use rgw_types::{Items, Text};
 use std::alloc::{AllocError, Global};
 use std::collections::BTreeSet;
 use std::marker::Model;
+
+/// The text of the one standard user.
+const STANDARD: &str = "[{\"user\":\"acme:ann\",\"key\":\"secret\",\"token\":\"AUTH_tk1\"}]";
 
 /// The users of a gateway, in the order in which they were listed.
 #[derive(Drop)]
@@ -47,6 +50,15 @@ impl Users {
         } else {
             Err(UsersFault::BadUsers)
         }
+    }
+
+    /// The users of a gateway to which none are given: one, `acme:ann`, with the key `secret` and the token
+    /// `AUTH_tk1`. It fails for want of memory alone.
+    pub fn standard(alloc: Global) -> Result<Users, UsersFault>
+        ensures ok { IfOk result (λ users. users ≡ standard_user ∷ []) }
+        ensures memory { result ≢ Err UsersFault.BadUsers }
+    {
+        Users::read(alloc, STANDARD)
     }
 
     /// The users, lent.
