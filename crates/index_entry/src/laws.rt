@@ -1,5 +1,7 @@
 //! Laws of the layouts: the functions here do nothing.
 ghost use Rattle.std.specs.Prelude.{◌≡◌, ◌≢◌, ◌+◌, ◌*◌, ◌^◌, ◌<◌, ◌≤◌, ℕ, List, [], codes, drop, length, take, true};
+ghost use Rattle.std.specs.Ordering.{nat_cmp};
+ghost use Rattle.std.specs.Cmp.Lexicographic.{slice_cmp};
 ghost use Rattle.object_words.specs.Limits.{is_name};
 ghost use Rattle.object_words.specs.declared.log.LogWhat.{LogWhat as WhatOf};
 ghost use Rattle.object_words.specs.declared.log.LogWhat.TheVariants.{Name as AName, Shard as AShard, Bucket as ABucket};
@@ -27,6 +29,11 @@ pub fn a_log_row_has_one_spelling()
     ensures most { (what : WhatOf) → IsWhat what → length (what_bytes what) < 1040 }
     ensures key { (p q : ℕ) → p < 2 ^ 64 → q < 2 ^ 64 → log_key p ≡ log_key q → p ≡ q }
     ensures no_name { (name : List ℕ) (position : ℕ) → is_name 1024 name ≡ true → name ≢ log_key position }
+{}
+
+/// The keys of a log's rows are in the order of their positions.
+pub fn log_keys_are_in_order()
+    ensures { (p q : ℕ) → p < 2 ^ 64 → q < 2 ^ 64 → slice_cmp nat_cmp (log_key p) (log_key q) ≡ nat_cmp p q }
 {}
 
 /// The key of position 258.
