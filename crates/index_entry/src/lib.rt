@@ -19,6 +19,7 @@ pub use log_row::{
     LOG_KEY_LEN, LOG_ROW_MOST, decode_what, log_key, position_of, write_bucket_row, write_name_row,
     write_shard_row, write_what,
 };
+pub use numbers::u64_at;
 pub use std::alloc::AllocError as OutOfMemory;
 
 #[cfg(test)]
