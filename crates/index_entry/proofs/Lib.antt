@@ -4,3 +4,4 @@ pub mod EntryLemmas
 pub mod Uniqueness
 pub mod HeaderLemmas
 pub mod LogRowLemmas
+pub mod KeyOrder

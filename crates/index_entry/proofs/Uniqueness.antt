@@ -1,7 +1,8 @@
--- Bytes are the encoding of one entry at most, and of one header.
-use Rattle.std.proofs.Common.{◌≡◌, ℕ, ◌+◌, ◌*◌, ◌/◌, ◌%◌, ◌^◌, ◌<◌, ◌≤◌, Bool, true, false, List, [], ◌∷◌, ◌++◌, length, take, drop, refl, sym, ap, ◌∙◌, arith, append_assoc}
-use Rattle.std.specs.Int.{w16, w64, from_be_bytes}
+-- Bytes are the encoding of one entry at most, of one header, and of one row of a log.
+use Rattle.std.proofs.Common.{◌≡◌, ℕ, ◌+◌, ◌*◌, ◌/◌, ◌%◌, ◌^◌, ◌<◌, ◌≤◌, Bool, true, false, ◌&&◌, List, [], ◌∷◌, ◌++◌, length, take, drop, get_or, nat_lt, nat_le, subst, true≢false, refl, sym, ap, ◌∙◌, arith, append_assoc, append-nil}
+use Rattle.std.specs.Int.{w16, w32, w64, from_be_bytes}
 use Rattle.std.specs.List.{AllByRecursion}
+use Rattle.std.proofs.lemmas.Bool.{and_parts, leb-true}
 use Rattle.object_words.specs.declared.entry.Tag.{Tag}
 use Rattle.object_words.specs.Rows.{RowView}
 use Rattle.object_words.specs.Entries.{EntryView}
@@ -9,12 +10,17 @@ use Rattle.object_words.specs.declared.shard.Hold.{Hold}
 use Rattle.object_words.specs.declared.shard.Hold.TheVariants.{Free, Reshard, Closing}
 use Rattle.object_words.specs.declared.shard.Fate.{Fate}
 use Rattle.object_words.specs.declared.shard.Fate.TheVariants.{Serving, Moved, Closed}
+use Rattle.object_words.specs.Limits.{is_name}
+use Rattle.object_words.specs.declared.log.LogWhat.{LogWhat}
+use Rattle.object_words.specs.declared.log.LogWhat.TheVariants.{Name, Shard, Bucket}
 use Rattle.index_entry.specs.declared.header.ShardHeader.{ShardHeader}
 use Rattle.index_entry.specs.Headers.{IsHeader, fate_kind, fate_number, header_bytes, hold_kind, hold_number}
 use Rattle.index_entry.proofs.HeaderLemmas.{both_halves, fate_byte, header_read, hold_byte, last_number, same_header}
-use Rattle.index_entry.specs.Numbers.{number_bytes, short_bytes}
+use Rattle.index_entry.specs.Numbers.{number_bytes, short_bytes, word_bytes}
 use Rattle.index_entry.specs.Layouts.{IsEntry, IsTag, IsWritten, entry_bytes, row_bytes, tags_bytes}
-use Rattle.index_entry.proofs.PieceLemmas.{behind, taken, number_once, short_once, length-number_bytes}
+use Rattle.index_entry.specs.LogRows.{IsWhat, log_key, shard_bytes, what_bytes}
+use Rattle.index_entry.proofs.LogRowLemmas.{length-shard_bytes, same_shard, shard_read}
+use Rattle.index_entry.proofs.PieceLemmas.{behind, taken, number_once, short_once, word_once, length-number_bytes}
 use Rattle.index_entry.proofs.TagLemmas.{length-tags_bytes}
 use Rattle.index_entry.proofs.EntryLemmas.{are_read, entry_read, exists_read, length-entry_bytes, row_most, same_entry, same_row, tags_here}
 
@@ -104,3 +110,38 @@ one_header a b p q e =
     (same_fate a.fate b.fate (fate_byte bs a r ∙ sym (fate_byte bs b s))
     (same_number bs 60 (fate_number a.fate) (fate_number b.fate) _ _ p.fate_fits q.fate_fits (last_number bs a refl) (last_number bs b e)))
     (same_number bs 42 a.fence b.fence _ _ p.fence_fits q.fence_fits r.at_42 s.at_42)
+
+same_word : (bs : List ℕ) (k x y : ℕ) (r s : List ℕ) → x < 2 ^ 32 → y < 2 ^ 32 → drop k bs ≡ word_bytes x ++ r → drop k bs ≡ word_bytes y ++ s → x ≡ y
+same_word bs k x y r s fx fy hx hy = sym (word_once bs k (from_be_bytes w32 (take 4 (drop k bs))) x r refl fx hx) ∙ word_once bs k (from_be_bytes w32 (take 4 (drop k bs))) y s refl fy hy
+
+pub one_what : (a b : LogWhat) → IsWhat a → IsWhat b → what_bytes a ≡ what_bytes b → a ≡ b
+one_what (Name x) (Name y) p q e = ap (λ z. Name (drop 3 z)) e
+one_what (Name x) (Shard d j t y) p q e = absurd (omega (arith, ap (λ z. get_or z 2 0) e))
+one_what (Name x) (Bucket y) p q e = absurd (omega (arith, ap (λ z. get_or z 2 0) e))
+one_what (Shard c i s x) (Name y) p q e = absurd (omega (arith, ap (λ z. get_or z 2 0) e))
+one_what (Shard c i s x) (Shard d j t y) p q e =
+    let bs = shard_bytes c i s x in
+    let r = shard_read bs c i s x refl in
+    let u = shard_read bs d j t y (ap (drop 3) e) in
+    same_shard (same_number bs 0 c d _ _ p.0 q.0 r.at_0 u.at_0) (same_number bs 8 i j _ _ p.1 q.1 r.at_8 u.at_8) (same_word bs 16 s t _ _ p.2 q.2 r.at_16 u.at_16) (sym r.at_20 ∙ u.at_20)
+one_what (Shard c i s x) (Bucket y) p q e = absurd (omega (arith, ap (λ z. get_or z 2 0) e))
+one_what (Bucket x) (Name y) p q e = absurd (omega (arith, ap (λ z. get_or z 2 0) e))
+one_what (Bucket x) (Shard d j t y) p q e = absurd (omega (arith, ap (λ z. get_or z 2 0) e))
+one_what (Bucket x) (Bucket y) p q e = ap (λ z. Bucket (drop 3 z)) e
+
+pub one_position : (p q : ℕ) → p < 2 ^ 64 → q < 2 ^ 64 → log_key p ≡ log_key q → p ≡ q
+one_position p q fp fq e = same_number (number_bytes p) 0 p q [] [] fp fq (sym (append-nil (number_bytes p))) (ap (drop 1) e ∙ sym (append-nil (number_bytes q)))
+
+name_most : (most : ℕ) (name : List ℕ) → is_name most name ≡ true → length name ≤ most
+name_most most name is = leb-true (length name) most (and_parts _ _ (and_parts (nat_lt 0 (length name)) _ is).1).0
+
+pub what_most : (what : LogWhat) → IsWhat what → length (what_bytes what) < 1040
+what_most (Name name) is = omega (arith, name_most 1024 name is.0)
+what_most (Shard c i s bucket) is = omega (arith, name_most 256 bucket is.3.0, length-shard_bytes c i s bucket)
+what_most (Bucket name) is = omega (arith, name_most 256 name is.0)
+
+pub no_name : (name : List ℕ) (position : ℕ) → is_name 1024 name ≡ true → name ≡ log_key position → ⊥
+no_name name position is key =
+    let first : is_name 1024 (log_key position) ≡ true = subst (λ n. is_name 1024 n ≡ true) key is in
+    let rest = and_parts (nat_lt 0 (length (log_key position))) (nat_le (length (log_key position)) 1024 && false) first in
+    true≢false (sym (and_parts (nat_le (length (log_key position)) 1024) false rest.1).1)

@@ -4,8 +4,8 @@ ghost use Rattle.std.specs.Str.{IsUtf8};
 ghost use Rattle.std.specs.List.{AllByRecursion};
 ghost use Rattle.index_entry.specs.Numbers.{number_bytes, short_bytes, word_bytes};
 
-/// The number in the eight bytes from a place on.
-pub(crate) fn u64_at(bytes: &[u8], at: usize) -> u64
+/// The number in the eight bytes from a place on, the high one first.
+pub fn u64_at(bytes: &[u8], at: usize) -> u64
     requires { at + 8 ≤ length bytes.now }
     ensures read { drop at bytes.now ≡ number_bytes result ++ drop (at + 8) bytes.now }
     ensures once { (x : ℕ) (rest : List ℕ) → x < 2 ^ 64 → drop at bytes.now ≡ number_bytes x ++ rest → result ≡ x }

@@ -1,8 +1,9 @@
 use super::{
-    EntryFront, FRONT_MOST, ShardHeader, decode_entry, decode_header, encode_entry, encode_header,
-    front, write_front, write_tag,
+    EntryFront, FRONT_MOST, LOG_ROW_MOST, ShardHeader, decode_entry, decode_header, decode_what,
+    encode_entry, encode_header, front, log_key, position_of, write_bucket_row, write_front,
+    write_name_row, write_shard_row, write_tag, write_what,
 };
-use object_words::{Fate, Hold, ObjectName, Tag};
+use object_words::{BucketName, Fate, Hold, ObjectName, Tag};
 use rgw_types::Text;
 use std::test::Fail;
 
@@ -294,5 +295,85 @@ fn other_bytes_are_no_headers(rt: HostRuntime) -> Result<(), Fail> {
     for bytes in OTHER_HEADERS {
         assert_eq!(rt; decode_header(bytes), None);
     }
+    Ok(())
+}
+
+/// Rows that name the object `a/1`, the shard 3 of the instance 258 of the container 7 with the name
+/// `dog`, and the container `é`.
+const ROWS: [&[u8]; 3] = [
+    &[236, 1, 0, 97, 47, 49],
+    &[
+        236, 1, 1, 0, 0, 0, 0, 0, 0, 0, 7, 0, 0, 0, 0, 0, 0, 1, 2, 0, 0, 0, 3, 100, 111, 103,
+    ],
+    &[236, 1, 2, 195, 169],
+];
+
+#[test]
+fn log_rows_come_back(rt: HostRuntime) -> Result<(), Fail> {
+    for bytes in ROWS {
+        let what = decode_what(rt.alloc(), bytes)?;
+        assert!(rt; what.is_some());
+        if let Some(what) = what {
+            let mut out = [0; LOG_ROW_MOST];
+            let len = write_what(&what, &mut out);
+            assert!(rt; bytes == &out[..len]);
+        }
+    }
+    Ok(())
+}
+
+#[test]
+fn log_rows_are_written(rt: HostRuntime) -> Result<(), Fail> {
+    let mut out = [0; LOG_ROW_MOST];
+    let object = ObjectName::new(Text::from_str(rt.alloc(), "a/1")?).ok();
+    let object = object.ok_or("no name")?;
+    let len = write_name_row(&object, &mut out);
+    assert!(rt; ROWS[0] == &out[..len]);
+    let bucket = BucketName::new(Text::from_str(rt.alloc(), "dog")?).ok();
+    let len = write_shard_row(7, 258, 3, &bucket.ok_or("no name")?, &mut out);
+    assert!(rt; ROWS[1] == &out[..len]);
+    let bucket = BucketName::new(Text::from_str(rt.alloc(), "é")?).ok();
+    let len = write_bucket_row(&bucket.ok_or("no name")?, &mut out);
+    assert!(rt; ROWS[2] == &out[..len]);
+    Ok(())
+}
+
+/// Bytes that are no row of a log.
+const OTHER_ROWS: [&[u8]; 8] = [
+    // none of what it names
+    &[236, 1],
+    // an empty name
+    &[236, 1, 0],
+    // another kind of bytes
+    &[237, 1, 0, 97],
+    // another layout
+    &[236, 2, 0, 97],
+    // a row of kind 3
+    &[236, 1, 3, 97],
+    // a name with a byte 0
+    &[236, 1, 0, 97, 0],
+    // a name that is no UTF-8
+    &[236, 1, 2, 97, 255],
+    // a shard without a name
+    &[
+        236, 1, 1, 0, 0, 0, 0, 0, 0, 0, 7, 0, 0, 0, 0, 0, 0, 1, 2, 0, 0, 0, 3,
+    ],
+];
+
+#[test]
+fn other_bytes_are_no_log_rows(rt: HostRuntime) -> Result<(), Fail> {
+    for bytes in OTHER_ROWS {
+        assert!(rt; decode_what(rt.alloc(), bytes)?.is_none());
+    }
+    Ok(())
+}
+
+#[test]
+fn positions_are_read(rt: HostRuntime) -> Result<(), Fail> {
+    let key = [0, 0, 0, 0, 0, 0, 0, 1, 2];
+    assert!(rt; log_key(258) == key);
+    assert_eq!(rt; position_of(&key), Some(258));
+    assert_eq!(rt; position_of(&key[..8]), None);
+    assert_eq!(rt; position_of(b"a/1234567"), None);
     Ok(())
 }

@@ -1,0 +1,2 @@
+pub mod LogObjects
+pub mod Examples
