@@ -3,3 +3,4 @@ pub mod TagLemmas
 pub mod EntryLemmas
 pub mod Uniqueness
 pub mod HeaderLemmas
+pub mod LogRowLemmas

@@ -1,11 +1,11 @@
 -- Pieces of bytes, one after another.
 use Rattle.std.proofs.Common.{◌≡◌, ℕ, suc, ◌+◌, ◌-◌, ◌^◌, ◌<◌, ◌≤◌, List, [], ◌∷◌, ◌++◌, length, take, drop, get_or, refl, sym, ap, ap₂, ◌∙◌, arith, inl, inr, subst, append_assoc, length-append}
-use Rattle.std.specs.Int.{w16, w64, to_be_bytes, from_be_bytes}
+use Rattle.std.specs.Int.{w16, w32, w64, to_be_bytes, from_be_bytes}
 use Rattle.std.specs.List.{AllByRecursion}
 use Rattle.std.proofs.lemmas.Bool.{cases_lt}
 use Rattle.std.proofs.lemmas.List.{drop-drop, take-append-drop, take_at, drop_at, length-drop, length-take, get_or-take, get_or-drop, get_or_past}
-use Rattle.std.proofs.lemmas.Nat.{be_bytes_2, be_bytes_8, from_be_bytes-to_be_bytes_2, from_be_bytes-to_be_bytes_8}
-use Rattle.index_entry.specs.Numbers.{number_bytes, short_bytes}
+use Rattle.std.proofs.lemmas.Nat.{be_bytes_2, be_bytes_4, be_bytes_8, from_be_bytes-to_be_bytes_2, from_be_bytes-to_be_bytes_4, from_be_bytes-to_be_bytes_8}
+use Rattle.index_entry.specs.Numbers.{number_bytes, short_bytes, word_bytes}
 
 pub length-number_bytes : (n : ℕ) → length (number_bytes n) ≡ 8
 unfolding number_bytes
@@ -14,6 +14,10 @@ length-number_bytes n = refl
 pub length-short_bytes : (n : ℕ) → length (short_bytes n) ≡ 2
 unfolding short_bytes
 length-short_bytes n = refl
+
+pub length-word_bytes : (n : ℕ) → length (word_bytes n) ≡ 4
+unfolding word_bytes
+length-word_bytes n = refl
 
 abbrev pub AreBytes : List ℕ → Type 0
 AreBytes bs = (i : ℕ) → get_or bs i 0 < 256
@@ -54,6 +58,15 @@ pub short_once : (bs : List ℕ) (at n x : ℕ) (rest : List ℕ) → n ≡ from
 unfolding short_bytes
 short_once bs at n x rest is fits here = is ∙ ap (from_be_bytes w16) (taken bs at 2 (to_be_bytes w16 x) rest here refl) ∙ from_be_bytes-to_be_bytes_2 x fits
 
+pub word_read : (bs : List ℕ) (at n : ℕ) → AreBytes bs → at + 4 ≤ length bs → n ≡ from_be_bytes w32 (take 4 (drop at bs)) → drop at bs ≡ word_bytes n ++ drop (at + 4) bs
+unfolding word_bytes
+word_read bs at n fit long is =
+    begins bs at 4 ∙ ap (λ z. z ++ drop (at + 4) bs) (sym (be_bytes_4 (take 4 (drop at bs)) n (omega (arith, length-take 4 (drop at bs), length-drop at bs)) (part_fits bs at 4 fit) is))
+
+pub word_once : (bs : List ℕ) (at n x : ℕ) (rest : List ℕ) → n ≡ from_be_bytes w32 (take 4 (drop at bs)) → x < 2 ^ 32 → drop at bs ≡ word_bytes x ++ rest → n ≡ x
+unfolding word_bytes
+word_once bs at n x rest is fits here = is ∙ ap (from_be_bytes w32) (taken bs at 4 (to_be_bytes w32 x) rest here refl) ∙ from_be_bytes-to_be_bytes_4 x fits
+
 -- bytes that are looked at one by one fit
 pub all_fit : (bs : List ℕ) → AreBytes bs → AllByRecursion (λ b. b < 256) bs
 all_fit [] fit = tt
@@ -87,9 +100,12 @@ a_number bs at fit long = record {
   read = number_read bs at (from_be_bytes w64 (take 8 (drop at bs))) fit long refl;
 }
 
--- the slice from a place to eight bytes on, and to two
+-- the slice from a place to eight bytes on, to four and to two
 pub number_slice : (bs : List ℕ) (at n : ℕ) → n ≡ from_be_bytes w64 (take (at + 8 - at) (drop at bs)) → n ≡ from_be_bytes w64 (take 8 (drop at bs))
 number_slice bs at n is = let e : at + 8 - at ≡ 8 = omega arith in is ∙ ap (λ k. from_be_bytes w64 (take k (drop at bs))) e
+
+pub word_slice : (bs : List ℕ) (at n : ℕ) → n ≡ from_be_bytes w32 (take (at + 4 - at) (drop at bs)) → n ≡ from_be_bytes w32 (take 4 (drop at bs))
+word_slice bs at n is = let e : at + 4 - at ≡ 4 = omega arith in is ∙ ap (λ k. from_be_bytes w32 (take k (drop at bs))) e
 
 pub short_slice : (bs : List ℕ) (at n : ℕ) → n ≡ from_be_bytes w16 (take (at + 2 - at) (drop at bs)) → n ≡ from_be_bytes w16 (take 2 (drop at bs))
 short_slice bs at n is = let e : at + 2 - at ≡ 2 = omega arith in is ∙ ap (λ k. from_be_bytes w16 (take k (drop at bs))) e

@@ -2,7 +2,7 @@
 ghost use Rattle.std.specs.Prelude.{◌≡◌, ◌+◌, ◌^◌, ◌<◌, ◌≤◌, ◌↔◌, ◌++◌, ℕ, List, IsTrue, length, drop};
 ghost use Rattle.std.specs.Str.{IsUtf8};
 ghost use Rattle.std.specs.List.{AllByRecursion};
-ghost use Rattle.index_entry.specs.Numbers.{number_bytes, short_bytes};
+ghost use Rattle.index_entry.specs.Numbers.{number_bytes, short_bytes, word_bytes};
 
 /// The number in the eight bytes from a place on.
 pub(crate) fn u64_at(bytes: &[u8], at: usize) -> u64
@@ -14,6 +14,16 @@ pub(crate) fn u64_at(bytes: &[u8], at: usize) -> u64
     u64::from_be_bytes([
         part[0], part[1], part[2], part[3], part[4], part[5], part[6], part[7],
     ])
+}
+
+/// The number in the four bytes from a place on.
+pub(crate) fn u32_at(bytes: &[u8], at: usize) -> u32
+    requires { at + 4 ≤ length bytes.now }
+    ensures read { drop at bytes.now ≡ word_bytes result ++ drop (at + 4) bytes.now }
+    ensures once { (x : ℕ) (rest : List ℕ) → x < 2 ^ 32 → drop at bytes.now ≡ word_bytes x ++ rest → result ≡ x }
+{
+    let part = &bytes[at..at + 4];
+    u32::from_be_bytes([part[0], part[1], part[2], part[3]])
 }
 
 /// The number in the two bytes from a place on.
