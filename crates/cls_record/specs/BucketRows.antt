@@ -18,11 +18,14 @@ abbrev pub pairs_bytes : List (List ℕ × List ℕ) → List ℕ
 pairs_bytes [] = []
 pairs_bytes (p ∷ ps) = text_bytes p.0 ++ (text_bytes p.1 ++ pairs_bytes ps)
 
--- what all zones share: the id, the owner, who may read, who may write, and the metadata after the number of its pairs
+-- the part that all zones share: the id, the owner, who may read, who may write, and the number of pairs of the metadata,
+-- before the rest
+abbrev pub shared_then : ℕ → List ℕ → List ℕ → List ℕ → ℕ → List ℕ → List ℕ
+shared_then id owner readers writers count rest =
+    number_bytes id ++ (text_bytes owner ++ (text_bytes readers ++ (text_bytes writers ++ (number_bytes count ++ rest))))
+
 abbrev pub shared_bytes : Bucket → List ℕ
-shared_bytes b =
-    number_bytes b.id
-    ++ (text_bytes b.owner ++ (text_bytes b.readers ++ (text_bytes b.writers ++ (number_bytes (length b.meta) ++ pairs_bytes b.meta))))
+shared_bytes b = shared_then b.id b.owner b.readers b.writers (length b.meta) (pairs_bytes b.meta)
 
 -- no work on the shards, a reshard, or a closing
 abbrev pub busy_kind : Option Busy → ℕ
@@ -34,16 +37,16 @@ abbrev pub busy_number : Option Busy → ℕ
 busy_number None = 0
 busy_number (Some busy) = busy.number
 
--- what is before the part that zones share: the version, the number of the shared part, the last number of a reshard or a
--- closing, the work on the shards as a kind and a number, the instance, and how many shards it has
-abbrev pub own_bytes : Bucket → List ℕ
-own_bytes b =
-    235 ∷ 1 ∷ (number_bytes b.version ++ (number_bytes b.shared ++ (number_bytes b.number
-    ++ (busy_kind b.busy ∷ (number_bytes (busy_number b.busy) ++ (number_bytes b.instance ++ number_bytes b.shards))))))
+-- the zone's own part: the version, the number of the shared part, the last number of a reshard or a closing, the work on
+-- the shards as a kind and a number, the instance, and how many shards it has, before the rest
+abbrev pub own_then : ℕ → ℕ → ℕ → Option Busy → ℕ → ℕ → List ℕ → List ℕ
+own_then version shared number busy instance shards rest =
+    235 ∷ 1 ∷ (number_bytes version ++ (number_bytes shared ++ (number_bytes number
+    ++ (busy_kind busy ∷ (number_bytes (busy_number busy) ++ (number_bytes instance ++ (number_bytes shards ++ rest)))))))
 
 -- the bytes of a row
 abbrev pub bucket_bytes : Bucket → List ℕ
-bucket_bytes b = own_bytes b ++ shared_bytes b
+bucket_bytes b = own_then b.version b.shared b.number b.busy b.instance b.shards (shared_bytes b)
 
 -- a text whose length fits
 abbrev pub IsText : List ℕ → Type 0

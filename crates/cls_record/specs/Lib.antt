@@ -1,1 +1,2 @@
 pub mod BucketRows
+pub mod RootObjects

@@ -1,5 +1,5 @@
 //! Numbers and texts that stand one after another in bytes.
-ghost use Rattle.std.specs.Prelude.{◌≡◌, ◌+◌, ◌^◌, ◌<◌, ◌≤◌, ◌++◌, ℕ, List, Some, IfSome, OnOk, length};
+ghost use Rattle.std.specs.Prelude.{◌≡◌, ◌^◌, ◌<◌, ◌++◌, ℕ, List, Some, IfSome, OnOk, length};
 ghost use Rattle.std.specs.Option.{IsSomeAnd};
 ghost use Rattle.index_entry.specs.Numbers.{number_bytes};
 ghost use Rattle.cls_record.specs.BucketRows.{IsText, text_bytes};
@@ -35,9 +35,7 @@ impl<'a> Reader<'a> {
             → (result ≡ Some n) × (self.new.rest.now ≡ rest) }
     {
         let piece = self.bytes(8)?;
-        Some(u64::from_be_bytes([
-            piece[0], piece[1], piece[2], piece[3], piece[4], piece[5], piece[6], piece[7],
-        ]))
+        Some(number_in(piece))
     }
 
     /// The next text.
@@ -50,6 +48,17 @@ impl<'a> Reader<'a> {
         let piece = self.bytes(count as usize)?;
         str::from_utf8(piece).ok()
     }
+}
+
+/// The number that eight bytes are.
+pub(crate) fn number_in(bytes: &[u8]) -> u64
+    requires { length bytes.now ≡ 8 }
+    ensures read { bytes.now ≡ number_bytes result }
+    ensures once { (n : ℕ) → n < 2 ^ 64 → bytes.now ≡ number_bytes n → result ≡ n }
+{
+    u64::from_be_bytes([
+        bytes[0], bytes[1], bytes[2], bytes[3], bytes[4], bytes[5], bytes[6], bytes[7],
+    ])
 }
 
 /// Writes a number behind the bytes.
