@@ -38,3 +38,10 @@ with_log_row r name = record r { log = logged r.log (bucket_row name) }
 abbrev pub same_shared : Option Bucket → Bucket → Option ℕ
 same_shared None new = None
 same_shared (Some old) new = if shares_all old new then Some old.shared else None
+
+-- the root with the row swapped: for the new one with its numbers, or for none; zone 1 logs it
+abbrev pub renewed : Root → List ℕ → Option Bucket → Bool → ℕ → Root
+renewed r name new master number =
+    let kept = at r.buckets name in
+    let swapped = with_row r name (stored_or_none kept new master number) in
+    if master && is_logged kept new then with_log_row swapped name else swapped

@@ -223,7 +223,7 @@ pub(crate) fn row_with(
     part: &[u8],
 ) -> Result<Bytes, OutOfMemory>
     ensures form { IfOk result (λ bytes. bytes ≡ own_then version shared bucket.now.number bucket.now.busy bucket.now.instance bucket.now.shards part.now) }
-    ensures bounds { IfOk result (λ bytes. (bucket.now.number < 2 ^ 64)
+    ensures bounds { IfOk result (λ bytes. (version < 2 ^ 64) × (shared < 2 ^ 64) × (bucket.now.number < 2 ^ 64)
         × (busy_number bucket.now.busy < 2 ^ 64) × (bucket.now.instance < 2 ^ 64) × (1 ≤ bucket.now.shards) × (bucket.now.shards ≤ shard_limit)) }
 {
     let (kind, busy) = busy_parts(bucket.busy);
