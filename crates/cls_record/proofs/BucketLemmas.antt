@@ -151,8 +151,8 @@ shared_alike a b e =
     let readers = (bytes_eq-Decides a.readers b.readers).0 (left (bytes_eq a.readers b.readers) _ e3) in
     let writers = (bytes_eq-Decides a.writers b.writers).0 (right (bytes_eq a.readers b.readers) _ e3) in
     λ i. shared_then (id i) (owner i) (readers i) (writers i) (length (meta i)) (pairs_bytes (meta i)) where
-  same_id : (x y : ℕ) → (x == y) ≡ true → x ≡ y
-  same_id x y here = grind (arith, nat_tests)
+      same_id : (x y : ℕ) → (x == y) ≡ true → x ≡ y
+      same_id x y here = grind (arith, nat_tests)
 
 pub alike_shared : (a b : Bucket) → SharesAll a b → shares_all a b ≡ true
 alike_shared a b is =

@@ -103,12 +103,14 @@ row_changed o p r name x is named fits bytes attrs there others = record {
             ap (value_at p.rows.rows) same ∙ there ∙ sym (alone (option_map bucket_bytes x)) ∙ ap (or_logged (option_map bucket_bytes x)) (sym (no_log_row_there r.log name named) ∙ ap (logged_at r.log) (sym same))
         | false ↦ λ e. others key (names_apart key name e) ∙ is.rows key
       ] refl ∙ ap (λ f. or_logged (option_map bucket_bytes f) (logged_at r.log key)) (sym (at-with_bucket r.buckets name x key))
+
   name_of : (q : List ℕ) → IfSome (cond (eq_by_cmp key_cmp q name) x (at r.buckets q)) (λ _. IsBucketName q)
   name_of q =
       elim (eq_by_cmp key_cmp q name) as (λ b. eq_by_cmp key_cmp q name ≡ b → IfSome (cond b x (at r.buckets q)) (λ _. IsBucketName q)) [
         | true ↦ λ e. always x (IsBucketName q) (subst IsBucketName (sym (same_name q name e)) named)
         | false ↦ λ e. is.named q
       ] refl
+
   bucket_of : (q : List ℕ) → IfSome (cond (eq_by_cmp key_cmp q name) x (at r.buckets q)) IsBucket
   bucket_of q = elim (eq_by_cmp key_cmp q name) as (λ b. IfSome (cond b x (at r.buckets q)) IsBucket) [ true ↦ fits | false ↦ is.bucket q ]
 
@@ -142,6 +144,7 @@ log_grown o p r name is named small bytes attrs there others = record {
 } where
   fits : r.log.last + 1 < 2 ^ 64
   fits = omega (arith, small)
+
   rows : (key : List ℕ) → value_at p.rows.rows key ≡ or_logged (option_map bucket_bytes (at r.buckets key)) (logged_at (logged r.log (bucket_row name)) key)
   rows key =
       elim (eq_by_cmp key_cmp key (log_key (r.log.last + 1))) as (λ b. eq_by_cmp key_cmp key (log_key (r.log.last + 1)) ≡ b → value_at p.rows.rows key ≡ or_logged (option_map bucket_bytes (at r.buckets key)) (logged_at (logged r.log (bucket_row name)) key)) [

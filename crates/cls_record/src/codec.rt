@@ -84,7 +84,7 @@ fn own_part(reader: &mut Reader<'_>) -> Option<OwnPart>
     ensures exact { (b : BucketOf) (rest : List ℕ) → IsBucket b
         → reader.old.rest.now ≡ own_then b.version b.shared b.number b.busy b.instance b.shards rest
         → IsSomeAnd result (λ own. (own.version ≡ b.version) × (own.shared ≡ b.shared) × (own.number ≡ b.number) × (own.busy ≡ b.busy)
-            × (own.instance ≡ b.instance) × (own.shards ≡ b.shards)) × (reader.new.rest.now ≡ rest) }
+        × (own.instance ≡ b.instance) × (own.shards ≡ b.shards)) × (reader.new.rest.now ≡ rest) }
 {
     let head = reader.bytes(2)?;
     if head[0] != KIND || head[1] != LAYOUT {
@@ -148,7 +148,7 @@ fn shared_part<'a>(reader: &mut Reader<'a>) -> Option<SharedPart<'a>>
     ensures exact { (b : BucketOf) (rest : List ℕ) → IsShared b
         → reader.old.rest.now ≡ shared_then b.id b.owner b.readers b.writers (length b.meta) rest
         → IsSomeAnd result (λ part. (part.id ≡ b.id) × (part.owner.now ≡ b.owner) × (part.readers.now ≡ b.readers) × (part.writers.now ≡ b.writers)
-            × (part.count ≡ length b.meta)) × (reader.new.rest.now ≡ rest) }
+        × (part.count ≡ length b.meta)) × (reader.new.rest.now ≡ rest) }
 {
     let id = reader.number()?;
     let owner = reader.text()?;
@@ -211,7 +211,13 @@ pub fn encode_bucket(alloc: Global, bucket: &Bucket) -> Result<Bytes, OutOfMemor
     ensures bounds { IfOk result (λ bytes. IsBucket bucket.now) }
 {
     let part = shared_bytes(alloc, bucket)?;
-    row_with(alloc, bucket, bucket.version, bucket.shared, part.as_slice())
+    row_with(
+        alloc,
+        bucket,
+        bucket.version,
+        bucket.shared,
+        part.as_slice(),
+    )
 }
 
 /// The bytes of a row with this version, this number of the shared part, and these bytes of it.

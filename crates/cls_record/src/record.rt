@@ -18,7 +18,11 @@ use rgw_types::Bytes;
 use std::alloc::Global;
 
 /// The row of a container, if it has one.
-pub fn read(alloc: Global, root: &Place<'_>, name: &BucketName) -> Result<Option<Bucket>, OutOfMemory>
+pub fn read(
+    alloc: Global,
+    root: &Place<'_>,
+    name: &BucketName,
+) -> Result<Option<Bucket>, OutOfMemory>
     ensures { IfOk result (λ found. (r : RootOf) → IsRoot (object_of root.now) r → found ≡ at r.buckets name.now) }
 {
     match root.row(key_of(name)) {
@@ -53,7 +57,7 @@ pub fn swap(
     ensures works { Works root.old root.new }
     ensures answers { (r : RootOf) → IsRoot (object_of root.old) r → r.log.last < 2 ^ 63
         → Answers result (swap_refusal r name.now expected) (λ _. Unit {0}) (IsRoot (object_of root.new)) r
-            (swapped r name.now expected (option_map (λ b. b.now) new.entry) master number) }
+        (swapped r name.now expected (option_map (λ b. b.now) new.entry) master number) }
 {
     let version = kept_version(root, key_of(name));
     if version != expected {
@@ -117,11 +121,7 @@ fn put_bucket(
 fn next_shared(kept: Option<u64>, new: u64, master: bool, number: u64) -> u64
     ensures { result ≡ (if master then unwrap_or kept number else new) }
 {
-    if master {
-        kept.unwrap_or(number)
-    } else {
-        new
-    }
+    if master { kept.unwrap_or(number) } else { new }
 }
 
 /// Puts the bytes of a row under a name.

@@ -12,9 +12,9 @@ loop-pair-preserved c =
     let more : take (c.loop-pair.pair-index + 1) c.args.pairs.now ≡ xs ++ p ∷ [] =
     take_more c.args.pairs.now c.loop-pair.pair-index p c.loop-pair-test.true ∙ ap (λ x. xs ++ x ∷ []) (sym c.pair-item.is) in (
       c.in_ok-put_text-2.ensures.ok
-      ∙ (λ i. (c.in_ok-put_text.ensures.ok i) ++ text_bytes (c.as_str-in-loop-pair.ensures i))
-      ∙ (λ i. ((c.loop-pair.invariant.0 i) ++ text_bytes (c.as_str.ensures i)) ++ text_bytes p.1)
-      ∙ one_pair_written c.args.out.now xs p ∙ ap (λ z. c.args.out.now ++ pairs_bytes z) (sym more),
+          ∙ (λ i. (c.in_ok-put_text.ensures.ok i) ++ text_bytes (c.as_str-in-loop-pair.ensures i))
+          ∙ (λ i. ((c.loop-pair.invariant.0 i) ++ text_bytes (c.as_str.ensures i)) ++ text_bytes p.1)
+          ∙ one_pair_written c.args.out.now xs p ∙ ap (λ z. c.args.out.now ++ pairs_bytes z) (sym more),
       subst (AllByRecursion IsPair) (sym more)
-      (all_more xs p c.loop-pair.invariant.1 (subst IsText c.as_str.ensures c.put_text.ensures.fits, subst IsText c.as_str-in-loop-pair.ensures c.put_text-in-loop-pair.ensures.fits)),
+          (all_more xs p c.loop-pair.invariant.1 (subst IsText c.as_str.ensures c.put_text.ensures.fits, subst IsText c.as_str-in-loop-pair.ensures c.put_text-in-loop-pair.ensures.fits)),
     )

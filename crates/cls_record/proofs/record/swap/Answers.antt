@@ -1,4 +1,4 @@
-use Rattle.std.proofs.Common.{◌≡◌, Bor, option_map, sym, ap, ◌∙◌, subst}
+use Rattle.std.proofs.Common.{◌≡◌, Bor, option_map, sym, ap, subst, arith}
 use Rattle.object_pool.specs.Places.{object_of}
 use Rattle.object_words.specs.declared.bucket.Bucket.{Bucket}
 use Rattle.object_words.specs.Names.{at}
@@ -11,9 +11,9 @@ pub returns-in-Ok-clause-answers : goal.returns-in-Ok-clause-answers
 returns-in-Ok-clause-answers c r is small =
     let name = c.args.name.now in
     let expected : version_of (at r.buckets name) ≡ c.args.expected =
-    ap (λ k. version_of (at r.buckets k)) (sym c.key_of.ensures.key) ∙ sym (c.kept_version-version.ensures r is) ∙ c.if-version-expected.false in (
+    omega (arith, ap (λ k. version_of (at r.buckets k)) (sym c.key_of.ensures.key), c.kept_version-version.ensures r is) in (
       expected_kept r name c.args.expected expected,
       tt,
       subst (IsRoot (object_of c.renew.new.root)) (swapped_so r name c.args.expected (option_map (λ (b : Bor Bucket). b.now) c.args.new) c.args.master c.args.number expected)
-      (c.in-Ok.ensures.ok r is small),
+          (c.in-Ok.ensures.ok r is small),
     )
