@@ -23,18 +23,18 @@ not_false false e = absurd (true≢false e)
 
 pub returns-then-ne : goal.returns-then-ne
 returns-then-ne c old b is here shared part =
-    let row = c.args.row.now in
-    let kept = take (length row - 51) (drop 51 row) in
-    let whole = take_all (length row - 51) (drop 51 row) (omega (arith, length-drop 51 row)) ∙ (row_read row old here).at_51 in
+    let bytes = c.args.row.now in
+    let kept = take (length bytes - 51) (drop 51 bytes) in
+    let whole = take_all (length bytes - 51) (drop 51 bytes) (omega (arith, length-drop 51 bytes)) ∙ (row_read bytes old here).at_51 in
     sym (other_shared old b (λ e. true≢false (sym c.if-ne.true ∙ c.ne.ensures ∙ ap not ((bytes_eq-Decides kept c.args.part.now).1 (whole ∙ e ∙ sym part)))))
 
 pub returns : goal.returns
 returns c old b is here shared part =
-    let row = c.args.row.now in
-    let kept = take (length row - 51) (drop 51 row) in
-    let r = row_read row old here in
-    let whole = take_all (length row - 51) (drop 51 row) (omega (arith, length-drop 51 row)) ∙ r.at_51 in
+    let bytes = c.args.row.now in
+    let kept = take (length bytes - 51) (drop 51 bytes) in
+    let r = row_read bytes old here in
+    let whole = take_all (length bytes - 51) (drop 51 bytes) (omega (arith, length-drop 51 bytes)) ∙ r.at_51 in
     let alike = (bytes_eq-Decides kept c.args.part.now).0 (not_false _ (sym c.ne.ensures ∙ c.if-ne.false)) in
     let same : shared_bytes old ≡ shared_bytes b = sym whole ∙ alike ∙ part in
-    ap Some (c.number_in.ensures.once old.shared is.shared_fits (taken row 10 8 (number_bytes old.shared) r.more r.at_10 (length-number_bytes old.shared)))
+    ap Some (c.number_in.ensures.once old.shared is.shared_fits (taken bytes 10 8 (number_bytes old.shared) r.more r.at_10 (length-number_bytes old.shared)))
     ∙ sym (found_shared old b is.shared_part shared same)

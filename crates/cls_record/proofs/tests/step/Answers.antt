@@ -3,14 +3,14 @@ use Rattle.object_pool.specs.Objects.{Object}
 use Rattle.object_pool.specs.Places.{object_of}
 use Rattle.object_words.specs.declared.bucket.Bucket.{Bucket}
 use Rattle.object_words.specs.declared.why.Why.{Why}
-use Rattle.object_words.specs.declared.why.Why.TheVariants.{Raced}
 use Rattle.object_words.specs.declared.why.ClassFault.{ClassFault}
 use Rattle.object_words.specs.declared.why.ClassFault.TheVariants.{OutOfMemory, No}
 use Rattle.object_words.specs.declared.log.LogWhat.TheVariants.{Bucket as bucket_row}
 use Rattle.object_words.specs.Answers.{Answers}
 use Rattle.object_words.specs.Logs.{Log, logged}
 use Rattle.object_words.specs.Names.{at}
-use Rattle.object_words.specs.Roots.{Root, is_logged, stored_or_none, swapped, version_of, with_bucket}
+use Rattle.object_words.specs.Refusals.{unless_refused}
+use Rattle.object_words.specs.Roots.{Root, is_logged, stored_or_none, swap_refusal, swapped, with_bucket}
 use Rattle.cls_record.specs.RootObjects.{IsRoot}
 use Rattle.cls_record.proofs.tests.step.Goals as goal
 
@@ -28,16 +28,16 @@ one_more : (b : Bool) (log : Log) (name : List ℕ) (rows : ℕ) → log.last �
 one_more true log name rows few = omega (arith, few)
 one_more false log name rows few = omega (arith, few)
 
+refused_or_not : (refusal : Option Why) (before after : Root) (rows : ℕ) → before.log.last ≤ rows → after.log.last ≤ rows + 1 → (unless_refused refusal before after).log.last ≤ rows + 1
+refused_or_not None before after rows few more = more
+refused_or_not (Some why) before after rows few more = omega (arith, few)
+
 grows_by_one : (r : Root) (name : List ℕ) (expected : ℕ) (new : Option Bucket) (master : Bool) (number rows : ℕ) → r.log.last ≤ rows
     → (swapped r name expected new master number).log.last ≤ rows + 1
 grows_by_one r name expected new master number rows few =
-    elim (version_of (at r.buckets name) == expected) as (λ b. unless r b ≤ rows + 1) [
-      | true ↦ one_more (master && is_logged (at r.buckets name) new) r.log name rows few
-      | false ↦ omega (arith, few)
-    ] where
-      unless : Root → Bool → ℕ
-      unless r true = (if master && is_logged (at r.buckets name) new then logged r.log (bucket_row name) else r.log).last
-      unless r false = r.log.last
+    let kept = at r.buckets name in
+    let after : Root = record { buckets = with_bucket r.buckets name (stored_or_none kept new master number); log = if master && is_logged kept new then logged r.log (bucket_row name) else r.log } in
+    refused_or_not (swap_refusal r name expected) r after rows few (one_more (master && is_logged kept new) r.log name rows few)
 
 pub returns : goal.returns
 returns c =
