@@ -1,0 +1,4 @@
+pub mod PieceLemmas
+pub mod BucketLemmas
+pub mod RootLemmas
+pub mod SwapLemmas

@@ -1,0 +1,2 @@
+pub mod BucketRows
+pub mod RootObjects
