@@ -1,8 +1,7 @@
 -- What holds after every legal history.
-use Rattle.std.proofs.Common.{◌≡◌, ℕ, ◌+◌, ◌≤◌, ◌==◌, inl, not, Bool, true, false, List, [], ◌∷◌, length, Option, Some, None, refl, sym, ◌∙◌, ap, subst, arith}
+use Rattle.std.proofs.Common.{◌≡◌, ℕ, ◌+◌, ◌≤◌, ◌==◌, inl, not, true, false, List, [], ◌∷◌, length, Option, Some, None, refl, sym, subst, arith}
 use Rattle.std.specs.Prelude.{IfSome, is_some, unwrap_or}
 use Rattle.std.proofs.lemmas.Bool.Decides.{nat_tests}
-use Rattle.object_words.specs.Keys.{tail_key}
 use Rattle.object_words.specs.Tails.{is_there}
 use Rattle.realm_model.specs.Settings.{SettingsView}
 use Rattle.realm_model.specs.States.{at_moment}
@@ -17,7 +16,7 @@ use Rattle.realm_model.proofs.Computing.{right_of}
 use Rattle.realm_model.proofs.Runs.{touched-count}
 use Rattle.realm_model.proofs.MadeOnce.{tails_agree}
 use Rattle.realm_model.proofs.Framing.{frames_add_up}
-use Rattle.stripe_law.specs.Tails.{IsKept, Bytes, Holders}
+use Rattle.stripe_law.specs.Tails.{Bytes}
 use Rattle.stripe_law.specs.Invariant.{StripesHold, StripesHoldIn, Holds}
 use Rattle.stripe_law.proofs.Next.{next_holds}
 
@@ -60,7 +59,7 @@ there_is bytes there =
       | false ↦ λ some is. grind (arith, nat_tests)
     ] refl there
 
-is_there_of : (bytes : List ℕ) → 1 ≤ length bytes → is_there (record { bytes = bytes }) ≡ true
+pub is_there_of : (bytes : List ℕ) → 1 ≤ length bytes → is_there (record { bytes = bytes }) ≡ true
 is_there_of bytes some = grind (arith, nat_tests)
 
 kept_where : (made : Option (List ℕ)) (part count : ℕ) → IfSome made (λ b. (1 ≤ part) × ((part ≤ count) × (1 ≤ length b))) → is_there (record { bytes = unwrap_or made [] }) ≡ true → (1 ≤ part) × (part ≤ count)
@@ -81,7 +80,7 @@ holds_after settings history legal =
       bytes = bytes;
       holders = λ z t p. (
         (λ there. kept_where (w.stripes.made z t p) p (w.stripes.ledger z t t).count (stripes.made_once z t p) (subst (λ b. is_there (record { bytes = b }) ≡ true) (bytes z t p) there)),
-        (λ kept. subst (λ b. is_there (record { bytes = b }) ≡ true) (sym (bytes z t p)) (there_where (w.stripes.made z t p) p (w.stripes.ledger z t t).count (stripes.made_once z t p) (stripes.made_all z t p kept.0 kept.1)))
+        (λ kept. subst (λ b. is_there (record { bytes = b }) ≡ true) (sym (bytes z t p)) (there_where (w.stripes.made z t p) p (w.stripes.ledger z t t).count (stripes.made_once z t p) (stripes.made_all z t p kept.0 kept.1))),
       );
       frames = frames_add_up settings history;
     }

@@ -1,15 +1,14 @@
 -- What each actor knows of numbers: its own event more, and another's.
-use Rattle.std.proofs.Common.{◌≡◌, ℕ, ◌+◌, ◌==◌, ◌≤◌, ◌||◌, ◌⊎◌, inl, inr, not, Bool, true, false, cond, List, length, Option, Some, None, refl, sym, ◌∙◌, ap, subst, arith}
+use Rattle.std.proofs.Common.{◌≡◌, ℕ, ◌+◌, ◌==◌, ◌||◌, ◌⊎◌, inl, inr, not, Bool, true, false, cond, Option, Some, None, refl, ◌∙◌, subst, arith}
 use Rattle.std.specs.Prelude.{IfSome}
-use Rattle.rgw_types.specs.Stripes.{ManifestView, tails_of}
 use Rattle.object_words.specs.Keys.{put}
 use Rattle.realm_model.specs.Tests.{is_so}
-use Rattle.realm_model.specs.Phases.{ActorId, FirstEvent, Bundle, unused, opened, spent, OwnStripes, Phase}
-use Rattle.realm_model.specs.Needs.{is_first, is_own_write, holder_of}
-use Rattle.realm_model.specs.Learnt.{first_after, put_bundle, learnt}
+use Rattle.realm_model.specs.Phases.{ActorId, FirstEvent, Bundle, unused, Phase}
+use Rattle.realm_model.specs.Needs.{is_first, is_own_write}
+use Rattle.realm_model.specs.Learnt.{first_after}
 use Rattle.realm_model.specs.Facts.{Ledger}
-use Rattle.realm_model.specs.Worlds.{put_actor, tailed}
-use Rattle.realm_model.proofs.ObjectLemmas.{number_same, put_cases, put_bundle_cases}
+use Rattle.realm_model.specs.Worlds.{put_actor}
+use Rattle.realm_model.proofs.ObjectLemmas.{number_same, put_cases}
 use Rattle.realm_model.proofs.Makers.{by_before, by_now}
 use Rattle.stripe_law.specs.Ids.{IsBy, OwnHolders, KnowsIds, Ids}
 use Rattle.stripe_law.specs.Makers.{no_ledger, Makers}

@@ -4,3 +4,7 @@ pub mod Making
 pub mod Writing
 pub mod Next
 pub mod Keeping
+pub mod Made
+pub mod Storing
+pub mod Getting
+pub mod Resting

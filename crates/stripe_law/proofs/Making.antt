@@ -1,13 +1,13 @@
 -- A tail is made: the next part of a bundle that is nowhere, or is being made by this actor.
-use Rattle.std.proofs.Common.{◌≡◌, ℕ, ◌+◌, ◌<◌, ◌≤◌, ◌⊎◌, inl, inr, ◌==◌, Bool, true, false, cond, List, [], ◌∷◌, ◌++◌, length, get_or, length-append, Option, Some, None, refl, sym, ◌∙◌, ap, subst, arith}
+use Rattle.std.proofs.Common.{◌≡◌, ℕ, ◌+◌, ◌<◌, ◌≤◌, ◌⊎◌, inl, inr, ◌==◌, true, false, List, [], ◌∷◌, ◌++◌, length, get_or, length-append, Option, Some, None, refl, sym, ◌∙◌, ap, subst, arith}
 use Rattle.std.specs.Prelude.{IfSome, is_some}
 use Rattle.std.proofs.lemmas.List.{get_or_append_left, get_or-append-add}
 use Rattle.std.proofs.lemmas.Bool.Decides.{nat_tests}
 use Rattle.rgw_types.specs.Stripes.{ManifestView, tails_of}
-use Rattle.realm_model.specs.Phases.{ActorId, Bundle, unused, opened, spent, Phase}
+use Rattle.realm_model.specs.Phases.{ActorId, Bundle, unused, opened, spent}
 use Rattle.realm_model.specs.Needs.{is_next_part}
 use Rattle.realm_model.specs.Learnt.{put_bundle, with_part}
-use Rattle.realm_model.specs.Facts.{Place, nowhere, making, in_head, replaced, Ledger}
+use Rattle.realm_model.specs.Facts.{Place, nowhere, making, replaced, Ledger}
 use Rattle.realm_model.specs.Maps.{Made}
 use Rattle.realm_model.specs.Worlds.{counted_part}
 use Rattle.realm_model.proofs.ObjectLemmas.{number_same, put_bundle_cases}

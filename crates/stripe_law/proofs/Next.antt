@@ -1,7 +1,6 @@
 -- One event more keeps what holds of stripes, kind by kind.
-use Rattle.std.proofs.Common.{◌≡◌, ℕ, ◌+◌, ◌≤◌, ◌==◌, ◌&&◌, ◌||◌, ◌⊎◌, inl, inr, nat_le, Bool, true, false, cond, List, [], ◌∷◌, length, Option, Some, None, refl, sym, ◌∙◌, ap, subst, arith}
+use Rattle.std.proofs.Common.{◌≡◌, ℕ, ◌+◌, ◌≤◌, ◌==◌, ◌&&◌, ◌||◌, ◌⊎◌, inr, nat_le, true, false, cond, List, [], ◌∷◌, length, Some, None, refl, sym, ◌∙◌, ap, subst, arith}
 use Rattle.std.specs.Prelude.{IfSome}
-use Rattle.std.specs.List.{AllByRecursion}
 use Rattle.std.proofs.lemmas.Bool.Decides.{nat_tests}
 use Rattle.rgw_types.specs.declared.pool_key.Key.{Key}
 use Rattle.rgw_types.specs.Stripes.{ManifestView, tails_of}
@@ -11,8 +10,7 @@ use Rattle.object_words.specs.declared.head.NewHead.{NewHead}
 use Rattle.object_words.specs.declared.head.Conditions.{Conditions}
 use Rattle.object_words.specs.declared.head.SeenSlot.{SeenSlot}
 use Rattle.object_words.specs.declared.head.SeenSlot.TheVariants.{Nothing, Live, Mark}
-use Rattle.object_words.specs.declared.why.Why.{Why}
-use Rattle.object_words.specs.Keys.{head_key, tail_key, put}
+use Rattle.object_words.specs.Keys.{head_key, put}
 use Rattle.object_words.specs.Heads.{Head, manifest_of, with_tails}
 use Rattle.object_words.specs.HeadCalls.{seen, write_refusal, stamp_next, change_of}
 use Rattle.object_words.specs.Refusals.{unless_refused}
@@ -20,7 +18,7 @@ use Rattle.object_words.specs.Tails.{tail_refusal}
 use Rattle.realm_model.specs.Settings.{SettingsView}
 use Rattle.realm_model.specs.States.{State, number_next, put_in, touched}
 use Rattle.realm_model.specs.Steps.{reply_or, reply_of, touch_of}
-use Rattle.realm_model.specs.Phases.{ActorId, Bundle, unused, opened, spent, SeenManifest, Phase}
+use Rattle.realm_model.specs.Phases.{ActorId, Bundle, unused, SeenManifest, Phase}
 use Rattle.realm_model.specs.Needs.{is_between, is_own_write, is_next_part, tail_sizes, has_sizes, holder_of, has_parts, may_change_head}
 use Rattle.realm_model.specs.Allowed.{meets_need}
 use Rattle.realm_model.specs.Learnt.{put_bundle, with_part, with_manifest, learnt}
@@ -30,19 +28,17 @@ use Rattle.realm_model.specs.Worlds.{put_actor, counted_part, tailed, stripes_af
 use Rattle.realm_model.specs.declared.op.Op.{Op}
 use Rattle.realm_model.specs.declared.op.Op.TheVariants.{BucketRead, BucketSwap, ShardMake, Prepare, Complete, Cancel, Page, Suggest, Stats, HeadRead, HeadWrite, TailMake, TailRead, Announce}
 use Rattle.realm_model.specs.declared.event.Reply.{Reply}
-use Rattle.realm_model.specs.declared.event.Reply.TheVariants.{Done, No, Head as head_reply, Changed}
+use Rattle.realm_model.specs.declared.event.Reply.TheVariants.{Done, No, Changed}
 use Rattle.realm_model.proofs.Computing.{left_of, right_of}
 use Rattle.realm_model.proofs.ObjectLemmas.{number_same, put_bundle_cases, put_actor_cases, put_actor_here}
 use Rattle.realm_model.proofs.TouchLemmas.{put_in_same}
 use Rattle.realm_model.proofs.Makers.{by_before}
 use Rattle.stripe_law.specs.Sizes.{IsSized, IfLive}
-use Rattle.stripe_law.specs.Ids.{IsBy, OwnHolders, KnowsIds, Ids}
-use Rattle.stripe_law.specs.Makers.{no_ledger, Makers}
-use Rattle.stripe_law.specs.OpenBundles.{OpenAt, Open, SizesAt, OpenSizes}
-use Rattle.stripe_law.specs.HeadSizes.{HeadSizes}
-use Rattle.stripe_law.specs.Named.{Named}
-use Rattle.stripe_law.specs.Olds.{IsReplaced, OldsAt, Olds}
-use Rattle.stripe_law.specs.Seen.{SizedAll, SeenSizes}
+use Rattle.stripe_law.specs.Ids.{IsBy, OwnHolders, KnowsIds}
+use Rattle.stripe_law.specs.Makers.{no_ledger}
+use Rattle.stripe_law.specs.OpenBundles.{OpenAt, SizesAt}
+use Rattle.stripe_law.specs.Olds.{OldsAt}
+use Rattle.stripe_law.specs.Seen.{SizedAll}
 use Rattle.stripe_law.specs.Invariant.{StripesHold}
 use Rattle.stripe_law.proofs.Puts.{put_actor_apart, put_bundle_here}
 use Rattle.stripe_law.proofs.Knowing.{if_some_more, ids_next, own_knows, read_knows, makers_before, write_own}
@@ -70,20 +66,20 @@ module _ (heads : ℕ → Key → Head) (count clock : ℕ) (phases : ActorId �
   unchanged knows own olds seen = record {
     ids = ids_next x.by count actor phases p holds.ids knows;
     makers = makers_before x.by count actor phases (put_actor phases actor p) x.ledger holds.ids holds.makers
-      (put_actor_cases (λ a q. (z w h : ℕ) → q.stripes.own z w h ≡ unused → (phases a).stripes.own z w h ≡ unused) phases actor p
-      (λ z w h none. subst (λ o. o z w h ≡ unused) own none) (λ a z w h none. none));
+        (put_actor_cases (λ a q. (z w h : ℕ) → q.stripes.own z w h ≡ unused → (phases a).stripes.own z w h ≡ unused) phases actor p
+        (λ z w h none. subst (λ o. o z w h ≡ unused) own none) (λ a z w h none. none));
     open_bundles = put_actor_cases (λ a q. OpenAt a q.stripes.own x.ledger) phases actor p
-      (subst (λ o. OpenAt actor o x.ledger) (sym own) (holds.open_bundles actor)) holds.open_bundles;
+        (subst (λ o. OpenAt actor o x.ledger) (sym own) (holds.open_bundles actor)) holds.open_bundles;
     open_sizes = put_actor_cases (λ a q. SizesAt q.stripes.own x.made) phases actor p
-      (subst (λ o. SizesAt o x.made) (sym own) (holds.open_sizes actor)) holds.open_sizes;
+        (subst (λ o. SizesAt o x.made) (sym own) (holds.open_sizes actor)) holds.open_sizes;
     made_once = holds.made_once;
     made_all = holds.made_all;
     head_sizes = holds.head_sizes;
     named = holds.named;
     olds = put_actor_cases (λ a q. OldsAt a q.stripes.olds x.ledger) phases actor p
-      (subst (λ o. OldsAt actor o x.ledger) (sym olds) (holds.olds actor)) holds.olds;
+        (subst (λ o. OldsAt actor o x.ledger) (sym olds) (holds.olds actor)) holds.olds;
     seen_sizes = put_actor_cases (λ a q. SizedAll (count + 1) x.made q.stripes.seen) phases actor p seen
-      (λ a. sized_more count (count + 1) x.made x.made (omega arith) (λ z m is. is) (phases a).stripes.seen (holds.seen_sizes a));
+        (λ a. sized_more count (count + 1) x.made x.made (omega arith) (λ z m is. is) (phases a).stripes.seen (holds.seen_sizes a));
   }
 
 -- ---- a tail is made
@@ -93,6 +89,13 @@ at_least low n is = grind (arith, nat_tests)
 
 module _ (heads : ℕ → Key → Head) (count clock : ℕ) (phases : ActorId → Phase) (x : StripeFacts) (actor : ActorId) (holds : StripesHold heads count phases x)
     (zone write part : ℕ) (bytes : List ℕ) (stripe : ℕ) where
+  pub may_make : is_own_write (phases actor) zone write ≡ true → is_next_part ((phases actor).stripes.own zone write write) part ≡ true → IsFresh ((phases actor).stripes.own zone write write) (x.ledger zone write write) actor part
+  may_make mine next =
+      let by_me = write_own x.by count actor (phases actor) zone write (holds.ids actor) mine in
+      fresh_part ((phases actor).stripes.own zone write write) (x.ledger zone write write) actor part next
+      (λ none. holds.makers zone write write (subst (λ a. (phases a).stripes.own zone write write ≡ unused) (sym by_me.1) none))
+      (λ sizes is. holds.open_bundles actor zone write write sizes is)
+
   pub tail_made_holds : is_own_write (phases actor) zone write ≡ true → is_next_part ((phases actor).stripes.own zone write write) part ≡ true → is_between 1 stripe (length bytes) ≡ true
       → StripesHold heads (count + 1) (put_actor phases actor (learnt (phases actor) (TailMake zone write part bytes) Done (count + 1) clock)) (stripes_after x actor (TailMake zone write part bytes) Done (count + 1))
   tail_made_holds mine next full =
@@ -100,11 +103,9 @@ module _ (heads : ℕ → Key → Head) (count clock : ℕ) (phases : ActorId �
       let own = p.stripes.own in
       let q = learnt p (TailMake zone write part bytes) Done (count + 1) clock in
       let by_me = write_own x.by count actor p zone write (holds.ids actor) mine in
-      let fresh = fresh_part (own zone write write) (x.ledger zone write write) actor part next
-        (λ none. holds.makers zone write write (subst (λ a. (phases a).stripes.own zone write write ≡ unused) (sym by_me.1) none))
-        (λ sizes is. holds.open_bundles actor zone write write sizes is) in
+      let fresh = may_make mine next in
       let used : with_part (own zone write write) (length bytes) ≡ unused → ⊥ = λ none.
-          (let bad = sym (fresh.grown (length bytes)) ∙ none in cc) in
+      (let bad = sym (fresh.grown (length bytes)) ∙ none in cc) in
       let unmade = making_lemmas.unmade x.ledger x.made own actor zone write part bytes fresh holds.made_once in
       let stays = making_lemmas.sizes_stay x.ledger x.made own actor zone write part bytes fresh unmade in
       let place = making_lemmas.kept_place x.ledger x.made own actor zone write part bytes fresh in
@@ -114,37 +115,37 @@ module _ (heads : ℕ → Key → Head) (count clock : ℕ) (phases : ActorId �
       let sized : (z : ℕ) (m : ManifestView) → IsSized x.made z m → IsSized made' z m = λ z m is k low high. stays z m.write k (part_size m k) (is k low high) in
       record {
         ids = ids_next x.by count actor phases q holds.ids
-          (own_knows x.by count actor clock p.first p.stripes.reads own own' (holds.ids actor)
-          (put_bundle_cases (λ z w h b. (b ≡ unused) ⊎ IsBy x.by count actor h) own zone write write (with_part (own zone write write) (length bytes)) (inr by_me) (holds.ids actor).holders_are));
+            (own_knows x.by count actor clock p.first p.stripes.reads own own' (holds.ids actor)
+            (put_bundle_cases (λ z w h b. (b ≡ unused) ⊎ IsBy x.by count actor h) own zone write write (with_part (own zone write write) (length bytes)) (inr by_me) (holds.ids actor).holders_are));
         makers = λ z w h none.
-          put_bundle_cases (λ z w h l. (put_actor phases actor q (put x.by (count + 1) actor h)).stripes.own z w h ≡ unused → l ≡ no_ledger) x.ledger zone write write (counted_part (x.ledger zone write write) actor part)
-          (λ none.
-          let at : (put_actor phases actor q (put x.by (count + 1) actor write)).stripes.own zone write write ≡ with_part (own zone write write) (length bytes) =
-          ap (λ a. (put_actor phases actor q a).stripes.own zone write write) (by_before x.by count write actor by_me.0 ∙ by_me.1)
-          ∙ ap (λ (r : Phase). r.stripes.own zone write write) (put_actor_here phases actor q)
-          ∙ put_bundle_here own zone write write (with_part (own zone write write) (length bytes)) in
-          absurd (used (sym at ∙ none)))
-          (makers_before x.by count actor phases (put_actor phases actor q) x.ledger holds.ids holds.makers
-          (put_actor_cases (λ a q. (z w h : ℕ) → q.stripes.own z w h ≡ unused → (phases a).stripes.own z w h ≡ unused) phases actor q
-          (put_bundle_cases (λ z w h b. b ≡ unused → own z w h ≡ unused) own zone write write (with_part (own zone write write) (length bytes)) (λ none. absurd (used none)) (λ z w h is. is)) (λ a z w h is. is)))
-          z w h none;
+            put_bundle_cases (λ z w h l. (put_actor phases actor q (put x.by (count + 1) actor h)).stripes.own z w h ≡ unused → l ≡ no_ledger) x.ledger zone write write (counted_part (x.ledger zone write write) actor part)
+            (λ none.
+            let at : (put_actor phases actor q (put x.by (count + 1) actor write)).stripes.own zone write write ≡ with_part (own zone write write) (length bytes) =
+            ap (λ a. (put_actor phases actor q a).stripes.own zone write write) (by_before x.by count write actor by_me.0 ∙ by_me.1)
+            ∙ ap (λ (r : Phase). r.stripes.own zone write write) (put_actor_here phases actor q)
+            ∙ put_bundle_here own zone write write (with_part (own zone write write) (length bytes)) in
+            absurd (used (sym at ∙ none)))
+            (makers_before x.by count actor phases (put_actor phases actor q) x.ledger holds.ids holds.makers
+            (put_actor_cases (λ a q. (z w h : ℕ) → q.stripes.own z w h ≡ unused → (phases a).stripes.own z w h ≡ unused) phases actor q
+            (put_bundle_cases (λ z w h b. b ≡ unused → own z w h ≡ unused) own zone write write (with_part (own zone write write) (length bytes)) (λ none. absurd (used none)) (λ z w h is. is)) (λ a z w h is. is)))
+            z w h none;
         open_bundles = put_actor_apart (λ a q. OpenAt a q.stripes.own ledger') phases actor q
-          (making_lemmas.open_own x.ledger x.made own actor zone write part bytes fresh (holds.open_bundles actor))
-          (λ a other. making_lemmas.open_other x.ledger x.made own actor zone write part bytes fresh a (phases a).stripes.own other (holds.open_bundles a));
+            (making_lemmas.open_own x.ledger x.made own actor zone write part bytes fresh (holds.open_bundles actor))
+            (λ a other. making_lemmas.open_other x.ledger x.made own actor zone write part bytes fresh a (phases a).stripes.own other (holds.open_bundles a));
         open_sizes = put_actor_cases (λ a q. SizesAt q.stripes.own made') phases actor q
-          (making_lemmas.sizes_own x.ledger x.made own actor zone write part bytes fresh unmade (holds.open_sizes actor))
-          (λ a. making_lemmas.sizes_other x.ledger x.made own actor zone write part bytes fresh unmade (phases a).stripes.own (holds.open_sizes a));
+            (making_lemmas.sizes_own x.ledger x.made own actor zone write part bytes fresh unmade (holds.open_sizes actor))
+            (λ a. making_lemmas.sizes_other x.ledger x.made own actor zone write part bytes fresh unmade (phases a).stripes.own (holds.open_sizes a));
         made_once = making_lemmas.made_once_next x.ledger x.made own actor zone write part bytes fresh (at_least 1 (length bytes) (left_of (nat_le 1 (length bytes)) (nat_le (length bytes) stripe) full)) holds.made_once;
         made_all = making_lemmas.made_all_next x.ledger x.made own actor zone write part bytes fresh holds.made_all;
         head_sizes = λ z k. if_live_more (λ new. (length new.first ≡ part_size new.manifest 0) × IsSized x.made z new.manifest) (λ new. (length new.first ≡ part_size new.manifest 0) × IsSized made' z new.manifest) (heads z k).slot (λ new is. (is.0, sized z new.manifest is.1)) (holds.head_sizes z k);
         named = λ z c n. if_live_more (λ new. 1 ≤ tails_of new.manifest → x.ledger z new.manifest.write (holder_of new.manifest) ≡ record { count = tails_of new.manifest; place = in_head c n }) (λ new. 1 ≤ tails_of new.manifest → ledger' z new.manifest.write (holder_of new.manifest) ≡ record { count = tails_of new.manifest; place = in_head c n }) (heads z (head_key c n)).slot
-          (λ new is some. place (record { count = tails_of new.manifest; place = in_head c n }) (λ none. cc) (λ mine. cc) z new.manifest.write (holder_of new.manifest) (is some)) (holds.named z c n);
+            (λ new is some. place (record { count = tails_of new.manifest; place = in_head c n }) (λ none. cc) (λ mine. cc) z new.manifest.write (holder_of new.manifest) (is some)) (holds.named z c n);
         olds = put_actor_cases (λ a q. OldsAt a q.stripes.olds ledger') phases actor q
-          (making_lemmas.olds_kept x.ledger x.made own actor zone write part bytes fresh actor p.stripes.olds (holds.olds actor))
-          (λ a. making_lemmas.olds_kept x.ledger x.made own actor zone write part bytes fresh a (phases a).stripes.olds (holds.olds a));
+            (making_lemmas.olds_kept x.ledger x.made own actor zone write part bytes fresh actor p.stripes.olds (holds.olds actor))
+            (λ a. making_lemmas.olds_kept x.ledger x.made own actor zone write part bytes fresh a (phases a).stripes.olds (holds.olds a));
         seen_sizes = put_actor_cases (λ a q. SizedAll (count + 1) made' q.stripes.seen) phases actor q
-          (sized_more count (count + 1) x.made made' (omega arith) sized p.stripes.seen (holds.seen_sizes actor))
-          (λ a. sized_more count (count + 1) x.made made' (omega arith) sized (phases a).stripes.seen (holds.seen_sizes a));
+            (sized_more count (count + 1) x.made made' (omega arith) sized p.stripes.seen (holds.seen_sizes actor))
+            (λ a. sized_more count (count + 1) x.made made' (omega arith) sized (phases a).stripes.seen (holds.seen_sizes a));
       }
 
 -- ---- a head changes
@@ -194,33 +195,33 @@ module _ (heads : ℕ → Key → Head) (count clock : ℕ) (phases : ActorId �
       let mine = if_some_more (HasSizes own zone) (IsAllAt x.ledger zone (making actor)) (tailed m) (λ m has. all_made own zone m has x.ledger actor (holds.open_bundles actor)) has in
       let held = if_some_more (HasSizes own zone) (λ m. IsBy x.by count actor (holder_of m)) (tailed m) (λ m has. holder_own own zone m has x.by count actor (holds.ids actor).holders_are) has in
       let sized : IsSized x.made zone m = λ part low high.
-          all_sized own zone m (subst (λ o. IfSome o (HasSizes own zone)) (tailed_is m (omega (arith, low, high))) has) x.made (holds.open_sizes actor) part low high in
+      all_sized own zone m (subst (λ o. IfSome o (HasSizes own zone)) (tailed_is m (omega (arith, low, high))) has) x.made (holds.open_sizes actor) part low high in
       let after = writing_lemmas.after x.ledger actor zone container name old (tailed m) was mine in
       let same = own_spends own zone m in
       let counts = writing_lemmas.counts_same x.ledger actor zone container name old (tailed m) was mine in
       record {
         ids = ids_next x.by count actor phases q holds.ids
-          (own_knows x.by count actor clock p.first p.stripes.reads own q.stripes.own (holds.ids actor)
-          (subst (λ o. OwnHolders x.by count actor o) same (holders_stay x.by count actor own zone (tailed m) held (holds.ids actor).holders_are)));
+            (own_knows x.by count actor clock p.first p.stripes.reads own q.stripes.own (holds.ids actor)
+            (subst (λ o. OwnHolders x.by count actor o) same (holders_stay x.by count actor own zone (tailed m) held (holds.ids actor).holders_are)));
         makers = λ z w h none. writing_lemmas.makers_kept x.ledger actor zone container name old (tailed m) was mine z w h
-          (makers_before x.by count actor phases (put_actor phases actor q) x.ledger holds.ids holds.makers
-          (put_actor_cases (λ a q. (z w h : ℕ) → q.stripes.own z w h ≡ unused → (phases a).stripes.own z w h ≡ unused) phases actor q
-          (λ z w h none. fewer_unused own zone (tailed m) z w h (subst (λ o. o z w h ≡ unused) (sym same) none)) (λ a z w h is. is)) z w h none);
+            (makers_before x.by count actor phases (put_actor phases actor q) x.ledger holds.ids holds.makers
+            (put_actor_cases (λ a q. (z w h : ℕ) → q.stripes.own z w h ≡ unused → (phases a).stripes.own z w h ≡ unused) phases actor q
+            (λ z w h none. fewer_unused own zone (tailed m) z w h (subst (λ o. o z w h ≡ unused) (sym same) none)) (λ a z w h is. is)) z w h none);
         open_bundles = put_actor_apart (λ a q. OpenAt a q.stripes.own after) phases actor q
-          (subst (λ o. OpenAt actor o after) same (writing_lemmas.open_own x.ledger actor zone container name old (tailed m) was mine own (holds.open_bundles actor)))
-          (λ a other. writing_lemmas.open_other x.ledger actor zone container name old (tailed m) was mine a (phases a).stripes.own other (holds.open_bundles a));
+            (subst (λ o. OpenAt actor o after) same (writing_lemmas.open_own x.ledger actor zone container name old (tailed m) was mine own (holds.open_bundles actor)))
+            (λ a other. writing_lemmas.open_other x.ledger actor zone container name old (tailed m) was mine a (phases a).stripes.own other (holds.open_bundles a));
         open_sizes = put_actor_cases (λ a q. SizesAt q.stripes.own x.made) phases actor q
-          (subst (λ o. SizesAt o x.made) same (sizes_stay own x.made zone (tailed m) (holds.open_sizes actor))) holds.open_sizes;
+            (subst (λ o. SizesAt o x.made) same (sizes_stay own x.made zone (tailed m) (holds.open_sizes actor))) holds.open_sizes;
         made_once = λ z w p. subst (λ n. IfSome (x.made z w p) (λ bytes. (1 ≤ p) × ((p ≤ n) × (1 ≤ length bytes)))) (sym (counts z w w)) (holds.made_once z w p);
         made_all = λ z w p low high. holds.made_all z w p low (subst (λ n. p ≤ n) (counts z w w) high);
         head_sizes = head_sizes_next heads x.made zone (head_key container name) (count + 1) new (stamp_next head zone clock) first sized holds.head_sizes;
         named = writing_lemmas.named_next x.ledger actor zone container name old (tailed m) was mine heads (count + 1) new (stamp_next head zone clock) refl holds.named;
         olds = put_actor_cases (λ a q. OldsAt a q.stripes.olds after) phases actor q
-          (writing_lemmas.olds_own x.ledger actor zone container name old (tailed m) was mine p.stripes.olds (holds.olds actor))
-          (λ a. writing_lemmas.olds_other x.ledger actor zone container name old (tailed m) was mine a (phases a).stripes.olds (holds.olds a));
+            (writing_lemmas.olds_own x.ledger actor zone container name old (tailed m) was mine p.stripes.olds (holds.olds actor))
+            (λ a. writing_lemmas.olds_other x.ledger actor zone container name old (tailed m) was mine a (phases a).stripes.olds (holds.olds a));
         seen_sizes = put_actor_cases (λ a q. SizedAll (count + 1) x.made q.stripes.seen) phases actor q
-          (sized_more count (count + 1) x.made x.made (omega arith) (λ z m is. is) p.stripes.seen (holds.seen_sizes actor))
-          (λ a. sized_more count (count + 1) x.made x.made (omega arith) (λ z m is. is) (phases a).stripes.seen (holds.seen_sizes a));
+            (sized_more count (count + 1) x.made x.made (omega arith) (λ z m is. is) p.stripes.seen (holds.seen_sizes actor))
+            (λ a. sized_more count (count + 1) x.made x.made (omega arith) (λ z m is. is) (phases a).stripes.seen (holds.seen_sizes a));
       }
 
 -- ---- a head is read
@@ -287,8 +288,8 @@ module _ (settings : SettingsView) (st : State) (phases : ActorId → Phase) (x 
       subst (λ r. NextHolds st.heads op r) (sym is)
       (elim (tail_refusal bytes (st.free zone) settings.frame) as (λ r. NextHolds st.heads op (reply_or Done r)) [
         | None ↦ tail_made_holds st.heads st.count st.clock phases x actor holds zone write part bytes settings.stripe
-          (left_of (is_own_write p zone write) (is_next_part (p.stripes.own zone write write) part && is_between 1 settings.stripe (length bytes)) may)
-          (left_of (is_next_part (p.stripes.own zone write write) part) (is_between 1 settings.stripe (length bytes)) rest)
-          (right_of (is_next_part (p.stripes.own zone write write) part) (is_between 1 settings.stripe (length bytes)) rest)
+            (left_of (is_own_write p zone write) (is_next_part (p.stripes.own zone write write) part && is_between 1 settings.stripe (length bytes)) may)
+            (left_of (is_next_part (p.stripes.own zone write write) part) (is_between 1 settings.stripe (length bytes)) rest)
+            (right_of (is_next_part (p.stripes.own zone write write) part) (is_between 1 settings.stripe (length bytes)) rest)
         | Some why ↦ plain (learnt p op (No why) (number_next st) st.clock) refl refl
       ])

@@ -1,5 +1,5 @@
 -- One value changed, and the others as they were.
-use Rattle.std.proofs.Common.{◌≡◌, ℕ, ◌==◌, Bool, true, false, cond, refl, sym, ap, subst, ◌∙◌}
+use Rattle.std.proofs.Common.{◌≡◌, ℕ, ◌==◌, true, false, cond, refl, sym, subst, ◌∙◌}
 use Rattle.rgw_types.specs.declared.pool_key.Key.{Key}
 use Rattle.object_words.specs.Keys.{is_key, put, put_key}
 use Rattle.object_words.proofs.KeyLemmas.{same_key, key_itself, number_itself}

@@ -1,5 +1,5 @@
 -- A head changes: the bundle that it named goes to the actor, and the one that the actor made comes to the head.
-use Rattle.std.proofs.Common.{◌≡◌, ℕ, ◌+◌, ◌-◌, ◌<◌, ◌≤◌, ◌⊎◌, inl, inr, ◌==◌, Bool, true, false, cond, List, length, get_or, Option, Some, None, refl, sym, ◌∙◌, ap, subst, arith}
+use Rattle.std.proofs.Common.{◌≡◌, ℕ, ◌+◌, ◌-◌, ◌<◌, ◌≤◌, ◌⊎◌, inl, inr, ◌==◌, true, false, cond, List, length, get_or, Option, Some, None, refl, sym, ◌∙◌, ap, subst, arith}
 use Rattle.std.specs.Prelude.{IfSome}
 use Rattle.std.proofs.lemmas.Bool.Decides.{nat_tests}
 use Rattle.std.proofs.lemmas.List.FromFn.{get_or-map-range_with_len, length-map-range_with_len}
@@ -14,10 +14,10 @@ use Rattle.object_words.specs.declared.head.SeenSlot.TheVariants.{Nothing, Live,
 use Rattle.object_words.specs.Keys.{head_key}
 use Rattle.object_words.specs.Heads.{Head}
 use Rattle.realm_model.specs.States.{put_in}
-use Rattle.realm_model.specs.Phases.{ActorId, Bundle, unused, opened, spent, Phase}
+use Rattle.realm_model.specs.Phases.{ActorId, Bundle, unused, opened, spent}
 use Rattle.realm_model.specs.Needs.{tail_sizes, has_sizes, holder_of}
 use Rattle.realm_model.specs.Learnt.{put_bundle, with_old}
-use Rattle.realm_model.specs.Facts.{Place, nowhere, making, in_head, replaced, Ledger}
+use Rattle.realm_model.specs.Facts.{Place, making, in_head, replaced, Ledger}
 use Rattle.realm_model.specs.Maps.{Made}
 use Rattle.realm_model.specs.Worlds.{moved_to, tailed}
 use Rattle.realm_model.proofs.ObjectLemmas.{put_bundle_cases, put_in_cases}
@@ -137,7 +137,6 @@ module _ (own : ℕ → ℕ → ℕ → Bundle) (zone : ℕ) (m : ManifestView) 
 module _ (ledger : ℕ → ℕ → ℕ → Ledger) (actor : ActorId) (zone container : ℕ) (name : List ℕ) (old new : Option ManifestView)
     (was : IfSome old (λ m. (1 ≤ tails_of m) × IsAllAt ledger zone (in_head container name) m))
     (mine : IfSome new (IsAllAt ledger zone (making actor))) where
-
   abbrev before : ℕ → ℕ → ℕ → Ledger
   before = moved_to ledger zone old (replaced actor)
 

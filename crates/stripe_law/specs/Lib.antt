@@ -9,3 +9,4 @@ pub mod Olds
 pub mod Seen
 pub mod Tails
 pub mod Invariant
+pub mod Reading

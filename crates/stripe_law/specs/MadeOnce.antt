@@ -1,5 +1,5 @@
 -- The tails that were made of a write are its parts from 1 to the count, and each has bytes.
-use Rattle.std.specs.Prelude.{◌≡◌, ℕ, ◌≤◌, true, List, length, IfSome, is_some}
+use Rattle.std.specs.Prelude.{◌≡◌, ℕ, ◌≤◌, true, length, IfSome, is_some}
 use Rattle.realm_model.specs.Facts.{Ledger}
 use Rattle.realm_model.specs.Maps.{Made}
 

@@ -1,5 +1,5 @@
 -- The tails that exist are those that were made and counted, with the bytes of their making.
-use Rattle.std.specs.Prelude.{◌≡◌, ℕ, ◌≤◌, true, List, [], unwrap_or}
+use Rattle.std.specs.Prelude.{◌≡◌, ℕ, ◌≤◌, true, [], unwrap_or}
 use Rattle.rgw_types.specs.declared.pool_key.Key.{Key}
 use Rattle.object_words.specs.Keys.{tail_key}
 use Rattle.object_words.specs.Tails.{Tail, is_there}

@@ -3,4 +3,8 @@
 
 mod laws;
 
-pub use laws::stripes_and_frames_hold;
+pub use laws::{
+    a_stripe_has_one_head, allowed_reads_are_answered, an_object_is_its_parts,
+    answered_reads_show_the_slot, events_keep_what_holds, named_tails_exist,
+    stripes_and_frames_hold,
+};
