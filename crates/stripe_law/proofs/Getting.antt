@@ -1,14 +1,15 @@
 -- A range that was read piece by piece is that of the slot that the read of the head showed.
-use Rattle.std.proofs.Common.{◌≡◌, ℕ, zero, suc, ◌+◌, ◌<◌, ◌≤◌, ◌==◌, ◌&&◌, ◌||◌, ◌⊎◌, inl, inr, Bool, true, false, cond, List, [], ◌∷◌, ◌++◌, length, map, filter, take, drop, nat_le, Option, Some, None, refl, sym, ◌∙◌, ap, subst, arith, length-take, length-drop}
+use Rattle.std.proofs.Common.{◌≡◌, ℕ, zero, suc, ◌+◌, ◌≤◌, not, ◌==◌, ◌&&◌, ◌||◌, ◌⊎◌, inl, inr, Bool, true, false, cond, List, [], ◌∷◌, ◌++◌, length, map, filter, take, drop, nat_le, Option, Some, None, refl, sym, ◌∙◌, ap, subst, arith, length-take, length-drop}
 use Rattle.std.specs.Prelude.{unwrap_or, slice_index_or}
 use Rattle.std.specs.List.{AllByRecursion, AllZip, concat, list_any, range_with_len}
 use Rattle.std.proofs.lemmas.Bool.Decides.{nat_tests}
+use Rattle.std.proofs.lemmas.List.{nil_from_length}
 use Rattle.std.proofs.lemmas.List.FromFn.{get_or-map-range_with_len}
 use Rattle.rgw_types.specs.declared.stamp.Stamp.{Stamp}
 use Rattle.rgw_types.specs.Stripes.{ManifestView, tails_of}
 use Rattle.manifest.specs.declared.parts.Part.{Part}
 use Rattle.manifest.specs.Ranges.{part_size, piece_at, has_bytes, parts_of, piece_bytes, bytes_along}
-use Rattle.manifest.proofs.CoverLemmas.{covered}
+use Rattle.manifest.proofs.CoverLemmas.{covered, nothing_covered}
 use Rattle.object_words.specs.declared.head.HeadSeen.{HeadSeen}
 use Rattle.object_words.specs.declared.head.NewHead.{NewHead}
 use Rattle.object_words.specs.declared.head.SeenSlot.TheVariants.{Live}
@@ -40,7 +41,7 @@ use Rattle.stripe_law.specs.Tails.{Bytes}
 use Rattle.stripe_law.specs.Reading.{IsPiece}
 use Rattle.stripe_law.proofs.Keeping.{stripes_hold, is_there_of}
 use Rattle.stripe_law.proofs.Made.{made_stays}
-use Rattle.stripe_law.proofs.Storing.{between_is, live_sized, slot_shown, made_bytes, made_contents, made_are_contents, made_whole}
+use Rattle.stripe_law.proofs.Storing.{between_is, has_stripes, live_sized, slot_shown, made_bytes, made_contents, made_are_contents, made_whole}
 
 -- ---- the parts of an object
 
@@ -62,6 +63,26 @@ parts_low m from count a (suc k) low =
       | true ↦ (omega (arith, low), rest)
       | false ↦ rest
     ]
+
+-- ---- an object without bytes
+
+parts_nothing : (m : ManifestView) → m.size ≡ 0 → (from count a k : ℕ) → filter has_bytes (map (piece_at m from count) (range_with_len a k)) ≡ []
+parts_nothing m none from count a zero = refl
+parts_nothing m none from count a (suc k) =
+    let empty : (piece_at m from count a).count ≡ 0 = omega (arith, none) in
+    let later = filter has_bytes (map (piece_at m from count) (range_with_len (a + 1) k)) in
+    ap (λ n. cond (not (n == 0)) (piece_at m from count a ∷ later) later) empty ∙ parts_nothing m none from count (a + 1) k
+
+no_answers : (P : Part → List ℕ → Type 0) (answers : List (List ℕ)) → AllZip P [] answers → concat answers ≡ []
+no_answers P [] zip = refl
+no_answers P (b ∷ bs) zip = absurd zip
+
+no_bytes : (bytes : List ℕ) (from count : ℕ) → bytes ≡ [] → take count (drop from bytes) ≡ []
+no_bytes bytes from count none =
+    let one = length-take count (drop from bytes) in
+    let two = length-drop from bytes in
+    let empty = ap length none in
+    nil_from_length (take count (drop from bytes)) (omega (arith, one, two, empty))
 
 -- ---- one answer
 
@@ -122,7 +143,7 @@ module _ (settings : SettingsView) (before later : List Event) (read : Event) (l
         told ∙ ap (λ b. take count (drop from b)) same
 
     -- a piece of the head, or of a tail
-    piece_is : (p : Part) (bytes : List ℕ) → p.part ≤ tails_of new.manifest → IsPiece later (actor_of read) zone new p bytes → bytes ≡ piece_bytes (made_contents (world_of settings before).stripes.made zone new) p
+    piece_is : (p : Part) (bytes : List ℕ) → p.part ≤ tails_of new.manifest → IsPiece later zone new p bytes → bytes ≡ piece_bytes (made_contents (world_of settings before).stripes.made zone new) p
     piece_is p bytes high piece =
         let f = made_bytes (world_of settings before).stripes.made zone new.manifest.write in
         elim (p.part == 0) as (λ b. (p.part == 0) ≡ b → bytes ≡ piece_bytes (made_contents (world_of settings before).stripes.made zone new) p) [
@@ -136,7 +157,7 @@ module _ (settings : SettingsView) (before later : List Event) (read : Event) (l
               ∙ ap (λ b. take p.count (drop p.start b)) (sym (part_at new.first f (tails_of new.manifest) p.part low high))
         ] refl
 
-    pieces_are : (ps : List Part) (answers : List (List ℕ)) → AllByRecursion (λ (p : Part). p.part ≤ tails_of new.manifest) ps → AllZip (IsPiece later (actor_of read) zone new) ps answers
+    pieces_are : (ps : List Part) (answers : List (List ℕ)) → AllByRecursion (λ (p : Part). p.part ≤ tails_of new.manifest) ps → AllZip (IsPiece later zone new) ps answers
         → concat answers ≡ bytes_along (made_contents (world_of settings before).stripes.made zone new) ps
     pieces_are [] [] high pieces = refl
     pieces_are [] (b ∷ bs) high pieces = absurd pieces
@@ -146,14 +167,22 @@ module _ (settings : SettingsView) (before later : List Event) (read : Event) (l
         let rest = pieces_are ps bs high.1 pieces.1 in
         λ i. here i ++ rest i
 
-    pub range_is : 0 < new.manifest.stripe → (from count : ℕ) (answers : List (List ℕ)) → AllZip (IsPiece later (actor_of read) zone new) (parts_of new.manifest from count) answers
+    pub range_is : (from count : ℕ) (answers : List (List ℕ)) → AllZip (IsPiece later zone new) (parts_of new.manifest from count) answers
         → concat answers ≡ take count (drop from (whole_bytes (world_of settings before).stripes.made zone new))
-    range_is some from count answers pieces =
+    range_is from count answers pieces =
         let m = new.manifest in
         let made = (world_of settings before).stripes.made in
-        pieces_are (parts_of m from count) answers (parts_low m from count 0 (tails_of m + 1) (omega arith)) pieces
-        ∙ covered m from count some (made_contents made zone new) (made_are_contents made zone new sizes.0 sizes.1)
-        ∙ ap (λ b. take count (drop from b)) (made_whole made zone new)
+        let once = (stripes_hold settings before front).made_once in
+        let are = made_are_contents made zone new sizes.0 sizes.1 in
+        elim (has_stripes made (world_of settings before).stripes.ledger zone m once sizes.1) [
+          | inl some ↦
+              pieces_are (parts_of m from count) answers (parts_low m from count 0 (tails_of m + 1) (omega arith)) pieces
+              ∙ covered m from count some (made_contents made zone new) are
+              ∙ ap (λ b. take count (drop from b)) (made_whole made zone new)
+          | inr none ↦
+              no_answers (IsPiece later zone new) answers (subst (λ ps. AllZip (IsPiece later zone new) ps answers) (parts_nothing m none from count 0 (tails_of m + 1)) pieces)
+              ∙ sym (no_bytes (whole_bytes made zone new) from count (sym (made_whole made zone new) ∙ nothing_covered m none (made_contents made zone new) are))
+        ]
 
 -- ---- what may be read is there
 

@@ -66,7 +66,7 @@ kept_where : (made : Option (List ℕ)) (part count : ℕ) → IfSome made (λ b
 kept_where None part count is there = let bad = there_is [] there in absurd (omega (arith, bad))
 kept_where (Some b) part count is there = (is.0, is.1.0)
 
-there_where : (made : Option (List ℕ)) (part count : ℕ) → IfSome made (λ b. (1 ≤ part) × ((part ≤ count) × (1 ≤ length b))) → is_some made ≡ true → is_there (record { bytes = unwrap_or made [] }) ≡ true
+pub there_where : (made : Option (List ℕ)) (part count : ℕ) → IfSome made (λ b. (1 ≤ part) × ((part ≤ count) × (1 ≤ length b))) → is_some made ≡ true → is_there (record { bytes = unwrap_or made [] }) ≡ true
 there_where None part count is some = cc
 there_where (Some b) part count is some = is_there_of b is.1.1
 

@@ -66,8 +66,15 @@ under : (i n : ℕ) → (i == n) ≡ false → i < n + 1 → i < n
 under i n apart low = grind (arith, nat_tests)
 
 module _ (ledger : ℕ → ℕ → ℕ → Ledger) (made : Made) (own : ℕ → ℕ → ℕ → Bundle) (actor : ActorId) (zone write part : ℕ) (bytes : List ℕ) (fresh : IsFresh (own zone write write) (ledger zone write write) actor part) where
+  -- the ledger, and what was made, with the tail
+  abbrev after : ℕ → ℕ → ℕ → Ledger
+  after = put_bundle ledger zone write write (counted_part (ledger zone write write) actor part)
+
+  abbrev now_made : Made
+  now_made = put_bundle made zone write part (Some bytes)
+
   -- another place is not that of the bundle
-  pub kept_place : (l : Ledger) → (l.place ≡ nowhere → ⊥) → (l.place ≡ making actor → ⊥) → (z w h : ℕ) → ledger z w h ≡ l → put_bundle ledger zone write write (counted_part (ledger zone write write) actor part) z w h ≡ l
+  pub kept_place : (l : Ledger) → (l.place ≡ nowhere → ⊥) → (l.place ≡ making actor → ⊥) → (z w h : ℕ) → ledger z w h ≡ l → after z w h ≡ l
   kept_place l apart other =
       put_bundle_cases (λ z w h x. ledger z w h ≡ l → x ≡ l) ledger zone write write (counted_part (ledger zone write write) actor part)
       (λ was. let place = ap (λ (x : Ledger). x.place) was in absurd (elim (fresh.at_maker) [
@@ -76,7 +83,7 @@ module _ (ledger : ℕ → ℕ → ℕ → Ledger) (made : Made) (own : ℕ → 
       ]))
       (λ z w h is. is)
 
-  counts_rise : (z w h : ℕ) → (ledger z w h).count ≤ (put_bundle ledger zone write write (counted_part (ledger zone write write) actor part) z w h).count
+  counts_rise : (z w h : ℕ) → (ledger z w h).count ≤ (after z w h).count
   counts_rise =
       put_bundle_cases (λ z w h x. (ledger z w h).count ≤ x.count) ledger zone write write (counted_part (ledger zone write write) actor part)
       (let is = ap (λ (x : Ledger). x.count) (counted_is (own zone write write) (ledger zone write write) actor part fresh) in
@@ -97,39 +104,39 @@ module _ (ledger : ℕ → ℕ → ℕ → Ledger) (made : Made) (own : ℕ → 
             absurd (omega (arith, one, two, three))
       ] (once zone write part)
 
-  pub sizes_stay : made zone write part ≡ None → (z w p size : ℕ) → IsOfSize (made z w p) size → IsOfSize (put_bundle made zone write part (Some bytes) z w p) size
+  pub sizes_stay : made zone write part ≡ None → (z w p size : ℕ) → IsOfSize (made z w p) size → IsOfSize (now_made z w p) size
   sizes_stay none z w p size =
       put_bundle_cases (λ z w p o. IsOfSize (made z w p) size → IsOfSize o size) made zone write part (Some bytes)
       (λ was. absurd (subst (λ o. IsOfSize o size) none was)) (λ z w p is. is) z w p
 
-  pub made_once_next : 1 ≤ length bytes → MadeOnce made ledger → MadeOnce (put_bundle made zone write part (Some bytes)) (put_bundle ledger zone write write (counted_part (ledger zone write write) actor part))
+  pub made_once_next : 1 ≤ length bytes → MadeOnce made ledger → MadeOnce now_made after
   made_once_next some once =
-      put_bundle_cases (λ z w p o. IfSome o (λ b. (1 ≤ p) × ((p ≤ (put_bundle ledger zone write write (counted_part (ledger zone write write) actor part) z w w).count) × (1 ≤ length b)))) made zone write part (Some bytes)
+      put_bundle_cases (λ z w p o. IfSome o (λ b. (1 ≤ p) × ((p ≤ (after z w w).count) × (1 ≤ length b)))) made zone write part (Some bytes)
       (let here = ap (λ (x : Ledger). x.count) (put_bundle_here ledger zone write write (counted_part (ledger zone write write) actor part) ∙ counted_is (own zone write write) (ledger zone write write) actor part fresh) in
       let two = fresh.next in
       (omega (arith, two), (omega (arith, here), some)))
-      (λ z w p. if_some_more (λ (b : List ℕ). (1 ≤ p) × ((p ≤ (ledger z w w).count) × (1 ≤ length b))) (λ b. (1 ≤ p) × ((p ≤ (put_bundle ledger zone write write (counted_part (ledger zone write write) actor part) z w w).count) × (1 ≤ length b))) (made z w p)
+      (λ z w p. if_some_more (λ (b : List ℕ). (1 ≤ p) × ((p ≤ (ledger z w w).count) × (1 ≤ length b))) (λ b. (1 ≤ p) × ((p ≤ (after z w w).count) × (1 ≤ length b))) (made z w p)
       (λ b is. let more = counts_rise z w w in let low = is.1.0 in (is.0, (omega (arith, more, low), is.1.1))) (once z w p))
 
-  still_made : (z w p : ℕ) → is_some (made z w p) ≡ true → is_some (put_bundle made zone write part (Some bytes) z w p) ≡ true
+  still_made : (z w p : ℕ) → is_some (made z w p) ≡ true → is_some (now_made z w p) ≡ true
   still_made = put_bundle_cases (λ z w p o. is_some (made z w p) ≡ true → is_some o ≡ true) made zone write part (Some bytes) (λ was. refl) (λ z w p is. is)
 
-  pub made_all_next : MadeAll made ledger → MadeAll (put_bundle made zone write part (Some bytes)) (put_bundle ledger zone write write (counted_part (ledger zone write write) actor part))
+  pub made_all_next : MadeAll made ledger → MadeAll now_made after
   made_all_next all z w p low =
-      put_bundle_cases (λ z w h x. h ≡ w → p ≤ x.count → is_some (put_bundle made zone write part (Some bytes) z w p) ≡ true) ledger zone write write (counted_part (ledger zone write write) actor part)
+      put_bundle_cases (λ z w h x. h ≡ w → p ≤ x.count → is_some (now_made z w p) ≡ true) ledger zone write write (counted_part (ledger zone write write) actor part)
       (λ same high.
       let is = ap (λ (x : Ledger). x.count) (counted_is (own zone write write) (ledger zone write write) actor part fresh) in
       let one = fresh.counted in
       let two = fresh.next in
-      elim (p == part) as (λ b. (p == part) ≡ b → is_some (put_bundle made zone write part (Some bytes) zone write p) ≡ true) [
-        | true ↦ λ at. subst (λ q. is_some (put_bundle made zone write part (Some bytes) zone write q) ≡ true) (sym (number_same p part at)) (ap is_some (put_bundle_here made zone write part (Some bytes)))
+      elim (p == part) as (λ b. (p == part) ≡ b → is_some (now_made zone write p) ≡ true) [
+        | true ↦ λ at. subst (λ q. is_some (now_made zone write q) ≡ true) (sym (number_same p part at)) (ap is_some (put_bundle_here made zone write part (Some bytes)))
         | false ↦ λ apart. still_made zone write p (all zone write p low (below p part (ledger zone write write).count apart (omega (arith, high, is)) (omega (arith, one, two))))
       ] refl)
       (λ z w h same high. still_made z w p (all z w p low (subst (λ q. p ≤ (ledger z w q).count) same high))) z w w refl
 
   -- ---- opens bundles
 
-  pub open_own : OpenAt actor own ledger → OpenAt actor (put_bundle own zone write write (with_part (own zone write write) (length bytes))) (put_bundle ledger zone write write (counted_part (ledger zone write write) actor part))
+  pub open_own : OpenAt actor own ledger → OpenAt actor (put_bundle own zone write write (with_part (own zone write write) (length bytes))) after
   open_own opens =
       put_bundle_both (λ z w h o x. (sizes : List ℕ) → o ≡ opened sizes → x ≡ record { count = length sizes; place = making actor }) own ledger zone write write (with_part (own zone write write) (length bytes)) (counted_part (ledger zone write write) actor part)
       (λ sizes is.
@@ -141,47 +148,47 @@ module _ (ledger : ℕ → ℕ → ℕ → Ledger) (made : Made) (own : ℕ → 
       counted_is (own zone write write) (ledger zone write write) actor part fresh ∙ (λ i. record { count = whole i; place = making actor }))
       (λ z w h. opens z w h)
 
-  pub open_other : (a : ActorId) (theirs : ℕ → ℕ → ℕ → Bundle) → (a ≡ actor → ⊥) → OpenAt a theirs ledger → OpenAt a theirs (put_bundle ledger zone write write (counted_part (ledger zone write write) actor part))
+  pub open_other : (a : ActorId) (theirs : ℕ → ℕ → ℕ → Bundle) → (a ≡ actor → ⊥) → OpenAt a theirs ledger → OpenAt a theirs after
   open_other a theirs other opens z w h sizes is =
       kept_place (record { count = length sizes; place = making a }) (λ none. cc) (λ same. other cc) z w h (opens z w h sizes is)
 
-  pub sizes_own : made zone write part ≡ None → SizesAt own made → SizesAt (put_bundle own zone write write (with_part (own zone write write) (length bytes))) (put_bundle made zone write part (Some bytes))
+  pub sizes_own : made zone write part ≡ None → SizesAt own made → SizesAt (put_bundle own zone write write (with_part (own zone write write) (length bytes))) now_made
   sizes_own none sizes_are =
-      put_bundle_cases (λ z w h o. (sizes : List ℕ) → o ≡ opened sizes → (i : ℕ) → i < length sizes → IsOfSize (put_bundle made zone write part (Some bytes) z w (i + 1)) (get_or sizes i 0)) own zone write write (with_part (own zone write write) (length bytes))
+      put_bundle_cases (λ z w h o. (sizes : List ℕ) → o ≡ opened sizes → (i : ℕ) → i < length sizes → IsOfSize (now_made z w (i + 1)) (get_or sizes i 0)) own zone write write (with_part (own zone write write) (length bytes))
       (λ sizes is i low.
       let same : opened (fresh.sizes ++ length bytes ∷ []) ≡ opened sizes = sym (fresh.grown (length bytes)) ∙ is in
       let list : fresh.sizes ++ length bytes ∷ [] ≡ sizes = cc in
-      subst (λ s. IsOfSize (put_bundle made zone write part (Some bytes) zone write (i + 1)) (get_or s i 0)) list
+      subst (λ s. IsOfSize (now_made zone write (i + 1)) (get_or s i 0)) list
       (at_size i (subst (λ s. i < length s) (sym list) low)))
       (λ z w h sizes is i low. sizes_stay none z w (i + 1) (get_or sizes i 0) (sizes_are z w h sizes is i low))
     where
-      at_size : (i : ℕ) → i < length (fresh.sizes ++ length bytes ∷ []) → IsOfSize (put_bundle made zone write part (Some bytes) zone write (i + 1)) (get_or (fresh.sizes ++ length bytes ∷ []) i 0)
+      at_size : (i : ℕ) → i < length (fresh.sizes ++ length bytes ∷ []) → IsOfSize (now_made zone write (i + 1)) (get_or (fresh.sizes ++ length bytes ∷ []) i 0)
       at_size i low =
-          elim (i == length fresh.sizes) as (λ b. (i == length fresh.sizes) ≡ b → IsOfSize (put_bundle made zone write part (Some bytes) zone write (i + 1)) (get_or (fresh.sizes ++ length bytes ∷ []) i 0)) [
+          elim (i == length fresh.sizes) as (λ b. (i == length fresh.sizes) ≡ b → IsOfSize (now_made zone write (i + 1)) (get_or (fresh.sizes ++ length bytes ∷ []) i 0)) [
             | true ↦ λ at.
                 let is = number_same i (length fresh.sizes) at in
                 let place : i ≡ length fresh.sizes + 0 = omega (arith, is) in
                 let two = fresh.next in
                 let number : part ≡ i + 1 = omega (arith, place, two) in
                 let size : length bytes ≡ get_or (fresh.sizes ++ length bytes ∷ []) i 0 = sym (ap (λ n. get_or (fresh.sizes ++ length bytes ∷ []) n 0) place ∙ get_or-append-add fresh.sizes (length bytes ∷ []) 0 0) in
-                subst (λ q. IsOfSize (put_bundle made zone write part (Some bytes) zone write q) (get_or (fresh.sizes ++ length bytes ∷ []) i 0)) number
+                subst (λ q. IsOfSize (now_made zone write q) (get_or (fresh.sizes ++ length bytes ∷ []) i 0)) number
                 (subst (λ o. IsOfSize o (get_or (fresh.sizes ++ length bytes ∷ []) i 0)) (sym (put_bundle_here made zone write part (Some bytes))) size)
             | false ↦ λ apart.
                 let more = length-append fresh.sizes (length bytes ∷ []) in
                 let lower : i < length fresh.sizes = under i (length fresh.sizes) apart (omega (arith, low, more)) in
-                subst (λ size. IsOfSize (put_bundle made zone write part (Some bytes) zone write (i + 1)) size) (sym (get_or_append_left fresh.sizes (length bytes ∷ []) 0 i lower))
+                subst (λ size. IsOfSize (now_made zone write (i + 1)) size) (sym (get_or_append_left fresh.sizes (length bytes ∷ []) 0 i lower))
                 (sizes_stay none zone write (i + 1) (get_or fresh.sizes i 0) (elim (fresh.was) [
                   | inl empty ↦ absurd (omega (arith, lower, ap length empty))
                   | inr is ↦ sizes_are zone write write fresh.sizes is i lower
                 ]))
           ] refl
 
-  pub sizes_other : made zone write part ≡ None → (theirs : ℕ → ℕ → ℕ → Bundle) → SizesAt theirs made → SizesAt theirs (put_bundle made zone write part (Some bytes))
+  pub sizes_other : made zone write part ≡ None → (theirs : ℕ → ℕ → ℕ → Bundle) → SizesAt theirs made → SizesAt theirs now_made
   sizes_other none theirs sizes_are z w h sizes is i low = sizes_stay none z w (i + 1) (get_or sizes i 0) (sizes_are z w h sizes is i low)
 
-  pub olds_kept : (a : ActorId) (olds : ℕ → ℕ → ℕ → Option ManifestView) → OldsAt a olds ledger → OldsAt a olds (put_bundle ledger zone write write (counted_part (ledger zone write write) actor part))
+  pub olds_kept : (a : ActorId) (olds : ℕ → ℕ → ℕ → Option ManifestView) → OldsAt a olds ledger → OldsAt a olds after
   olds_kept a olds are z w h =
-      if_some_more (λ (m : ManifestView). IsReplaced a w h m (ledger z w h)) (λ m. IsReplaced a w h m (put_bundle ledger zone write write (counted_part (ledger zone write write) actor part) z w h)) (olds z w h)
+      if_some_more (λ (m : ManifestView). IsReplaced a w h m (ledger z w h)) (λ m. IsReplaced a w h m (after z w h)) (olds z w h)
       (λ m is. record {
         of_write = is.of_write;
         of_holder = is.of_holder;

@@ -1,6 +1,7 @@
 -- What the tails of a live head are, and its bytes.
-use Rattle.std.proofs.Common.{◌≡◌, ℕ, zero, suc, ◌+◌, ◌<◌, ◌≤◌, ◌==◌, true, List, [], ◌∷◌, ◌++◌, length, map, flat_map, nat_le, Option, Some, None, refl, sym, ◌∙◌, ap, subst, arith, add-one}
-use Rattle.std.specs.Prelude.{IfSome, unwrap_or}
+use Rattle.std.proofs.Common.{◌≡◌, ℕ, zero, suc, ◌+◌, ◌-◌, ◌%◌, ◌<◌, ◌≤◌, ◌⊎◌, inl, inr, ◌==◌, true, false, List, [], ◌∷◌, ◌++◌, length, map, flat_map, nat_le, Option, Some, None, refl, sym, ◌∙◌, ap, subst, arith, add-one}
+use Rattle.std.specs.Prelude.{IfSome, is_some, unwrap_or}
+use Rattle.std.proofs.Math.Nat.{mod-zero}
 use Rattle.std.specs.List.{concat, range_with_len}
 use Rattle.std.proofs.lemmas.Bool.Decides.{nat_tests}
 use Rattle.rgw_types.specs.declared.pool_key.Key.{Key}
@@ -8,18 +9,18 @@ use Rattle.rgw_types.specs.declared.stamp.Stamp.{Stamp}
 use Rattle.rgw_types.specs.Stripes.{ManifestView, tails_of}
 use Rattle.rgw_model.specs.declared.slot.Slot.TheVariants as Slots
 use Rattle.manifest.specs.Ranges.{part_size, AreContents}
-use Rattle.manifest.proofs.CoverLemmas.{whole_length}
+use Rattle.manifest.proofs.CoverLemmas.{whole_length, nothing_covered}
 use Rattle.object_words.specs.declared.head.NewHead.{NewHead}
 use Rattle.object_words.specs.declared.head.SeenSlot.{SeenSlot}
 use Rattle.object_words.specs.declared.head.SeenSlot.TheVariants.{Nothing, Live, Mark}
 use Rattle.object_words.specs.Keys.{head_key, tail_key}
-use Rattle.object_words.specs.Tails.{Tail}
+use Rattle.object_words.specs.Tails.{Tail, is_there}
 use Rattle.realm_model.specs.Settings.{SettingsView}
 use Rattle.realm_model.specs.Needs.{is_between, holder_of}
 use Rattle.realm_model.specs.Facts.{Place, in_head, Ledger}
 use Rattle.realm_model.specs.Maps.{Made, heads, whole_bytes, whole_slot}
 use Rattle.realm_model.specs.Accounts.{slot_now}
-use Rattle.realm_model.specs.Stripes.{has_stripe}
+use Rattle.realm_model.specs.Stripes.{has_stripe, IsNamed}
 use Rattle.realm_model.specs.Histories.{world_of, state_of, Legal}
 use Rattle.realm_model.specs.declared.event.Event.{Event}
 use Rattle.realm_model.proofs.Computing.{left_of, right_of}
@@ -27,9 +28,10 @@ use Rattle.realm_model.proofs.ObjectLemmas.{number_same}
 use Rattle.realm_model.proofs.Agreeing.{heads_agree}
 use Rattle.realm_model.proofs.MadeOnce.{tails_agree}
 use Rattle.stripe_law.specs.Sizes.{IsOfSize, IsSized, IfLive}
+use Rattle.stripe_law.specs.MadeOnce.{MadeOnce}
 use Rattle.stripe_law.specs.Tails.{Bytes}
 use Rattle.stripe_law.specs.Reading.{IsStored, contents_at}
-use Rattle.stripe_law.proofs.Keeping.{stripes_hold}
+use Rattle.stripe_law.proofs.Keeping.{stripes_hold, there_where}
 use Rattle.stripe_law.proofs.Made.{has_making}
 
 -- ---- one tail
@@ -61,13 +63,37 @@ module _ (settings : SettingsView) (history : List Event) (legal : Legal setting
   named_stored zone container name new stamp is part low high =
       tail_stored zone new.manifest.write part (part_size new.manifest part) ((live_sized zone (head_key container name) new stamp is).1 part low high)
 
--- ---- one head
+-- ---- what is named is there
 
 pub between_is : (low high n : ℕ) → is_between low high n ≡ true → (low ≤ n) × (n ≤ high)
 between_is low high n is =
     let one = left_of (nat_le low n) (nat_le n high) is in
     let two = right_of (nat_le low n) (nat_le n high) is in
     (grind (arith, nat_tests), grind (arith, nat_tests))
+
+some_of : (o : Option (List ℕ)) (size : ℕ) → IsOfSize o size → is_some o ≡ true
+some_of None size none = absurd none
+some_of (Some b) size is = refl
+
+stripe_made : (made : Made) (zone write part : ℕ) (slot : SeenSlot) → IfLive slot (λ new. (length new.first ≡ part_size new.manifest 0) × IsSized made zone new.manifest) → has_stripe slot write part ≡ true → is_some (made zone write part) ≡ true
+stripe_made made zone write part Nothing is has = cc
+stripe_made made zone write part (Mark stamp) is has = cc
+stripe_made made zone write part (Live new stamp) is has =
+    let m = new.manifest in
+    let same = number_same m.write write (left_of (m.write == write) (is_between 1 (tails_of m) part) has) in
+    let range = between_is 1 (tails_of m) part (right_of (m.write == write) (is_between 1 (tails_of m) part) has) in
+    subst (λ w. is_some (made zone w part) ≡ true) same (some_of (made zone m.write part) (part_size m part) (is.1 part range.0 range.1))
+
+pub named_there : (settings : SettingsView) (history : List Event) → Legal settings history → (zone write part : ℕ) → IsNamed (state_of settings history) zone write part → is_there ((state_of settings history).tails zone (tail_key write part)) ≡ true
+named_there settings history legal zone write part named =
+    let w = world_of settings history in
+    let holds = stripes_hold settings history legal in
+    let key = head_key named.container named.name in
+    let some = stripe_made w.stripes.made zone write part (w.state.heads zone key).slot (holds.head_sizes zone key) named.has in
+    subst (λ b. is_there (record { bytes = b }) ≡ true) (sym (tails_agree settings history legal zone write part))
+    (there_where (w.stripes.made zone write part) part (w.stripes.ledger zone write write).count (holds.made_once zone write part) some)
+
+-- ---- one head
 
 place_of_stripe : (ledger : ℕ → ℕ → ℕ → Ledger) (zone write part : ℕ) (place : Place) (slot : SeenSlot) → IfLive slot (λ new. 1 ≤ tails_of new.manifest → ledger zone new.manifest.write (holder_of new.manifest) ≡ record { count = tails_of new.manifest; place = place })
     → has_stripe slot write part ≡ true → (ledger zone write write).place ≡ place
@@ -92,6 +118,32 @@ one_head settings history legal zone container other name another write part has
     let two = place_of_stripe w.stripes.ledger zone write part (in_head other another) (w.state.heads zone (head_key other another)).slot (named zone other another) both in
     let same : in_head container name ≡ in_head other another = sym one ∙ two in
     cc
+
+-- ---- stripes of no bytes
+
+tails_some : (m : ManifestView) → m.stripe ≡ 0 → 1 ≤ m.size → 1 ≤ tails_of m
+tails_some m empty some =
+    let rest : (m.size - m.stripe) % m.stripe ≡ m.size - m.stripe = ap (λ n. (m.size - m.stripe) % n) empty ∙ mod-zero (m.size - m.stripe) in
+    omega (arith, rest, empty, some)
+
+no_tail_of_nothing : (o : Option (List ℕ)) (part count size : ℕ) → IfSome o (λ b. (1 ≤ part) × ((part ≤ count) × (1 ≤ length b))) → IsOfSize o size → 1 ≤ size
+no_tail_of_nothing None part count size once none = absurd none
+no_tail_of_nothing (Some b) part count size once is = let some = once.1.1 in omega (arith, some, is)
+
+-- an object has stripes with bytes, or no bytes
+pub has_stripes : (made : Made) (ledger : ℕ → ℕ → ℕ → Ledger) (zone : ℕ) (m : ManifestView) → MadeOnce made ledger → IsSized made zone m → (0 < m.stripe) ⊎ (m.size ≡ 0)
+has_stripes made ledger zone m once sized =
+    elim (m.stripe == 0) as (λ b. (m.stripe == 0) ≡ b → (0 < m.stripe) ⊎ (m.size ≡ 0)) [
+      | false ↦ λ some. inl (grind (arith, nat_tests))
+      | true ↦ λ none. elim (m.size == 0) as (λ b. (m.size == 0) ≡ b → (0 < m.stripe) ⊎ (m.size ≡ 0)) [
+        | true ↦ λ empty. inr (number_same m.size 0 empty)
+        | false ↦ λ some.
+            let no_stripe = number_same m.stripe 0 none in
+            let filled : 1 ≤ m.size = grind (arith, nat_tests) in
+            let bytes = no_tail_of_nothing (made zone m.write 1) 1 (ledger zone m.write m.write).count (part_size m 1) (once zone m.write 1) (sized 1 (omega arith) (tails_some m no_stripe filled)) in
+            absurd (omega (arith, bytes, no_stripe))
+      ] refl
+    ] refl
 
 -- ---- all bytes
 
@@ -148,8 +200,15 @@ module _ (settings : SettingsView) (history : List Event) (legal : Legal setting
       let sizes = live_sized settings history legal zone (head_key container name) new stamp is in
       subst (λ c. AreContents new.manifest c) (sym same_contents) (made_are_contents (world_of settings history).stripes.made zone new sizes.0 sizes.1)
 
-  pub object_size : 0 < new.manifest.stripe → length (concat (contents_at (state_of settings history).tails zone new)) ≡ new.manifest.size
-  object_size some = whole_length new.manifest some (contents_at (state_of settings history).tails zone new) object_parts
+  pub object_size : length (concat (contents_at (state_of settings history).tails zone new)) ≡ new.manifest.size
+  object_size =
+      let w = world_of settings history in
+      let sizes = live_sized settings history legal zone (head_key container name) new stamp is in
+      let contents = contents_at w.state.tails zone new in
+      elim (has_stripes w.stripes.made w.stripes.ledger zone new.manifest (stripes_hold settings history legal).made_once sizes.1) [
+        | inl some ↦ whole_length new.manifest some contents object_parts
+        | inr none ↦ ap length (nothing_covered new.manifest none contents object_parts) ∙ sym none
+      ]
 
   pub slot_shown : slot_now (heads history) (world_of settings history).stripes.made zone container name ≡ whole_slot (world_of settings history).stripes.made zone (Live new stamp)
   slot_shown = ap (λ slot. whole_slot (world_of settings history).stripes.made zone slot) (heads_agree settings history legal zone container name ∙ is)

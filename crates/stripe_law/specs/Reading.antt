@@ -7,8 +7,6 @@ use Rattle.manifest.specs.declared.parts.Part.{Part}
 use Rattle.object_words.specs.declared.head.NewHead.{NewHead}
 use Rattle.object_words.specs.Keys.{tail_key}
 use Rattle.object_words.specs.Tails.{Tail}
-use Rattle.realm_model.specs.Phases.{ActorId}
-use Rattle.realm_model.specs.Worlds.{actor_of}
 use Rattle.realm_model.specs.declared.op.Op.TheVariants.{TailMake, TailRead}
 use Rattle.realm_model.specs.declared.event.Reply.TheVariants.{Done, Bytes}
 use Rattle.realm_model.specs.declared.event.Event.{Event}
@@ -36,17 +34,16 @@ contents_at tails zone new =
     new.first
     ∷ map (λ part. (tails zone (tail_key new.manifest.write part)).bytes) (range_with_len 1 (tails_of new.manifest))
 
--- one of these events is the actor's, reads the piece of a tail, and is answered these bytes
-pub record IsAnswered (later : List Event) (actor : ActorId) (zone write : ℕ) (p : Part) (bytes : List ℕ) : Type 0 where
+-- one of these events, whosever it is, reads the piece of a tail, and is answered these bytes
+pub record IsAnswered (later : List Event) (zone write : ℕ) (p : Part) (bytes : List ℕ) : Type 0 where
   pub earlier : List Event
   pub event : Event
   pub rest : List Event
   pub stands : later ≡ earlier ++ event ∷ rest
-  pub own : actor_of event ≡ actor
   pub op : event.op ≡ TailRead zone write p.part p.start p.count
   pub reply : event.reply ≡ Bytes bytes
 
 -- a piece of an object's bytes: of the head that was read, or of a tail that was read later
-pub record IsPiece (later : List Event) (actor : ActorId) (zone : ℕ) (new : NewHead) (p : Part) (bytes : List ℕ) : Type 0 where
+pub record IsPiece (later : List Event) (zone : ℕ) (new : NewHead) (p : Part) (bytes : List ℕ) : Type 0 where
   pub of_head : p.part ≡ 0 → bytes ≡ take p.count (drop p.start new.first)
-  pub of_tail : 1 ≤ p.part → IsAnswered later actor zone new.manifest.write p bytes
+  pub of_tail : 1 ≤ p.part → IsAnswered later zone new.manifest.write p bytes

@@ -1,5 +1,5 @@
 //! The functions here do nothing: each is a law of the definitions.
-ghost use Rattle.std.specs.Prelude.{◌≡◌, ℕ, ◌+◌, ◌<◌, ◌≤◌, List, [], ◌∷◌, ◌++◌, length, take, drop, true, unwrap_or};
+ghost use Rattle.std.specs.Prelude.{◌≡◌, ℕ, ◌≤◌, List, [], ◌∷◌, ◌++◌, length, take, drop, true, unwrap_or};
 ghost use Rattle.std.specs.List.{AllZip, concat};
 ghost use Rattle.rgw_types.specs.declared.stamp.Stamp.{Stamp as StampOf};
 ghost use Rattle.rgw_types.specs.Stripes.{tails_of};
@@ -9,12 +9,13 @@ ghost use Rattle.object_words.specs.declared.head.HeadSeen.{HeadSeen as HeadSeen
 ghost use Rattle.object_words.specs.declared.head.NewHead.{NewHead as NewHeadOf};
 ghost use Rattle.object_words.specs.declared.head.SeenSlot.TheVariants.{Live};
 ghost use Rattle.object_words.specs.Keys.{head_key, tail_key};
+ghost use Rattle.object_words.specs.Tails.{is_there};
 ghost use Rattle.realm_model.specs.Settings.{SettingsView};
 ghost use Rattle.realm_model.specs.Accounts.{slot_now};
 ghost use Rattle.realm_model.specs.Maps.{content_of, whole_bytes, heads};
-ghost use Rattle.realm_model.specs.Stripes.{has_stripe};
+ghost use Rattle.realm_model.specs.Stripes.{has_stripe, IsNamed};
 ghost use Rattle.realm_model.specs.Touches.{is_read};
-ghost use Rattle.realm_model.specs.Worlds.{World, actor_of, happens};
+ghost use Rattle.realm_model.specs.Worlds.{World, happens};
 ghost use Rattle.realm_model.specs.Histories.{world_of, state_of, IsNext, Legal};
 ghost use Rattle.realm_model.specs.declared.op.Op.TheVariants.{HeadRead, TailRead};
 ghost use Rattle.realm_model.specs.declared.event.Event.{Event as EventOf};
@@ -39,7 +40,10 @@ pub fn events_keep_what_holds()
 
 /// A tail that a live head names exists, with the bytes of its making, as many as the manifest says.
 pub fn named_tails_exist()
-    ensures { (settings : SettingsView) (history : List EventOf) → Legal settings history
+    ensures named { (settings : SettingsView) (history : List EventOf) → Legal settings history
+        → (zone write part : ℕ) → IsNamed (state_of settings history) zone write part
+        → is_there ((state_of settings history).tails zone (tail_key write part)) ≡ true }
+    ensures stored { (settings : SettingsView) (history : List EventOf) → Legal settings history
         → (zone container : ℕ) (name : List ℕ) (new : NewHeadOf) (stamp : StampOf)
         → ((state_of settings history).heads zone (head_key container name)).slot ≡ Live new stamp
         → (part : ℕ) → 1 ≤ part → part ≤ tails_of new.manifest
@@ -66,7 +70,6 @@ pub fn an_object_is_its_parts()
     ensures size { (settings : SettingsView) (history : List EventOf) → Legal settings history
         → (zone container : ℕ) (name : List ℕ) (new : NewHeadOf) (stamp : StampOf)
         → ((state_of settings history).heads zone (head_key container name)).slot ≡ Live new stamp
-        → 0 < new.manifest.stripe
         → length (concat (contents_at (state_of settings history).tails zone new)) ≡ new.manifest.size }
     ensures slot { (settings : SettingsView) (history : List EventOf) → Legal settings history
         → (zone container : ℕ) (name : List ℕ) (new : NewHeadOf) (stamp : StampOf)
@@ -104,9 +107,9 @@ pub fn answered_reads_show_the_slot()
         → Legal settings (before ++ read ∷ later)
         → (zone container : ℕ) (name : List ℕ) (seen : HeadSeenOf) (clock : ℕ) (new : NewHeadOf) (stamp : StampOf)
         → read.op ≡ HeadRead zone container name → read.reply ≡ head_reply seen clock
-        → seen.slot ≡ Live new stamp → 0 < new.manifest.stripe
+        → seen.slot ≡ Live new stamp
         → (start count : ℕ) (answers : List (List ℕ))
-        → AllZip (IsPiece later (actor_of read) zone new) (parts_of new.manifest start count) answers
+        → AllZip (IsPiece later zone new) (parts_of new.manifest start count) answers
         → concat answers ≡ take count (drop start
         (whole_bytes (world_of settings before).stripes.made zone new)) }
 {}
