@@ -10,3 +10,4 @@ pub mod Seen
 pub mod Tails
 pub mod Invariant
 pub mod Reading
+pub mod ReplacedMeanwhile

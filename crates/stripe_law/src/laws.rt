@@ -25,8 +25,8 @@ ghost use Rattle.stripe_law.specs.Reading.{IsStored, contents_at, IsPiece};
 
 /// In every legal history every part holds, after each of its events.
 pub fn stripes_and_frames_hold()
-    ensures { (settings : SettingsView) (history : List EventOf) → Legal settings history
-        → Holds settings (world_of settings history) }
+    ensures { (settings : SettingsView) (history : List EventOf)
+        → Legal settings history → Holds settings (world_of settings history) }
 {}
 
 /// An event that may come next keeps what holds of stripes, from any world; one that only reads keeps
@@ -107,8 +107,7 @@ pub fn answered_reads_show_the_slot()
         → Legal settings (before ++ read ∷ later)
         → (zone container : ℕ) (name : List ℕ) (seen : HeadSeenOf) (clock : ℕ) (new : NewHeadOf) (stamp : StampOf)
         → read.op ≡ HeadRead zone container name → read.reply ≡ head_reply seen clock
-        → seen.slot ≡ Live new stamp
-        → (start count : ℕ) (answers : List (List ℕ))
+        → seen.slot ≡ Live new stamp → (start count : ℕ) (answers : List (List ℕ))
         → AllZip (IsPiece later zone new) (parts_of new.manifest start count) answers
         → concat answers ≡ take count (drop start
         (whole_bytes (world_of settings before).stripes.made zone new)) }
