@@ -1,5 +1,5 @@
 -- A range that was read piece by piece is that of the slot that the read of the head showed.
-use Rattle.std.proofs.Common.{◌≡◌, ℕ, zero, suc, ◌+◌, ◌≤◌, not, ◌==◌, ◌&&◌, ◌||◌, ◌⊎◌, inl, inr, Bool, true, false, cond, List, [], ◌∷◌, ◌++◌, length, map, filter, take, drop, nat_le, Option, Some, None, refl, sym, ◌∙◌, ap, subst, arith, length-take, length-drop}
+use Rattle.std.proofs.Common.{◌≡◌, ℕ, zero, suc, ◌+◌, ◌≤◌, not, ◌==◌, ◌&&◌, inl, inr, true, false, cond, List, [], ◌∷◌, ◌++◌, length, map, filter, take, drop, nat_le, Option, Some, None, refl, sym, ◌∙◌, ap, subst, arith, length-take, length-drop}
 use Rattle.std.specs.Prelude.{unwrap_or, slice_index_or}
 use Rattle.std.specs.List.{AllByRecursion, AllZip, concat, list_any, range_with_len}
 use Rattle.std.proofs.lemmas.Bool.Decides.{nat_tests}
@@ -39,6 +39,7 @@ use Rattle.stripe_law.specs.Sizes.{IsOfSize, IsSized}
 use Rattle.stripe_law.specs.Seen.{SizedAll}
 use Rattle.stripe_law.specs.Tails.{Bytes}
 use Rattle.stripe_law.specs.Reading.{IsPiece}
+use Rattle.stripe_law.proofs.Knowing.{either_of, at_least}
 use Rattle.stripe_law.proofs.Keeping.{stripes_hold, is_there_of}
 use Rattle.stripe_law.proofs.Made.{made_stays}
 use Rattle.stripe_law.proofs.Storing.{between_is, has_stripes, live_sized, slot_shown, made_bytes, made_contents, made_are_contents, made_whole}
@@ -196,13 +197,6 @@ unfolding IsLong
 long_enough None size wanted less none = none
 long_enough (Some bytes) size wanted less is = omega (arith, less, is)
 
-either_of : (a b : Bool) → (a || b) ≡ true → (a ≡ true) ⊎ (b ≡ true)
-either_of true b is = inl refl
-either_of false b is = inr is
-
-at_most : (n high : ℕ) → nat_le n high ≡ true → n ≤ high
-at_most n high is = grind (arith, nat_tests)
-
 seen_long : (made : Made) (events zone write part from count : ℕ) (ss : List SeenManifest) → SizedAll events made ss
     → list_any (λ s. s.zone == zone && (s.manifest.write == write && (is_between 1 (tails_of s.manifest) part && nat_le (from + count) (part_size s.manifest part)))) ss ≡ true → IsLong (made zone write part) (from + count)
 seen_long made events zone write part from count [] sized any = cc
@@ -218,7 +212,7 @@ seen_long made events zone write part from count (s ∷ ss) sized any =
           let two = number_same m.write write (left_of (m.write == write) (in_part && in_range) rest) in
           let last = right_of (m.write == write) (in_part && in_range) rest in
           let range = between_is 1 (tails_of m) part (left_of in_part in_range last) in
-          let less = at_most (from + count) (part_size m part) (right_of in_part in_range last) in
+          let less = at_least (from + count) (part_size m part) (right_of in_part in_range last) in
           let long = long_enough (made s.zone m.write part) (part_size m part) (from + count) less (sized.0.1 part range.0 range.1) in
           subst (λ z. IsLong (made z write part) (from + count)) one (subst (λ w. IsLong (made s.zone w part) (from + count)) two long))
     ]
@@ -239,7 +233,7 @@ module _ (settings : SettingsView) (history : List Event) (e : Event) (legal : L
       let phase = w.phases (actor_of e) in
       let need = subst (λ o. meets_need settings phase o ≡ true) op (right_of (is_between 1 settings.zones (zone_of e.op)) (meets_need settings phase e.op) next.may) in
       let test = list_any (λ s. s.zone == zone && (s.manifest.write == write && (is_between 1 (tails_of s.manifest) part && nat_le (from + count) (part_size s.manifest part)))) phase.stripes.seen in
-      let some = at_most 1 count (left_of (nat_le 1 count) test need) in (
+      let some = at_least 1 count (left_of (nat_le 1 count) test need) in (
         some,
         long_is (w.stripes.made zone write part) (from + count)
             (seen_long w.stripes.made w.state.count zone write part from count phase.stripes.seen ((stripes_hold settings history ahead).seen_sizes (actor_of e)) (right_of (nat_le 1 count) test need)),

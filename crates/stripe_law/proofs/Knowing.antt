@@ -1,6 +1,7 @@
 -- What each actor knows of numbers: its own event more, and another's.
-use Rattle.std.proofs.Common.{◌≡◌, ℕ, ◌+◌, ◌==◌, ◌||◌, ◌⊎◌, inl, inr, not, Bool, true, false, cond, Option, Some, None, refl, ◌∙◌, subst, arith}
+use Rattle.std.proofs.Common.{nat_le, ◌≤◌, ◌≡◌, ℕ, ◌+◌, ◌==◌, ◌||◌, ◌⊎◌, inl, inr, not, Bool, true, false, cond, Option, Some, None, refl, ◌∙◌, subst, arith}
 use Rattle.std.specs.Prelude.{IfSome}
+use Rattle.std.proofs.lemmas.Bool.Decides.{nat_tests}
 use Rattle.object_words.specs.Keys.{put}
 use Rattle.realm_model.specs.Tests.{is_so}
 use Rattle.realm_model.specs.Phases.{ActorId, FirstEvent, Bundle, unused, Phase}
@@ -17,6 +18,9 @@ use Rattle.stripe_law.proofs.Puts.{put_actor_apart}
 pub if_some_more : {A : Type 0} (P Q : A → Type 0) (o : Option A) → ((x : A) → P x → Q x) → IfSome o P → IfSome o Q
 if_some_more P Q None more is = tt
 if_some_more P Q (Some x) more is = more x is
+
+pub at_least : (low n : ℕ) → nat_le low n ≡ true → low ≤ n
+at_least low n is = grind (arith, nat_tests)
 
 -- ---- one event more
 
@@ -98,7 +102,7 @@ read_own : (by : ℕ → ActorId) (count : ℕ) (actor : ActorId) (zone write : 
 read_own by count actor zone write None is same = cc
 read_own by count actor zone write (Some peer) is same = is
 
-either_of : (a b : Bool) → (a || b) ≡ true → (a ≡ true) ⊎ (b ≡ true)
+pub either_of : (a b : Bool) → (a || b) ≡ true → (a ≡ true) ⊎ (b ≡ true)
 either_of true b is = inl refl
 either_of false b is = inr is
 

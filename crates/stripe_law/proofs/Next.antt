@@ -41,7 +41,7 @@ use Rattle.stripe_law.specs.Olds.{OldsAt}
 use Rattle.stripe_law.specs.Seen.{SizedAll}
 use Rattle.stripe_law.specs.Invariant.{StripesHold}
 use Rattle.stripe_law.proofs.Puts.{put_actor_apart, put_bundle_here}
-use Rattle.stripe_law.proofs.Knowing.{if_some_more, ids_next, own_knows, read_knows, makers_before, write_own}
+use Rattle.stripe_law.proofs.Knowing.{at_least, if_some_more, ids_next, own_knows, read_knows, makers_before, write_own}
 use Rattle.stripe_law.proofs.Making as making_lemmas
 use Rattle.stripe_law.proofs.Making.{IsFresh, fresh_part}
 use Rattle.stripe_law.proofs.Writing as writing_lemmas
@@ -83,9 +83,6 @@ module _ (heads : ℕ → Key → Head) (count clock : ℕ) (phases : ActorId �
   }
 
 -- ---- a tail is made
-
-at_least : (low n : ℕ) → nat_le low n ≡ true → low ≤ n
-at_least low n is = grind (arith, nat_tests)
 
 module _ (heads : ℕ → Key → Head) (count clock : ℕ) (phases : ActorId → Phase) (x : StripeFacts) (actor : ActorId) (holds : StripesHold heads count phases x)
     (zone write part : ℕ) (bytes : List ℕ) (stripe : ℕ) where

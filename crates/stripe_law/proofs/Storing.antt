@@ -16,12 +16,13 @@ use Rattle.object_words.specs.declared.head.SeenSlot.TheVariants.{Nothing, Live,
 use Rattle.object_words.specs.Keys.{head_key, tail_key}
 use Rattle.object_words.specs.Tails.{Tail, is_there}
 use Rattle.realm_model.specs.Settings.{SettingsView}
+use Rattle.realm_model.specs.Phases.{ActorId, opened}
 use Rattle.realm_model.specs.Needs.{is_between, holder_of}
-use Rattle.realm_model.specs.Facts.{Place, in_head, Ledger}
+use Rattle.realm_model.specs.Facts.{Place, making, in_head, replaced, Ledger}
 use Rattle.realm_model.specs.Maps.{Made, heads, whole_bytes, whole_slot}
 use Rattle.realm_model.specs.Accounts.{slot_now}
 use Rattle.realm_model.specs.Stripes.{has_stripe, IsNamed}
-use Rattle.realm_model.specs.Histories.{world_of, state_of, Legal}
+use Rattle.realm_model.specs.Histories.{world_of, state_of, phase_of, Legal}
 use Rattle.realm_model.specs.declared.event.Event.{Event}
 use Rattle.realm_model.proofs.Computing.{left_of, right_of}
 use Rattle.realm_model.proofs.ObjectLemmas.{number_same}
@@ -29,8 +30,10 @@ use Rattle.realm_model.proofs.Agreeing.{heads_agree}
 use Rattle.realm_model.proofs.MadeOnce.{tails_agree}
 use Rattle.stripe_law.specs.Sizes.{IsOfSize, IsSized, IfLive}
 use Rattle.stripe_law.specs.MadeOnce.{MadeOnce}
+use Rattle.stripe_law.specs.Olds.{IsReplaced}
 use Rattle.stripe_law.specs.Tails.{Bytes}
 use Rattle.stripe_law.specs.Reading.{IsStored, contents_at}
+use Rattle.stripe_law.proofs.Knowing.{at_least}
 use Rattle.stripe_law.proofs.Keeping.{stripes_hold, there_where}
 use Rattle.stripe_law.proofs.Made.{has_making}
 
@@ -67,9 +70,7 @@ module _ (settings : SettingsView) (history : List Event) (legal : Legal setting
 
 pub between_is : (low high n : ℕ) → is_between low high n ≡ true → (low ≤ n) × (n ≤ high)
 between_is low high n is =
-    let one = left_of (nat_le low n) (nat_le n high) is in
-    let two = right_of (nat_le low n) (nat_le n high) is in
-    (grind (arith, nat_tests), grind (arith, nat_tests))
+    (at_least low n (left_of (nat_le low n) (nat_le n high) is), at_least n high (right_of (nat_le low n) (nat_le n high) is))
 
 some_of : (o : Option (List ℕ)) (size : ℕ) → IsOfSize o size → is_some o ≡ true
 some_of None size none = absurd none
@@ -107,17 +108,58 @@ place_of_stripe ledger zone write part place (Live new stamp) is has =
     let high = range.1 in
     subst (λ w. (ledger zone w w).place ≡ place) same (ap (λ (l : Ledger). l.place) (is (omega (arith, low, high))))
 
-pub one_head : (settings : SettingsView) (history : List Event) → Legal settings history → (zone container other : ℕ) (name another : List ℕ) (write part : ℕ)
-    → has_stripe ((state_of settings history).heads zone (head_key container name)).slot write part ≡ true
-    → has_stripe ((state_of settings history).heads zone (head_key other another)).slot write part ≡ true
-    → head_key container name ≡ head_key other another
-one_head settings history legal zone container other name another write part has both =
-    let w = world_of settings history in
-    let named = (stripes_hold settings history legal).named in
-    let one = place_of_stripe w.stripes.ledger zone write part (in_head container name) (w.state.heads zone (head_key container name)).slot (named zone container name) has in
-    let two = place_of_stripe w.stripes.ledger zone write part (in_head other another) (w.state.heads zone (head_key other another)).slot (named zone other another) both in
-    let same : in_head container name ≡ in_head other another = sym one ∙ two in
-    cc
+module _ (settings : SettingsView) (history : List Event) (legal : Legal settings history) where
+  ledger : ℕ → ℕ → ℕ → Ledger
+  ledger = (world_of settings history).stripes.ledger
+
+  head_place : (zone container write part : ℕ) (name : List ℕ) → has_stripe ((state_of settings history).heads zone (head_key container name)).slot write part ≡ true → (ledger zone write write).place ≡ in_head container name
+  unfolding ledger
+  head_place zone container write part name has =
+      place_of_stripe (world_of settings history).stripes.ledger zone write part (in_head container name) ((state_of settings history).heads zone (head_key container name)).slot
+      ((stripes_hold settings history legal).named zone container name) has
+
+  maker_place : (a : ActorId) (zone write holder : ℕ) (sizes : List ℕ) → (phase_of settings history a).stripes.own zone write holder ≡ opened sizes → (ledger zone write holder).place ≡ making a
+  unfolding ledger
+  maker_place a zone write holder sizes is = ap (λ (l : Ledger). l.place) ((stripes_hold settings history legal).open_bundles a zone write holder sizes is)
+
+  changer_place : (a : ActorId) (zone write holder : ℕ) (m : ManifestView) → (phase_of settings history a).stripes.olds zone write holder ≡ Some m → (ledger zone write holder).place ≡ replaced a
+  unfolding ledger
+  changer_place a zone write holder m is =
+      let old = subst (λ o. IfSome o (λ m. IsReplaced a write holder m ((world_of settings history).stripes.ledger zone write holder))) is ((stripes_hold settings history legal).olds a zone write holder) in
+      ap (λ (l : Ledger). l.place) old.place
+
+  pub one_head : (zone container other : ℕ) (name another : List ℕ) (write part : ℕ)
+      → has_stripe ((state_of settings history).heads zone (head_key container name)).slot write part ≡ true
+      → has_stripe ((state_of settings history).heads zone (head_key other another)).slot write part ≡ true
+      → head_key container name ≡ head_key other another
+  one_head zone container other name another write part has both =
+      let same : in_head container name ≡ in_head other another = sym (head_place zone container write part name has) ∙ head_place zone other write part another both in
+      cc
+
+  pub one_maker : (a b : ActorId) (zone write holder : ℕ) (sizes others : List ℕ) → (phase_of settings history a).stripes.own zone write holder ≡ opened sizes → (phase_of settings history b).stripes.own zone write holder ≡ opened others → a ≡ b
+  one_maker a b zone write holder sizes others is too =
+      let same : making a ≡ making b = sym (maker_place a zone write holder sizes is) ∙ maker_place b zone write holder others too in
+      cc
+
+  pub one_changer : (a b : ActorId) (zone write holder : ℕ) (m n : ManifestView) → (phase_of settings history a).stripes.olds zone write holder ≡ Some m → (phase_of settings history b).stripes.olds zone write holder ≡ Some n → a ≡ b
+  one_changer a b zone write holder m n is too =
+      let same : replaced a ≡ replaced b = sym (changer_place a zone write holder m is) ∙ changer_place b zone write holder n too in
+      cc
+
+  pub made_or_named : (a : ActorId) (zone write part : ℕ) (sizes : List ℕ) → (phase_of settings history a).stripes.own zone write write ≡ opened sizes → IsNamed (state_of settings history) zone write part → ⊥
+  made_or_named a zone write part sizes is named =
+      let same : making a ≡ in_head named.container named.name = sym (maker_place a zone write write sizes is) ∙ head_place zone named.container write part named.name named.has in
+      cc
+
+  pub replaced_or_named : (a : ActorId) (zone write part : ℕ) (m : ManifestView) → (phase_of settings history a).stripes.olds zone write write ≡ Some m → IsNamed (state_of settings history) zone write part → ⊥
+  replaced_or_named a zone write part m is named =
+      let same : replaced a ≡ in_head named.container named.name = sym (changer_place a zone write write m is) ∙ head_place zone named.container write part named.name named.has in
+      cc
+
+  pub made_or_replaced : (a b : ActorId) (zone write holder : ℕ) (sizes : List ℕ) (m : ManifestView) → (phase_of settings history a).stripes.own zone write holder ≡ opened sizes → (phase_of settings history b).stripes.olds zone write holder ≡ Some m → ⊥
+  made_or_replaced a b zone write holder sizes m is old =
+      let same : making a ≡ replaced b = sym (maker_place a zone write holder sizes is) ∙ changer_place b zone write holder m old in
+      cc
 
 -- ---- stripes of no bytes
 

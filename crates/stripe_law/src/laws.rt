@@ -1,8 +1,8 @@
 //! The functions here do nothing: each is a law of the definitions.
-ghost use Rattle.std.specs.Prelude.{◌≡◌, ℕ, ◌≤◌, List, [], ◌∷◌, ◌++◌, length, take, drop, true, unwrap_or};
+ghost use Rattle.std.specs.Prelude.{◌≡◌, ℕ, ◌≤◌, List, [], ◌∷◌, ◌++◌, length, take, drop, true, unwrap_or, Some};
 ghost use Rattle.std.specs.List.{AllZip, concat};
 ghost use Rattle.rgw_types.specs.declared.stamp.Stamp.{Stamp as StampOf};
-ghost use Rattle.rgw_types.specs.Stripes.{tails_of};
+ghost use Rattle.rgw_types.specs.Stripes.{ManifestView, tails_of};
 ghost use Rattle.rgw_model.specs.declared.slot.Slot.TheVariants as Slots;
 ghost use Rattle.manifest.specs.Ranges.{part_size, parts_of, AreContents};
 ghost use Rattle.object_words.specs.declared.head.HeadSeen.{HeadSeen as HeadSeenOf};
@@ -13,10 +13,11 @@ ghost use Rattle.object_words.specs.Tails.{is_there};
 ghost use Rattle.realm_model.specs.Settings.{SettingsView};
 ghost use Rattle.realm_model.specs.Accounts.{slot_now};
 ghost use Rattle.realm_model.specs.Maps.{content_of, whole_bytes, heads};
+ghost use Rattle.realm_model.specs.Phases.{ActorId, opened};
 ghost use Rattle.realm_model.specs.Stripes.{has_stripe, IsNamed};
 ghost use Rattle.realm_model.specs.Touches.{is_read};
 ghost use Rattle.realm_model.specs.Worlds.{World, happens};
-ghost use Rattle.realm_model.specs.Histories.{world_of, state_of, IsNext, Legal};
+ghost use Rattle.realm_model.specs.Histories.{world_of, state_of, phase_of, IsNext, Legal};
 ghost use Rattle.realm_model.specs.declared.op.Op.TheVariants.{HeadRead, TailRead};
 ghost use Rattle.realm_model.specs.declared.event.Event.{Event as EventOf};
 ghost use Rattle.realm_model.specs.declared.event.Reply.TheVariants.{Bytes, Head as head_reply};
@@ -51,13 +52,34 @@ pub fn named_tails_exist()
         zone new.manifest.write part (part_size new.manifest part) }
 {}
 
-/// No two heads of a zone name one stripe.
-pub fn a_stripe_has_one_head()
-    ensures { (settings : SettingsView) (history : List EventOf) → Legal settings history
+/// A stripe is in at most one place: being made by one actor, named by one head, or replaced by one
+/// actor's change.
+pub fn a_stripe_is_in_one_place()
+    ensures heads { (settings : SettingsView) (history : List EventOf) → Legal settings history
         → (zone container other : ℕ) (name another : List ℕ) (write part : ℕ)
         → has_stripe ((state_of settings history).heads zone (head_key container name)).slot write part ≡ true
         → has_stripe ((state_of settings history).heads zone (head_key other another)).slot write part ≡ true
         → head_key container name ≡ head_key other another }
+    ensures makers { (settings : SettingsView) (history : List EventOf) → Legal settings history
+        → (a b : ActorId) (zone write holder : ℕ) (sizes others : List ℕ)
+        → (phase_of settings history a).stripes.own zone write holder ≡ opened sizes
+        → (phase_of settings history b).stripes.own zone write holder ≡ opened others → a ≡ b }
+    ensures changers { (settings : SettingsView) (history : List EventOf) → Legal settings history
+        → (a b : ActorId) (zone write holder : ℕ) (m n : ManifestView)
+        → (phase_of settings history a).stripes.olds zone write holder ≡ Some m
+        → (phase_of settings history b).stripes.olds zone write holder ≡ Some n → a ≡ b }
+    ensures made_or_named { (settings : SettingsView) (history : List EventOf) → Legal settings history
+        → (a : ActorId) (zone write part : ℕ) (sizes : List ℕ)
+        → (phase_of settings history a).stripes.own zone write write ≡ opened sizes
+        → IsNamed (state_of settings history) zone write part → ⊥ }
+    ensures replaced_or_named { (settings : SettingsView) (history : List EventOf) → Legal settings history
+        → (a : ActorId) (zone write part : ℕ) (m : ManifestView)
+        → (phase_of settings history a).stripes.olds zone write write ≡ Some m
+        → IsNamed (state_of settings history) zone write part → ⊥ }
+    ensures made_or_replaced { (settings : SettingsView) (history : List EventOf) → Legal settings history
+        → (a b : ActorId) (zone write holder : ℕ) (sizes : List ℕ) (m : ManifestView)
+        → (phase_of settings history a).stripes.own zone write holder ≡ opened sizes
+        → (phase_of settings history b).stripes.olds zone write holder ≡ Some m → ⊥ }
 {}
 
 /// The first bytes of a live head and those of its tails are as many as the manifest says, and one after
