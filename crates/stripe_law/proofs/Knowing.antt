@@ -2,16 +2,18 @@
 use Rattle.std.proofs.Common.{nat_le, ◌≤◌, ◌≡◌, ℕ, ◌+◌, ◌==◌, ◌||◌, ◌⊎◌, inl, inr, not, Bool, true, false, cond, Option, Some, None, refl, ◌∙◌, subst, arith}
 use Rattle.std.specs.Prelude.{IfSome}
 use Rattle.std.proofs.lemmas.Bool.Decides.{nat_tests}
+use Rattle.rgw_types.specs.Stripes.{ManifestView, tails_of}
 use Rattle.object_words.specs.Keys.{put}
 use Rattle.realm_model.specs.Tests.{is_so}
 use Rattle.realm_model.specs.Phases.{ActorId, FirstEvent, Bundle, unused, Phase}
 use Rattle.realm_model.specs.Needs.{is_first, is_own_write}
 use Rattle.realm_model.specs.Learnt.{first_after}
-use Rattle.realm_model.specs.Facts.{Ledger}
+use Rattle.realm_model.specs.Facts.{replaced, Ledger}
 use Rattle.realm_model.specs.Worlds.{put_actor}
 use Rattle.realm_model.proofs.ObjectLemmas.{number_same, put_cases}
 use Rattle.realm_model.proofs.Makers.{by_before, by_now}
 use Rattle.stripe_law.specs.Ids.{IsBy, OwnHolders, KnowsIds, Ids}
+use Rattle.stripe_law.specs.Olds.{IsReplaced, OldsAt}
 use Rattle.stripe_law.specs.Makers.{no_ledger, Makers}
 use Rattle.stripe_law.proofs.Puts.{put_actor_apart}
 
@@ -21,6 +23,14 @@ if_some_more P Q (Some x) more is = more x is
 
 pub at_least : (low n : ℕ) → nat_le low n ≡ true → low ≤ n
 at_least low n is = grind (arith, nat_tests)
+
+-- a manifest that was replaced stays where it is, if its place does
+pub olds_more : (a : ActorId) (olds : ℕ → ℕ → ℕ → Option ManifestView) (ledger ledger' : ℕ → ℕ → ℕ → Ledger)
+    → ((z w h n : ℕ) → ledger z w h ≡ record { count = n; place = replaced a } → ledger' z w h ≡ record { count = n; place = replaced a })
+    → OldsAt a olds ledger → OldsAt a olds ledger'
+olds_more a olds ledger ledger' more are z w h =
+    if_some_more (λ (m : ManifestView). IsReplaced a w h m (ledger z w h)) (λ m. IsReplaced a w h m (ledger' z w h)) (olds z w h)
+    (λ m is. record { of_write = is.of_write; of_holder = is.of_holder; has_tails = is.has_tails; place = more z w h (tails_of m) is.place }) (are z w h)
 
 -- ---- one event more
 

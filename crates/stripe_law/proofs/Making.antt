@@ -3,7 +3,7 @@ use Rattle.std.proofs.Common.{◌≡◌, ℕ, ◌+◌, ◌<◌, ◌≤◌, ◌�
 use Rattle.std.specs.Prelude.{IfSome, is_some}
 use Rattle.std.proofs.lemmas.List.{get_or_append_left, get_or-append-add}
 use Rattle.std.proofs.lemmas.Bool.Decides.{nat_tests}
-use Rattle.rgw_types.specs.Stripes.{ManifestView, tails_of}
+use Rattle.rgw_types.specs.Stripes.{ManifestView}
 use Rattle.realm_model.specs.Phases.{ActorId, Bundle, unused, opened, spent}
 use Rattle.realm_model.specs.Needs.{is_next_part}
 use Rattle.realm_model.specs.Learnt.{put_bundle, with_part}
@@ -14,10 +14,10 @@ use Rattle.realm_model.proofs.ObjectLemmas.{number_same, put_bundle_cases}
 use Rattle.stripe_law.specs.Sizes.{IsOfSize}
 use Rattle.stripe_law.specs.Makers.{no_ledger}
 use Rattle.stripe_law.specs.OpenBundles.{OpenAt, SizesAt}
-use Rattle.stripe_law.specs.Olds.{IsReplaced, OldsAt}
+use Rattle.stripe_law.specs.Olds.{OldsAt}
 use Rattle.stripe_law.specs.MadeOnce.{MadeOnce, MadeAll}
 use Rattle.stripe_law.proofs.Puts.{put_bundle_both, put_bundle_here}
-use Rattle.stripe_law.proofs.Knowing.{if_some_more}
+use Rattle.stripe_law.proofs.Knowing.{if_some_more, olds_more}
 
 -- ---- the part that may be made
 
@@ -187,11 +187,4 @@ module _ (ledger : ℕ → ℕ → ℕ → Ledger) (made : Made) (own : ℕ → 
   sizes_other none theirs sizes_are z w h sizes is i low = sizes_stay none z w (i + 1) (get_or sizes i 0) (sizes_are z w h sizes is i low)
 
   pub olds_kept : (a : ActorId) (olds : ℕ → ℕ → ℕ → Option ManifestView) → OldsAt a olds ledger → OldsAt a olds after
-  olds_kept a olds are z w h =
-      if_some_more (λ (m : ManifestView). IsReplaced a w h m (ledger z w h)) (λ m. IsReplaced a w h m (after z w h)) (olds z w h)
-      (λ m is. record {
-        of_write = is.of_write;
-        of_holder = is.of_holder;
-        has_tails = is.has_tails;
-        place = kept_place (record { count = tails_of m; place = replaced a }) (λ none. cc) (λ mine. cc) z w h is.place;
-      }) (are z w h)
+  olds_kept a olds = olds_more a olds ledger after (λ z w h n. kept_place (record { count = n; place = replaced a }) (λ none. cc) (λ mine. cc) z w h)

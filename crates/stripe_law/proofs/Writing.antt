@@ -29,7 +29,7 @@ use Rattle.stripe_law.specs.HeadSizes.{HeadSizes}
 use Rattle.stripe_law.specs.Named.{Named}
 use Rattle.stripe_law.specs.Olds.{IsReplaced, OldsAt}
 use Rattle.stripe_law.proofs.Puts.{put_bundle_both, put_bundle_here, put_in_apart}
-use Rattle.stripe_law.proofs.Knowing.{if_some_more}
+use Rattle.stripe_law.proofs.Knowing.{if_some_more, olds_more}
 
 pub moved_cases : (R : ℕ → ℕ → ℕ → Ledger → Type 0) (ledger : ℕ → ℕ → ℕ → Ledger) (zone : ℕ) (m : Option ManifestView) (place : Place)
     → IfSome m (λ m. R zone m.write (holder_of m) (record (ledger zone m.write (holder_of m)) { place = place }))
@@ -201,14 +201,7 @@ module _ (ledger : ℕ → ℕ → ℕ → Ledger) (actor : ActorId) (zone conta
       z (head_key c n) c n refl
 
   pub olds_other : (a : ActorId) (olds : ℕ → ℕ → ℕ → Option ManifestView) → OldsAt a olds ledger → OldsAt a olds after
-  olds_other a olds are z w h =
-      if_some_more (λ (m : ManifestView). IsReplaced a w h m (ledger z w h)) (λ m. IsReplaced a w h m (after z w h)) (olds z w h)
-      (λ m is. record {
-        of_write = is.of_write;
-        of_holder = is.of_holder;
-        has_tails = is.has_tails;
-        place = kept_place (record { count = tails_of m; place = replaced a }) z w h (λ one place. cc) (λ place. cc) is.place;
-      }) (are z w h)
+  olds_other a olds = olds_more a olds ledger after (λ z w h n. kept_place (record { count = n; place = replaced a }) z w h (λ one place. cc) (λ place. cc))
 
   pub olds_own : (olds : ℕ → ℕ → ℕ → Option ManifestView) → OldsAt actor olds ledger → OldsAt actor (with_old olds zone old) after
   olds_own olds are =

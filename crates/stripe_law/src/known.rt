@@ -21,12 +21,8 @@ pub fn an_object_is_read_while_it_is_replaced()
     ensures pieces { AllZip (IsPiece meanwhile.later 1 (words.alphabet 4)) (parts_of (words.manifest 4 16 26) 0 26)
         (codes "abcdefghijklmnop" ∷ codes "qrstuvwxyz" ∷ []) }
     ensures shown { slot_now (heads meanwhile.before) (world_of (words.small 16) meanwhile.before).stripes.made 1 1 words.k
-        ≡ slots.Live (record {
-          bytes = codes "abcdefghijklmnopqrstuvwxyz";
-          kind = words.plain;
-          meta = [];
-          etag = words.hex (codes "c3fcd3d76192e4007dfb496cca67e13b");
-        }) (words.stamp 0) }
+        ≡ slots.Live (record { bytes = codes "abcdefghijklmnopqrstuvwxyz"; kind = words.plain; meta = []; etag = (words.alphabet 4).etag })
+        (words.stamp 0) }
     ensures replaced { (world_of (words.small 16) meanwhile.history).stripes.ledger 1 4 4
         ≡ record { count = 1; place = replaced (words.actor 4) } }
 {}
