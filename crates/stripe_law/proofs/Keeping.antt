@@ -1,5 +1,5 @@
 -- What holds after every legal history.
-use Rattle.std.proofs.Common.{◌≡◌, ℕ, ◌+◌, ◌≤◌, ◌==◌, inl, not, true, false, List, [], ◌∷◌, length, Option, Some, None, refl, sym, subst, arith}
+use Rattle.std.proofs.Common.{◌≡◌, ℕ, ◌+◌, ◌≤◌, ◌==◌, inl, not, true, false, List, [], ◌∷◌, ◌++◌, length, Option, Some, None, refl, sym, subst, arith}
 use Rattle.std.specs.Prelude.{IfSome, is_some, unwrap_or}
 use Rattle.std.proofs.lemmas.Bool.Decides.{nat_tests}
 use Rattle.object_words.specs.Tails.{is_there}
@@ -13,7 +13,7 @@ use Rattle.realm_model.specs.Worlds.{World, start, actor_of, happens}
 use Rattle.realm_model.specs.Histories.{run, world_of, IsNext, LegalFrom, Legal}
 use Rattle.realm_model.specs.declared.event.Event.{Event}
 use Rattle.realm_model.proofs.Computing.{right_of}
-use Rattle.realm_model.proofs.Runs.{touched-count}
+use Rattle.realm_model.proofs.Runs.{run-append, legal_both, touched-count}
 use Rattle.realm_model.proofs.MadeOnce.{tails_agree}
 use Rattle.realm_model.proofs.Framing.{frames_add_up}
 use Rattle.stripe_law.specs.Tails.{Bytes}
@@ -84,3 +84,8 @@ holds_after settings history legal =
       );
       frames = frames_add_up settings history;
     }
+
+pub next_holds_after : (settings : SettingsView) (history : List Event) (e : Event) → Legal settings history → IsNext settings (world_of settings history) e → Holds settings (happens settings (world_of settings history) e)
+next_holds_after settings history e legal next =
+    subst (Holds settings) (run-append settings (start settings) history (e ∷ []))
+    (holds_after settings (history ++ e ∷ []) (legal_both settings (start settings) history (e ∷ []) legal (next, tt)))

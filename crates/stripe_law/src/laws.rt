@@ -24,10 +24,14 @@ ghost use Rattle.realm_model.specs.declared.event.Reply.TheVariants.{Bytes, Head
 ghost use Rattle.stripe_law.specs.Invariant.{Holds, StripesHoldIn};
 ghost use Rattle.stripe_law.specs.Reading.{IsStored, contents_at, IsPiece};
 
-/// In every legal history every part holds, after each of its events.
+/// In every legal history every part holds, after each of its events, and after each one that may come
+/// next.
 pub fn stripes_and_frames_hold()
-    ensures { (settings : SettingsView) (history : List EventOf)
+    ensures holds { (settings : SettingsView) (history : List EventOf)
         → Legal settings history → Holds settings (world_of settings history) }
+    ensures next { (settings : SettingsView) (history : List EventOf) (e : EventOf)
+        → Legal settings history → IsNext settings (world_of settings history) e
+        → Holds settings (happens settings (world_of settings history) e) }
 {}
 
 /// An event that may come next keeps what holds of stripes, from any world; one that only reads keeps
