@@ -100,7 +100,7 @@ answer_is settings w e zone write part start count bytes next tails op reply =
       | Some why ↦ λ is. cc
     ] told
 
-unwrapped_same : (o p : Option (List ℕ)) (size : ℕ) → IsOfSize o size → ((b : List ℕ) → o ≡ Some b → p ≡ Some b) → unwrap_or p [] ≡ unwrap_or o []
+pub unwrapped_same : (o p : Option (List ℕ)) (size : ℕ) → IsOfSize o size → ((b : List ℕ) → o ≡ Some b → p ≡ Some b) → unwrap_or p [] ≡ unwrap_or o []
 unwrapped_same None p size none same = absurd none
 unwrapped_same (Some b) p size is same = ap (λ o. unwrap_or o []) (same b refl)
 

@@ -8,3 +8,4 @@ pub mod Made
 pub mod Storing
 pub mod Getting
 pub mod Resting
+pub mod Staying

@@ -139,6 +139,20 @@ pub fn answered_reads_show_the_slot()
         (whole_bytes (world_of settings before).stripes.made zone new)) }
 {}
 
+/// What was made stays as it was made. So an object that a head showed keeps its bytes, also once the
+/// head shows another one.
+pub fn what_was_made_stays()
+    ensures made { (settings : SettingsView) (history later : List EventOf) → Legal settings (history ++ later)
+        → (zone write part : ℕ) (bytes : List ℕ)
+        → (world_of settings history).stripes.made zone write part ≡ Some bytes
+        → (world_of settings (history ++ later)).stripes.made zone write part ≡ Some bytes }
+    ensures bytes { (settings : SettingsView) (history later : List EventOf) → Legal settings (history ++ later)
+        → (zone container : ℕ) (name : List ℕ) (new : NewHeadOf) (stamp : StampOf)
+        → ((state_of settings history).heads zone (head_key container name)).slot ≡ Live new stamp
+        → whole_bytes (world_of settings (history ++ later)).stripes.made zone new
+        ≡ whole_bytes (world_of settings history).stripes.made zone new }
+{}
+
 /// A read of a tail that is allowed is answered, with as many bytes as it asks for.
 pub fn allowed_reads_are_answered()
     ensures bytes { (settings : SettingsView) (history : List EventOf) (e : EventOf)
