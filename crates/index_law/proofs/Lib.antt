@@ -1,0 +1,17 @@
+pub mod TagLists
+pub mod NameLists
+pub mod Puts
+pub mod Tests
+pub mod NoteLemmas
+pub mod NumberLaws
+pub mod RowLaws
+pub mod EntryLaws
+pub mod Owns
+pub mod Events
+pub mod Quiets
+pub mod EntryFacts
+pub mod Ending
+pub mod Suggesting
+pub mod Preparing
+pub mod Writing
+pub mod Placing
