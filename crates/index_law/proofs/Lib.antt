@@ -15,3 +15,4 @@ pub mod Suggesting
 pub mod Preparing
 pub mod Writing
 pub mod Placing
+pub mod Keeping

@@ -14,7 +14,7 @@ use Rattle.object_words.proofs.KeyLemmas.{number_itself, same_text}
 use Rattle.object_words.proofs.NameLemmas.{is_name_of, name_itself, at-with_name}
 use Rattle.realm_model.specs.Facts.{TagNote, Home, Instance, idle}
 use Rattle.realm_model.specs.Phases.{ActorId, FirstEvent, OwnTag, RowRead, Sighting, Phase}
-use Rattle.realm_model.specs.Learnt.{put_bundle, first_after, left_by_swap, with_read, learnt}
+use Rattle.realm_model.specs.Learnt.{put_bundle, row_known, first_after, left_by_swap, with_read, learnt}
 use Rattle.realm_model.specs.States.{clock_at}
 use Rattle.realm_model.specs.Steps.{is_master}
 use Rattle.realm_model.specs.Worlds.{World, same_actor, put_actor, with_home}
@@ -213,7 +213,10 @@ module _ (w : World) (j : IndexHolds w) (me : ActorId) (moment : ℕ) (zone : �
   reads_now =
       put_cases (λ z rows. AllByRecursion (ReadIsNamed homes instances z) (names_of rows)) (w.phases me).rows zone _
       (all_with_name (ReadIsNamed homes instances zone) ((w.phases me).rows zone) name (record { row = left_by_swap (w.phases me).rows zone name (Some b) number; at = number })
-      (λ r is. let same : stored _ b (is_master zone) number ≡ r = cc in subst (λ x. IsNamed homes instances zone name x) same (named_here _ refl refl refl)) (old_reads me zone)) (old_reads me) where
+      (λ r is.
+      let left = stored (row_known ((w.phases me).rows zone) name) b (is_master zone) number in
+      let same : left ≡ r = cc in
+      subst (λ x. IsNamed homes instances zone name x) same (named_here left refl refl refl)) (old_reads me zone)) (old_reads me) where
         old_reads : (a : ActorId) (z : ℕ) → AllByRecursion (ReadIsNamed homes instances z) (names_of ((w.phases a).rows z))
         old_reads a z = all_map (ReadIsNamed w.rows.homes w.rows.instances z) (ReadIsNamed homes instances z) (λ x named r is. more z x.0 r (named r is)) (names_of ((w.phases a).rows z)) (j.rows_stand.read a z)
 
