@@ -16,3 +16,4 @@ pub mod Preparing
 pub mod Writing
 pub mod Placing
 pub mod Keeping
+pub mod Consequences
