@@ -308,7 +308,7 @@ no_pairs : {X : Type 0} (P : List ℕ × X → Type 0) → AllByRecursion P (nam
 unfolding no_names names_of
 no_pairs P = tt
 
-starts : (settings : SettingsView) → IndexHolds (start settings)
+pub starts : (settings : SettingsView) → IndexHolds (start settings)
 starts settings = record {
   numbers = record {
     early = omega arith;

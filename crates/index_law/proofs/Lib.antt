@@ -16,4 +16,5 @@ pub mod Preparing
 pub mod Writing
 pub mod Placing
 pub mod Keeping
+pub mod Stamping
 pub mod Consequences

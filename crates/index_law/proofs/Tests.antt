@@ -35,7 +35,7 @@ flag_is true b is = sym is
 flag_is false true is = cc
 flag_is false false is = refl
 
-stamp_is : (a b : Stamp) → same_stamp a b ≡ true → a ≡ b
+pub stamp_is : (a b : Stamp) → same_stamp a b ≡ true → a ≡ b
 stamp_is a b is =
     let micros = number_same a.micros b.micros (left_of (a.micros == b.micros) (a.zone == b.zone) is) in
     let zone = number_same a.zone b.zone (right_of (a.micros == b.micros) (a.zone == b.zone) is) in

@@ -6,4 +6,5 @@ pub mod Changes
 pub mod Agreements
 pub mod Sights
 pub mod Reads
+pub mod Stamps
 pub mod Invariants
