@@ -66,13 +66,13 @@ use Rattle.index_law.proofs.Placing.{HomeFrom, swap_done}
 -- ---- what a swap needs
 
 -- the one form of a swap: a row where none was read
-record Form (p : Phase) (zone : ℕ) (name : List ℕ) (old new : Option Bucket) : Type 0 where
-  b : Bucket
-  old_is : old ≡ None
-  new_is : new ≡ Some b
-  make : is_make p zone name b ≡ true
+pub record Form (p : Phase) (zone : ℕ) (name : List ℕ) (old new : Option Bucket) : Type 0 where
+  pub b : Bucket
+  pub old_is : old ≡ None
+  pub new_is : new ≡ Some b
+  pub make : is_make p zone name b ≡ true
 
-form_of : (p : Phase) (zone : ℕ) (name : List ℕ) (old new : Option Bucket) → is_form p zone name old new ≡ true → Form p zone name old new
+pub form_of : (p : Phase) (zone : ℕ) (name : List ℕ) (old new : Option Bucket) → is_form p zone name old new ≡ true → Form p zone name old new
 form_of p zone name None (Some b) is = record { b = b; old_is = refl; new_is = refl; make = is }
 form_of p zone name None None is = cc
 form_of p zone name (Some row) None is = cc

@@ -17,4 +17,5 @@ pub mod Writing
 pub mod Placing
 pub mod Keeping
 pub mod Stamping
+pub mod Shards
 pub mod Consequences

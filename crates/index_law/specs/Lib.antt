@@ -7,4 +7,5 @@ pub mod Agreements
 pub mod Sights
 pub mod Reads
 pub mod Stamps
+pub mod Serving
 pub mod Invariants
