@@ -15,8 +15,8 @@ use Rattle.object_words.specs.declared.head.SeenSlot.TheVariants.{Nothing, Live,
 use Rattle.object_words.specs.declared.shard.Fate.{Fate}
 use Rattle.object_words.specs.declared.shard.ShardStats.{ShardStats}
 use Rattle.object_words.specs.declared.why.Why.{Why}
-use Rattle.object_words.specs.Entries.{EntryView}
-use Rattle.object_words.specs.Heads.{Head, row_of, seen_stamp}
+use Rattle.object_words.specs.Entries.{EntryView, entry_of}
+use Rattle.object_words.specs.Heads.{Head, row_of, is_live, seen_stamp}
 use Rattle.object_words.specs.HeadCalls.{write_refusal, written, stamp_next, change_of}
 use Rattle.object_words.specs.Hashes.{shard_of}
 use Rattle.object_words.specs.Keys.{head_key, shard_key}
@@ -25,12 +25,12 @@ use Rattle.object_words.specs.Refusals.{unless_refused, fate_refusal}
 use Rattle.object_words.specs.Rows.{RowView, no_row}
 use Rattle.object_words.specs.Shards.{Shard, object_count, byte_count, stats_of}
 use Rattle.object_words.specs.Tags.{has_tag}
-use Rattle.realm_model.specs.Containers.{with_id, row_at_home, row_in, key_of_name, entry_of_name, Shows, is_settled}
+use Rattle.realm_model.specs.Containers.{with_id, row_at_home, row_in, entry_in, key_of_name, entry_of_name, Shows, is_settled}
 use Rattle.realm_model.specs.Counts.{live_count, live_bytes}
 use Rattle.realm_model.specs.Facts.{Home}
 use Rattle.realm_model.specs.Histories.{run, world_of, state_of, IsNext, LegalFrom, Legal}
 use Rattle.realm_model.specs.Maps.{slot_at, heads}
-use Rattle.realm_model.specs.Rises.{HeadRises}
+use Rattle.realm_model.specs.Rises.{HeadRises, found_in}
 use Rattle.realm_model.specs.Settings.{SettingsView, IsSettings}
 use Rattle.realm_model.specs.States.{State, at_moment, number_next, put_in}
 use Rattle.realm_model.specs.Steps.{reply_or, on_shard, reply_of, after}
@@ -48,10 +48,21 @@ use Rattle.realm_model.proofs.Runs.{legal_front, last_is_next, state-next, count
 use Rattle.index_law.specs.Tables.{rows_of, heads_of, IsPlaced}
 use Rattle.index_law.specs.Agreements.{Agreement}
 use Rattle.index_law.specs.Invariants.{IndexHolds}
+use Rattle.rgw_model.specs.declared.slot.Slot.{Slot}
+use Rattle.index_law.specs.Stamps.{IsReached, StampsGiven}
+use Rattle.index_law.specs.Serving.{IsServing, ShardsServe}
+use Rattle.index_law.proofs.Stamping.{above_zone, stamps_given}
+use Rattle.index_law.proofs.Shards.{shards_serve}
 use Rattle.index_law.proofs.Puts.{head_here}
 use Rattle.index_law.proofs.Keeping.{holds}
 
 -- ---- after every event
+
+pub stamps_at : (settings : SettingsView) (history later : List Event) → IsSettings settings → Legal settings (history ++ later) → StampsGiven (heads_of (state_of settings history).heads) (world_of settings history).stamps.slots
+stamps_at settings history later good legal = stamps_given settings history good (legal_front settings (start settings) history later legal)
+
+pub shards_at : (settings : SettingsView) (history later : List Event) → Legal settings (history ++ later) → ShardsServe (state_of settings history).shards (rows_of (state_of settings history).root) (world_of settings history).phases
+shards_at settings history later legal = shards_serve settings history (legal_front settings (start settings) history later legal)
 
 pub holds_at : (settings : SettingsView) (history later : List Event) → IsSettings settings → Legal settings (history ++ later) → IndexHolds (world_of settings history)
 holds_at settings history later good legal = holds settings history good (legal_front settings (start settings) history later legal)
@@ -109,11 +120,37 @@ module _ (settings : SettingsView) (history : List Event) (zone container : ℕ)
   sized_as (Live new stamp) e shows = ap (λ (v : RowView). cond v.exists v.size 0) shows
   sized_as (Mark stamp) e shows = ap (λ (v : RowView). cond v.exists v.size 0) shows
 
+  live_there : (o : Option EntryView) (slot : SeenSlot) → is_live slot ≡ true → Shows (entry_of o) slot → IsSomeAnd o (λ e. Shows e slot)
+  live_there (Some e) slot live shows = shows
+  live_there None Nothing live shows = cc
+  live_there None (Live new stamp) live shows = absurd (let bad = ap (λ (r : RowView). r.exists) shows in cc)
+  live_there None (Mark stamp) live shows = cc
+
+  pub listed : is_live (slot_at (heads history zone container) name) ≡ true → IsSomeAnd (found_in ((state_of settings history).shards zone (key_of_name row name)) name) (λ e. Shows e (slot_at (heads history zone container) name))
+  listed live =
+      live_there (found_in ((state_of settings history).shards zone (key_of_name row name)) name) (slot_at (heads history zone container) name) live
+      (subst (λ e. Shows e (slot_at (heads history zone container) name)) (as_found ((state_of settings history).shards zone (key_of_name row name))) shown) where
+        as_found : (o : Option Shard) → entry_in o name ≡ entry_of (found_in o name)
+        as_found None = refl
+        as_found (Some s) = refl
+
   pub counted : object_count (entry_of_name (state_of settings history) zone row name) ≡ live_count (slot_at (heads history zone container) name)
   counted = counted_as (slot_at (heads history zone container) name) (entry_of_name (state_of settings history) zone row name) shown
 
   pub sized : byte_count (entry_of_name (state_of settings history) zone row name) ≡ live_bytes (slot_at (heads history zone container) name)
   sized = sized_as (slot_at (heads history zone container) name) (entry_of_name (state_of settings history) zone row name) shown
+
+-- ---- the shards of a row
+
+pub row_shards_serve : (settings : SettingsView) (history : List Event) (zone container shard : ℕ) (row : Bucket) → Legal settings history → row_in (world_of settings history).rows (state_of settings history) zone container ≡ Some row → shard < row.shards
+    → IsSomeAnd ((state_of settings history).shards zone (shard_key container row.instance shard)) IsServing
+row_shards_serve settings history zone container shard row legal is less =
+    let w = world_of settings history in
+    let j = shards_serve settings history legal in
+    let r = row_is_of w zone container row is in
+    let m = j.of_rows zone (r.home).name row shard r.kept less in
+    let there : w.state.shards zone (shard_key container row.instance shard) ≡ Some m.shard = ap (λ c. w.state.shards zone (shard_key c row.instance shard)) (sym r.id_is) ∙ m.there in
+    subst (λ o. IsSomeAnd o IsServing) (sym there) (j.serving zone (shard_key container row.instance shard) m.shard there)
 
 -- ---- statistics
 
@@ -145,6 +182,7 @@ record Wrote (settings : SettingsView) (st : State) (zone container : ℕ) (name
   left : (after settings st op).heads zone (head_key container name) ≡ head
   change_is : change ≡ change_of (st.heads zone (head_key container name)) head
   version_is : head.version ≡ st.count + 1
+  zone_is : change.stamp.zone ≡ zone
 
 wrote : (settings : SettingsView) (st : State) (zone container : ℕ) (name : List ℕ) (guard : Guard) (new : NewHead) (when : Conditions) (change : ChangedOf) → Changed change ≡ reply_of settings st (HeadWrite zone container name guard new when) → Wrote settings st zone container name (HeadWrite zone container name guard new when) change
 wrote settings st zone container name guard new when change told =
@@ -154,6 +192,7 @@ wrote settings st zone container name guard new when change told =
           left = ap (λ r. heads_of (put_in st.heads zone (head_key container name) (unless_refused r head changed)) zone container name) ok ∙ head_here st.heads zone container name changed;
           change_is = cc;
           version_is = refl;
+          zone_is = let change_is : change ≡ change_of head changed = cc in ap (λ (c : ChangedOf). c.stamp.zone) change_is ∙ above_zone (seen_stamp head.slot) st.clock zone;
         }
       | Some why ↦ λ no answer. absurd cc
     ] refl told where
@@ -187,3 +226,34 @@ stamp_later settings history e zone container name guard new when change legal r
     subst (λ (c : ChangedOf). IfSome (seen_stamp (old.heads zone key).slot) (λ before. IsEarlier before c.stamp)) (sym x.change_is) (later_of (old.heads zone key).slot (x.head).slot (no_row).stamp now))
     ((rising settings history e room).heads zone key) in
     subst (λ o. IfSome (seen_stamp o) (λ before. IsEarlier before change.stamp)) (sym slot) rises
+
+pub stamp_unused : (settings : SettingsView) (history : List Event) (e : Event) (zone container : ℕ) (name : List ℕ) (guard : Guard) (new : NewHead) (when : Conditions) (change : ChangedOf) → IsSettings settings → Legal settings (history ++ e ∷ []) → length history < 2 ^ 62
+    → e.op ≡ HeadWrite zone container name guard new when → e.reply ≡ Changed change → (world_of settings history).stamps.slots container name change.stamp ≡ None
+stamp_unused settings history e zone container name guard new when change good legal room op reply =
+    by_slot ((world_of settings history).stamps.slots container name change.stamp) refl where
+      front : Legal settings history
+      front = legal_front settings (start settings) history (e ∷ []) legal
+
+      at_zone : change.stamp.zone ≡ zone
+      at_zone =
+          let next = last_is_next settings history e legal in
+          let st = at_moment (state_of settings history) e.moment in
+          let answer : Changed change ≡ reply_of settings st (HeadWrite zone container name guard new when) = sym reply ∙ next.answer ∙ ap (λ o. reply_of settings st o) op in
+          (wrote settings st zone container name guard new when change answer).zone_is
+
+      given : StampsGiven (heads_of (state_of settings history).heads) (world_of settings history).stamps.slots
+      given = stamps_given settings history good front
+
+      -- a head that reached the stamp has a later one than the change gives
+      never : (r : IsReached (heads_of (state_of settings history).heads change.stamp.zone container name) change.stamp) → ⊥
+      never r =
+          let here : seen_stamp ((state_of settings history).heads zone (head_key container name)).slot ≡ Some r.now = ap (λ z. seen_stamp (heads_of (state_of settings history).heads z container name).slot) (sym at_zone) ∙ r.has in
+          let slot = ap seen_stamp (heads_agree settings history front zone container name) ∙ here in
+          let later : IsEarlier r.now change.stamp = subst (λ o. IfSome o (λ before. IsEarlier before change.stamp)) slot (stamp_later settings history e zone container name guard new when change legal room op reply) in
+          let own = (given.own zone container name r.now here).zone_is in
+          let reached = r.not_below in
+          ⊎_elim (λ less. omega (arith, less, reached)) (λ tie. let less = tie.1 in omega (arith, less, own, at_zone)) later
+
+      by_slot : (o : Option Slot) → (world_of settings history).stamps.slots container name change.stamp ≡ o → (world_of settings history).stamps.slots container name change.stamp ≡ None
+      by_slot None is = is
+      by_slot (Some x) is = absurd (never (given.reached container name change.stamp x is))

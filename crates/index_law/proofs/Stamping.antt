@@ -67,7 +67,7 @@ module _ (slots : Slots) (container : ℕ) (name : List ℕ) (stamp : Stamp) (ne
 
 -- ---- a change
 
-above_zone : (before : Option Stamp) (moment zone : ℕ) → (stamp_above before moment zone).zone ≡ zone
+pub above_zone : (before : Option Stamp) (moment zone : ℕ) → (stamp_above before moment zone).zone ≡ zone
 above_zone None moment zone = refl
 above_zone (Some s) moment zone = refl
 

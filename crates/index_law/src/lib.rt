@@ -5,6 +5,6 @@
 mod laws;
 
 pub use laws::{
-    a_change_has_a_later_stamp, each_event_keeps_the_index, settled_names_are_shown,
-    statistics_are_sums, the_index_holds,
+    a_change_has_a_new_stamp, each_event_keeps_the_index, settled_names_are_shown,
+    shards_of_rows_serve, statistics_are_sums, the_index_holds,
 };
