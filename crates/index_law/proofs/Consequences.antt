@@ -1,5 +1,5 @@
 -- What follows from the parts for those who read.
-use Rattle.std.proofs.Common.{◌≡◌, ◌⊎◌, inl, inr, ⊎_elim, ℕ, ◌+◌, ◌==◌, ◌<◌, ◌≤◌, ◌^◌, Bool, true, false, cond, List, [], ◌∷◌, ◌++◌, length, Option, Some, None, refl, sym, subst, ap, ◌∙◌, arith}
+use Rattle.std.proofs.Common.{◌≡◌, ⊎_elim, ℕ, ◌+◌, ◌==◌, ◌<◌, ◌^◌, true, false, cond, List, [], ◌∷◌, ◌++◌, length, Option, Some, None, refl, sym, subst, ap, ◌∙◌, arith}
 use Rattle.std.specs.Prelude.{IfSome, IsSomeAnd, unwrap_or}
 use Rattle.rgw_types.specs.declared.pool_key.Key.{Key}
 use Rattle.rgw_types.specs.declared.stamp.Stamp.{Stamp}
@@ -12,15 +12,13 @@ use Rattle.object_words.specs.declared.head.Conditions.{Conditions}
 use Rattle.object_words.specs.declared.head.NewHead.{NewHead}
 use Rattle.object_words.specs.declared.head.SeenSlot.{SeenSlot}
 use Rattle.object_words.specs.declared.head.SeenSlot.TheVariants.{Nothing, Live, Mark}
-use Rattle.object_words.specs.declared.shard.Fate.{Fate}
 use Rattle.object_words.specs.declared.shard.ShardStats.{ShardStats}
 use Rattle.object_words.specs.declared.why.Why.{Why}
 use Rattle.object_words.specs.Entries.{EntryView, entry_of}
 use Rattle.object_words.specs.Heads.{Head, row_of, is_live, seen_stamp}
-use Rattle.object_words.specs.HeadCalls.{write_refusal, written, stamp_next, change_of}
+use Rattle.object_words.specs.HeadCalls.{write_refusal, stamp_next, change_of}
 use Rattle.object_words.specs.Hashes.{shard_of}
 use Rattle.object_words.specs.Keys.{head_key, shard_key}
-use Rattle.object_words.specs.Names.{at}
 use Rattle.object_words.specs.Refusals.{unless_refused, fate_refusal}
 use Rattle.object_words.specs.Rows.{RowView, no_row}
 use Rattle.object_words.specs.Shards.{Shard, object_count, byte_count, stats_of}
@@ -28,25 +26,22 @@ use Rattle.object_words.specs.Tags.{has_tag}
 use Rattle.realm_model.specs.Containers.{with_id, row_at_home, row_in, entry_in, key_of_name, entry_of_name, Shows, is_settled}
 use Rattle.realm_model.specs.Counts.{live_count, live_bytes}
 use Rattle.realm_model.specs.Facts.{Home}
-use Rattle.realm_model.specs.Histories.{run, world_of, state_of, IsNext, LegalFrom, Legal}
+use Rattle.realm_model.specs.Histories.{world_of, state_of, Legal}
 use Rattle.realm_model.specs.Maps.{slot_at, heads}
-use Rattle.realm_model.specs.Rises.{HeadRises, found_in}
+use Rattle.realm_model.specs.Rises.{found_in}
 use Rattle.realm_model.specs.Settings.{SettingsView, IsSettings}
 use Rattle.realm_model.specs.States.{State, at_moment, number_next, put_in}
 use Rattle.realm_model.specs.Steps.{reply_or, on_shard, reply_of, after}
 use Rattle.realm_model.specs.Worlds.{World, start}
 use Rattle.realm_model.specs.declared.event.Event.{Event}
-use Rattle.realm_model.specs.declared.event.Reply.{Reply}
-use Rattle.realm_model.specs.declared.event.Reply.TheVariants.{No, Changed, Stats}
+use Rattle.realm_model.specs.declared.event.Reply.TheVariants.{Changed, Stats}
 use Rattle.realm_model.specs.declared.op.Op.{Op}
 use Rattle.realm_model.specs.declared.op.Op.TheVariants.{HeadWrite, Stats as stats_op}
 use Rattle.realm_model.proofs.Agreeing.{heads_agree}
 use Rattle.realm_model.proofs.ObjectLemmas.{number_same}
-use Rattle.realm_model.proofs.Bounds.{HeadFits}
 use Rattle.realm_model.proofs.Rising.{bounded, rising}
-use Rattle.realm_model.proofs.Runs.{legal_front, last_is_next, state-next, count_from}
+use Rattle.realm_model.proofs.Runs.{legal_front, last_is_next, state-next}
 use Rattle.index_law.specs.Tables.{rows_of, heads_of, IsPlaced}
-use Rattle.index_law.specs.Agreements.{Agreement}
 use Rattle.index_law.specs.Invariants.{IndexHolds}
 use Rattle.rgw_model.specs.declared.slot.Slot.{Slot}
 use Rattle.index_law.specs.Stamps.{IsReached, StampsGiven}
@@ -188,12 +183,12 @@ wrote : (settings : SettingsView) (st : State) (zone container : ℕ) (name : Li
 wrote settings st zone container name guard new when change told =
     elim (write_refusal head guard new when st.clock (st.free zone) settings.frame) as (λ r. write_refusal head guard new when st.clock (st.free zone) settings.frame ≡ r → Changed change ≡ reply_or (Changed (change_of head (unless_refused r head changed))) r → Wrote settings st zone container name (HeadWrite zone container name guard new when) change) [
       | None ↦ λ ok answer. record {
-          head = changed;
-          left = ap (λ r. heads_of (put_in st.heads zone (head_key container name) (unless_refused r head changed)) zone container name) ok ∙ head_here st.heads zone container name changed;
-          change_is = cc;
-          version_is = refl;
-          zone_is = let change_is : change ≡ change_of head changed = cc in ap (λ (c : ChangedOf). c.stamp.zone) change_is ∙ above_zone (seen_stamp head.slot) st.clock zone;
-        }
+        head = changed;
+        left = ap (λ r. heads_of (put_in st.heads zone (head_key container name) (unless_refused r head changed)) zone container name) ok ∙ head_here st.heads zone container name changed;
+        change_is = cc;
+        version_is = refl;
+        zone_is = let change_is : change ≡ change_of head changed = cc in ap (λ (c : ChangedOf). c.stamp.zone) change_is ∙ above_zone (seen_stamp head.slot) st.clock zone;
+      }
       | Some why ↦ λ no answer. absurd cc
     ] refl told where
       head : Head

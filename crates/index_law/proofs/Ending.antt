@@ -1,6 +1,5 @@
 -- A completion or a cancel that is done: the tag ends and is taken out of the entry.
-use Rattle.std.proofs.Common.{◌≡◌, ◌≢◌, ◌⊎◌, inl, inr, ℕ, ◌+◌, ◌<◌, ◌≤◌, ◌^◌, ⊎_elim, Bool, true, false, cond, List, Option, Some, None, refl, sym, subst, ap, ◌∙◌, arith}
-use Rattle.std.specs.Prelude.{nat_lt}
+use Rattle.std.proofs.Common.{◌≡◌, ◌≢◌, inl, inr, ℕ, ◌+◌, ◌<◌, ◌≤◌, ⊎_elim, Bool, true, false, List, Option, Some, None, refl, sym, subst, ap, ◌∙◌, arith}
 use Rattle.std.specs.List.{list_any, AllByRecursion}
 use Rattle.object_words.specs.declared.entry.Tag.{Tag}
 use Rattle.object_words.specs.Numbers.{next}
@@ -9,24 +8,21 @@ use native.Mathlib.Decide.{ℕ_discrete}
 use Rattle.rgw_types.specs.declared.pool_key.Key.{Key}
 use Rattle.object_words.specs.Keys.{put, container_of}
 use Rattle.object_words.specs.Rows.{RowView}
-use Rattle.object_words.specs.Tags.{has_tag, is_due, has_due, without_tag}
+use Rattle.object_words.specs.Tags.{has_tag, is_due, without_tag}
 use Rattle.object_words.specs.Entries.{EntryView, with_tags, stored_if_newer}
 use Rattle.object_words.specs.Heads.{Head}
 use Rattle.object_words.specs.Shards.{Shard, entry_at, with_entry}
 use Rattle.realm_model.specs.Containers.{entry_in}
 use Rattle.realm_model.specs.Facts.{TagNote}
-use Rattle.realm_model.specs.Phases.{ActorId, OwnChange, OwnTag, Sighting, over}
+use Rattle.realm_model.specs.Phases.{ActorId, OwnChange, over}
 use Rattle.realm_model.specs.Learnt.{at_stage, learnt}
 use Rattle.realm_model.specs.States.{clock_at, put_in}
-use Rattle.realm_model.specs.Worlds.{World, same_actor, put_actor, ended_note}
+use Rattle.realm_model.specs.Worlds.{World, put_actor, ended_note}
 use Rattle.realm_model.specs.declared.op.Op.{Op}
-use Rattle.realm_model.specs.declared.event.Reply.{Reply}
 use Rattle.realm_model.specs.declared.event.Reply.TheVariants.{Done}
 use Rattle.index_law.specs.Tables.{entries_of, heads_of, rows_of, Notes, changes_of, change_in, IsPlaced}
-use Rattle.index_law.specs.Tags.{IsNoted, IsOwn, OpenTags}
+use Rattle.index_law.specs.Tags.{IsNoted}
 use Rattle.index_law.specs.Agreements.{Agreement}
-use Rattle.index_law.specs.Sights.{IsSafe}
-use Rattle.index_law.specs.Reads.{StaysTrue}
 use Rattle.index_law.specs.Invariants.{Index, IndexHolds}
 use Rattle.index_law.proofs.TagLists.{any_without, all_without, has_without}
 use Rattle.index_law.proofs.Puts.{kept_entry}

@@ -1,57 +1,30 @@
 -- What is known of an entry with tags, and what calls on it were not refused.
-use Rattle.std.proofs.Common.{◌≡◌, ◌≢◌, ◌⊎◌, inl, inr, ℕ, ◌+◌, ◌==◌, ◌<◌, ◌≤◌, ◌^◌, ◌&&◌, not, Bool, true, false, cond, List, Option, Some, None, refl, sym, subst, ap, ◌∙◌, arith}
+use Rattle.std.proofs.Common.{◌≡◌, ℕ, ◌+◌, ◌==◌, ◌<◌, ◌≤◌, ◌^◌, ◌&&◌, not, Bool, true, false, cond, List, Option, Some, None, refl, sym, subst, ap, ◌∙◌, arith}
 use Rattle.std.specs.Prelude.{nat_lt}
-use Rattle.std.specs.List.{AllByRecursion}
 use Rattle.std.proofs.lemmas.Bool.Decides.{nat_tests}
-use Rattle.std.proofs.Math.Decide.{dec_lt}
-use native.Mathlib.Decide.{ℕ_discrete}
 use Rattle.rgw_types.specs.declared.pool_key.Key.{Key}
-use Rattle.object_words.specs.declared.entry.Tag.{Tag}
 use Rattle.object_words.specs.declared.why.Why.{Why}
 use Rattle.object_words.specs.declared.why.Why.TheVariants.{NoTag, Stale}
-use Rattle.object_words.specs.Hashes.{shard_of}
-use Rattle.object_words.specs.Keys.{put, is_key, container_of, instance_of, shard_key}
-use Rattle.object_words.specs.Names.{entries as names_of}
+use Rattle.object_words.specs.Keys.{container_of}
 use Rattle.object_words.specs.Numbers.{next}
-use Rattle.object_words.specs.Rows.{RowView}
-use Rattle.object_words.specs.Tags.{has_tag, has_due, is_due, with_tag, without_tag, tags_due_taken, guard_of}
-use Rattle.object_words.specs.Entries.{EntryView, with_tags, stored_if_newer}
-use Rattle.object_words.specs.Heads.{Head, row_of}
+use Rattle.object_words.specs.Tags.{has_tag, has_due, is_due, tags_due_taken}
+use Rattle.object_words.specs.Entries.{EntryView}
+use Rattle.object_words.specs.Heads.{Head}
 use Rattle.object_words.specs.Refusals.{first_refusal, change_refusal}
-use Rattle.object_words.specs.Shards.{Shard, entry_at, with_entry}
-use Rattle.object_words.specs.ShardCalls.{tag_refusal, complete_refusal, stale_refusal, suggest_refusal, untimely_refusal, logged_if_newer}
-use Rattle.object_words.proofs.KeyLemmas.{same_key, number_itself}
-use Rattle.realm_model.specs.Settings.{SettingsView, IsSettings}
-use Rattle.realm_model.specs.Tests.{is_so}
-use Rattle.realm_model.specs.Containers.{entry_in}
+use Rattle.object_words.specs.Shards.{Shard, entry_at}
+use Rattle.object_words.specs.ShardCalls.{tag_refusal, stale_refusal, suggest_refusal, untimely_refusal}
 use Rattle.realm_model.specs.Facts.{TagNote}
-use Rattle.realm_model.specs.Needs.{has_no_tag, has_read, names_shard}
-use Rattle.realm_model.specs.Phases.{ActorId, OwnChange, OwnTag, RowRead, Sighting, Phase, pending}
-use Rattle.realm_model.specs.States.{at_moment, clock_at, put_in}
-use Rattle.realm_model.specs.Steps.{new_tag, suggest_event_refusal}
-use Rattle.realm_model.specs.Allowed.{meets_need}
-use Rattle.realm_model.specs.Worlds.{World, same_actor, ended_note}
-use Rattle.realm_model.specs.declared.op.Op.{Op}
-use Rattle.realm_model.specs.declared.op.Op.TheVariants.{Prepare, Complete, Cancel, Suggest}
-use Rattle.realm_model.specs.declared.event.Reply.{Reply}
-use Rattle.realm_model.specs.declared.event.Reply.TheVariants.{Done, Prepared}
-use Rattle.realm_model.proofs.Computing.{left_of, right_of}
+use Rattle.realm_model.specs.Phases.{OwnChange}
+use Rattle.realm_model.specs.Steps.{suggest_event_refusal}
+use Rattle.realm_model.specs.Worlds.{World}
 use Rattle.realm_model.proofs.ObjectLemmas.{number_same}
-use Rattle.index_law.specs.Tables.{entries_of, heads_of, rows_of, Notes, changes_of, change_in, IsPlaced}
-use Rattle.index_law.specs.Rows.{ReadIsNamed}
-use Rattle.index_law.specs.Tags.{IsNoted, IsOwn, OpenTags}
-use Rattle.index_law.specs.Changes.{IsBelow, ChangesBelow}
-use Rattle.index_law.specs.Agreements.{Told, HasLast}
-use Rattle.index_law.specs.Sights.{Still as StillRead, Later, IsSafe}
-use Rattle.index_law.specs.Invariants.{Index, IndexHolds}
-use Rattle.index_law.proofs.TagLists.{Found, find_any, any_without, all_without, has_without, has_with, has_new, due_with, all_with, any_taken, all_taken, taken_has}
-use Rattle.index_law.proofs.Puts.{kept_entry, entry_here, entry_cases}
-use Rattle.index_law.proofs.Tests.{so, OwnsTag, Completes, completes, Cancels, cancels, Suggests, suggests}
-use Rattle.index_law.proofs.NoteLemmas.{Keeps, keeps_same, keeps_added, added_back, added_changes, calm_same, calm_ended, noted_more, all_map, at_place, open_is_other}
-use Rattle.index_law.proofs.NumberLaws.{tags_numbered, stored_numbered, tags_more, new_tag_number, clock_early}
-use Rattle.index_law.proofs.EntryLaws.{kept_has, prepare_agrees, cancel_agrees, complete_agrees, suggest_agrees, safe_changed, stays_changed}
-use Rattle.index_law.proofs.Owns.{own_ended, own_other, own_added}
-use Rattle.index_law.proofs.Events.{clock_rises, count_rises, changes_kept, changes_calm, entry_changed, open_changed}
+use Rattle.index_law.specs.Tables.{entries_of, heads_of, changes_of, change_in, IsPlaced}
+use Rattle.index_law.specs.Tags.{IsNoted}
+use Rattle.index_law.specs.Changes.{IsBelow}
+use Rattle.index_law.specs.Agreements.{Told}
+use Rattle.index_law.specs.Invariants.{IndexHolds}
+use Rattle.index_law.proofs.TagLists.{find_any, taken_has}
+use Rattle.index_law.proofs.NoteLemmas.{all_map}
 
 -- ---- what is known of an entry's tags
 

@@ -10,9 +10,8 @@ use Rattle.object_words.specs.declared.head.SeenSlot.{SeenSlot}
 use Rattle.object_words.specs.declared.head.SeenSlot.TheVariants.{Nothing, Live, Mark}
 use Rattle.object_words.specs.Rows.{RowView, no_row}
 use Rattle.object_words.specs.Tags.{has_tag, has_due, with_tag, without_tag, tags_due_taken}
-use Rattle.object_words.specs.Entries.{EntryView, no_entry, entry_of, with_tags, stored_if_newer, is_kept}
+use Rattle.object_words.specs.Entries.{EntryView, entry_of, with_tags, stored_if_newer, is_kept}
 use Rattle.object_words.specs.Heads.{Head, row_of}
-use Rattle.realm_model.specs.Containers.{Shows}
 use Rattle.realm_model.specs.Facts.{TagNote}
 use Rattle.realm_model.specs.Phases.{OwnChange, Sighting}
 use Rattle.realm_model.proofs.ObjectLemmas.{number_same}
@@ -21,7 +20,7 @@ use Rattle.index_law.specs.Agreements.{Told, HasLast, Agreement}
 use Rattle.index_law.specs.Sights.{Still, Later, IsSafe}
 use Rattle.index_law.specs.Reads.{StaysTrue}
 use Rattle.index_law.proofs.Puts.{kept_entry}
-use Rattle.index_law.proofs.TagLists.{any_without, has_without, has_with, with_has, due_with, any_taken, taken_has}
+use Rattle.index_law.proofs.TagLists.{any_without, has_without, has_with, with_has, any_taken}
 use Rattle.index_law.proofs.NoteLemmas.{Keeps}
 
 -- ---- an entry of which nothing is left
@@ -57,7 +56,7 @@ kept_due e moment due =
     ] due
 
 pub kept_all : (P : Tag → Type 0) (e : EntryView) → AllByRecursion P e.tags → AllByRecursion P (kept_entry e).tags
-kept_all P e all = elim (is_kept e) as (λ b. AllByRecursion P (entry_of (cond b (Some e) None)).tags) [ | true ↦ all | false ↦ tt ]
+kept_all P e all = elim (is_kept e) as (λ b. AllByRecursion P (entry_of (cond b (Some e) None)).tags) [ true ↦ all | false ↦ tt ]
 
 pub kept_agrees : (changes : ℕ → Option OwnChange) (h : Head) (last : Option ℕ) (e : EntryView) → Agreement changes h last e → Agreement changes h last (kept_entry e)
 kept_agrees changes h last e a =

@@ -1,8 +1,7 @@
 -- The parts after an event, from what it leaves of entries, notes and its actor's phase.
-use Rattle.std.proofs.Common.{◌≡◌, ◌≢◌, ◌⊎◌, inl, inr, ⊎_elim, ℕ, ◌+◌, ◌<◌, ◌≤◌, ◌^◌, true, false, List, Option, Some, None, refl, sym, subst, ap, ◌∙◌, arith}
+use Rattle.std.proofs.Common.{◌≡◌, ◌⊎◌, inr, ℕ, ◌+◌, ◌<◌, ◌≤◌, ◌^◌, true, false, List, Some, refl, sym, subst, ap, ◌∙◌, arith}
 use Rattle.std.specs.List.{AllByRecursion}
 use Rattle.rgw_types.specs.declared.pool_key.Key.{Key}
-use Rattle.object_words.specs.declared.entry.Tag.{Tag}
 use Rattle.object_words.specs.Keys.{put, container_of}
 use Rattle.object_words.specs.Names.{entries as names_of}
 use Rattle.object_words.specs.Tags.{has_tag, has_due}
@@ -19,15 +18,15 @@ use Rattle.realm_model.specs.declared.event.Reply.{Reply}
 use Rattle.realm_model.proofs.ObjectLemmas.{put_actor_cases}
 use Rattle.index_law.specs.Tables.{Entries, entries_of, Heads, heads_of, rows_of, Notes, Lasts, changes_of, IsPlaced}
 use Rattle.index_law.specs.Numbers.{IsNumbered}
-use Rattle.index_law.specs.Rows.{ReadIsNamed, RowsStand}
+use Rattle.index_law.specs.Rows.{ReadIsNamed}
 use Rattle.index_law.specs.Tags.{IsNoted, IsOwn, TagsOfPrepare, OpenTags}
-use Rattle.index_law.specs.Changes.{IsBelow, IsLast, ChangesBelow}
+use Rattle.index_law.specs.Changes.{IsBelow, ChangesBelow}
 use Rattle.index_law.specs.Agreements.{Agreement, Agreements}
-use Rattle.index_law.specs.Sights.{IsSafe, Sights}
-use Rattle.index_law.specs.Reads.{StaysTrue, ReadsStay}
+use Rattle.index_law.specs.Sights.{IsSafe}
+use Rattle.index_law.specs.Reads.{StaysTrue}
 use Rattle.index_law.specs.Invariants.{Index, IndexHolds}
 use Rattle.index_law.proofs.Puts.{kept_entry, entry_cases, phase_cases}
-use Rattle.index_law.proofs.NoteLemmas.{Keeps, SamePlace, noted_more, all_map, Calm, at_place, change_stays}
+use Rattle.index_law.proofs.NoteLemmas.{Keeps, noted_more, all_map, Calm, at_place, change_stays}
 use Rattle.index_law.proofs.NumberLaws.{entries_more, heads_more, tags_more, homes_more, instances_more, numbers_after}
 use Rattle.index_law.proofs.RowLaws.{rows_stay}
 use Rattle.index_law.proofs.EntryLaws.{kept_all, kept_agrees, safe_same}

@@ -1,5 +1,5 @@
 -- Each event keeps all parts, and so does each legal history.
-use Rattle.std.proofs.Common.{◌≡◌, ◌⊎◌, inl, inr, ℕ, ◌+◌, ◌==◌, ◌<◌, ◌≤◌, ◌&&◌, not, Bool, true, false, cond, List, [], ◌∷◌, Option, Some, None, refl, sym, subst, ap, ◌∙◌, arith}
+use Rattle.std.proofs.Common.{◌≡◌, inl, inr, ℕ, ◌+◌, ◌==◌, ◌<◌, ◌≤◌, ◌&&◌, not, Bool, true, false, cond, List, [], ◌∷◌, Option, Some, None, refl, sym, subst, ap, ◌∙◌, arith}
 use Rattle.std.specs.Prelude.{nat_le, is_some}
 use Rattle.std.specs.List.{AllByRecursion}
 use Rattle.std.proofs.lemmas.Bool.Decides.{nat_tests}
@@ -16,27 +16,25 @@ use Rattle.object_words.specs.Keys.{put, head_key, shard_key}
 use Rattle.object_words.specs.Names.{none as no_names, at, entries as names_of}
 use Rattle.object_words.specs.Rows.{RowView}
 use Rattle.object_words.specs.Tags.{has_tag, has_due, guard_of, with_tag, without_tag, tags_due_taken}
-use Rattle.object_words.specs.Entries.{EntryView, with_tags, stored_if_newer}
+use Rattle.object_words.specs.Entries.{with_tags, stored_if_newer}
 use Rattle.object_words.specs.Heads.{Head}
 use Rattle.object_words.specs.HeadCalls.{guard_refusal, condition_refusal, space_refusal, write_refusal, stamp_next, change_of}
 use Rattle.object_words.specs.Heads.{frames_for}
 use Rattle.object_words.specs.Logs.{logged}
 use Rattle.object_words.specs.Refusals.{first_refusal, unless_refused, change_refusal}
-use Rattle.object_words.specs.Roots.{Root, version_of, swap_refusal, swapped, shares_all, stored_or_none, with_bucket, is_logged}
+use Rattle.object_words.specs.Roots.{Root, version_of, swap_refusal, shares_all, stored_or_none, with_bucket, is_logged}
 use Rattle.object_words.specs.Shards.{Shard, entry_at, with_entry}
-use Rattle.object_words.specs.ShardCalls.{prepare_refusal, complete_refusal, tag_refusal, suggest_refusal, settled, suggested, logged_if_newer}
+use Rattle.object_words.specs.ShardCalls.{prepare_refusal, complete_refusal, tag_refusal, settled, suggested, logged_if_newer}
 use Rattle.object_words.proofs.KeyLemmas.{put_same}
 use Rattle.object_words.proofs.NameLemmas.{at-none}
 use Rattle.realm_model.specs.Settings.{SettingsView, IsSettings}
-use Rattle.realm_model.specs.Tests.{is_so}
 use Rattle.realm_model.specs.Ops.{zone_of}
 use Rattle.realm_model.specs.Containers.{entry_in}
-use Rattle.realm_model.specs.Facts.{Home}
 use Rattle.realm_model.specs.Needs.{is_between, has_no_tag, has_read, names_shard, is_first, is_make, is_form, takes_over, may_change_head, has_parts}
-use Rattle.realm_model.specs.Allowed.{meets_need, allowed}
+use Rattle.realm_model.specs.Allowed.{meets_need}
 use Rattle.realm_model.specs.Phases.{ActorId, FirstEvent, Phase}
 use Rattle.realm_model.specs.Learnt.{learnt}
-use Rattle.realm_model.specs.States.{State, number_next, at_moment, clock_at, put_in, touched}
+use Rattle.realm_model.specs.States.{State, at_moment, clock_at, put_in}
 use Rattle.realm_model.specs.Steps.{is_master, reply_or, new_tag, suggest_event_refusal, reply_of, touch_of, after}
 use Rattle.realm_model.specs.Worlds.{World, start, put_actor, tags_after, last_after, homes_after, instances_after, actor_of, happens}
 use Rattle.realm_model.specs.Histories.{run, world_of, IsNext, LegalFrom, Legal}
@@ -55,7 +53,7 @@ use Rattle.index_law.proofs.Puts.{call_cases}
 use Rattle.index_law.specs.Rows.{ReadIsNamed}
 use Rattle.index_law.proofs.NameLists.{all_at}
 use Rattle.index_law.proofs.Tests.{so, Completes, completes, cancels, writes, suggests}
-use Rattle.index_law.proofs.Quiets.{After, Still, made_entries, nothing_learnt, tag_over, tag_tried, tag_announced, tag_ended, bucket_read, head_shown, page_shown}
+use Rattle.index_law.proofs.Quiets.{After, made_entries, nothing_learnt, tag_over, tag_tried, tag_announced, tag_ended, bucket_read, head_shown, page_shown}
 use Rattle.index_law.proofs.EntryFacts.{first_none, tag_there, timely, not_stale}
 use Rattle.index_law.proofs.Ending.{cancel_done, complete_done}
 use Rattle.index_law.proofs.Suggesting.{suggest_done}

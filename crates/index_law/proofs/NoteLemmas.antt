@@ -1,14 +1,14 @@
 -- How notes of tags change: a preparation adds one; any other event keeps where each was prepared.
-use Rattle.std.proofs.Common.{◌≡◌, ◌≢◌, ◌⊎◌, inl, inr, ℕ, ◌+◌, ◌==◌, true, false, cond, List, [], ◌∷◌, Option, Some, None, refl, sym, subst, ap, ◌∙◌}
+use Rattle.std.proofs.Common.{◌≡◌, ◌≢◌, ◌⊎◌, inl, inr, ℕ, ◌==◌, true, false, cond, List, [], ◌∷◌, Option, Some, None, refl, sym, subst, ap, ◌∙◌}
 use Rattle.std.specs.List.{AllByRecursion}
 use Rattle.rgw_types.specs.declared.pool_key.Key.{Key}
 use Rattle.object_words.specs.declared.entry.Tag.{Tag}
 use Rattle.object_words.specs.Keys.{put}
 use Rattle.object_words.proofs.KeyLemmas.{number_itself}
-use Rattle.realm_model.specs.Phases.{ActorId, OwnChange}
+use Rattle.realm_model.specs.Phases.{OwnChange}
 use Rattle.realm_model.specs.Facts.{TagNote}
 use Rattle.realm_model.specs.Worlds.{changed_note, ended_note}
-use Rattle.realm_model.proofs.ObjectLemmas.{number_same, put_cases}
+use Rattle.realm_model.proofs.ObjectLemmas.{number_same}
 use Rattle.index_law.specs.Tables.{Notes, change_in, changes_of}
 use Rattle.index_law.specs.Tags.{IsNoted}
 
@@ -183,19 +183,19 @@ calm_ended tags t = record {
   back tag new b =
       elim b.how [
         | inl apart ↦ record {
-            note = b.note;
-            there = b.there;
-            same = subst (λ n. SamePlace b.note n) (sym apart.1) (record { actor = refl; zone = refl; key = refl; name = refl; deadline = refl });
-            change_is = ap (λ (n : TagNote). n.change) apart.1;
-            still_open = λ e. ap (λ (n : TagNote). n.ended) (sym apart.1) ∙ e;
-          }
+          note = b.note;
+          there = b.there;
+          same = subst (λ n. SamePlace b.note n) (sym apart.1) (record { actor = refl; zone = refl; key = refl; name = refl; deadline = refl });
+          change_is = ap (λ (n : TagNote). n.change) apart.1;
+          still_open = λ e. ap (λ (n : TagNote). n.ended) (sym apart.1) ∙ e;
+        }
         | inr here ↦ record {
-            note = b.note;
-            there = b.there;
-            same = subst (λ n. SamePlace b.note n) (sym here.1) (record { actor = refl; zone = refl; key = refl; name = refl; deadline = refl });
-            change_is = ap (λ (n : TagNote). n.change) here.1;
-            still_open = λ e. absurd (let ended = ap (λ (n : TagNote). n.ended) here.1 in cc);
-          }
+          note = b.note;
+          there = b.there;
+          same = subst (λ n. SamePlace b.note n) (sym here.1) (record { actor = refl; zone = refl; key = refl; name = refl; deadline = refl });
+          change_is = ap (λ (n : TagNote). n.change) here.1;
+          still_open = λ e. absurd (let ended = ap (λ (n : TagNote). n.ended) here.1 in cc);
+        }
       ]
 
 -- what holds at the place of a note holds at that of the other

@@ -1,14 +1,13 @@
 -- Numbers stay below the next.
-use Rattle.std.proofs.Common.{◌≡◌, ℕ, ◌+◌, ◌≤◌, ◌^◌, true, false, cond, List, Option, Some, None, refl, sym, subst, ap, ◌∙◌, arith}
+use Rattle.std.proofs.Common.{◌≡◌, ℕ, ◌+◌, ◌≤◌, ◌^◌, true, false, cond, List, Option, Some, None, refl, subst, ◌∙◌, arith}
 use Rattle.std.specs.Prelude.{nat_lt}
 use Rattle.rgw_types.specs.declared.pool_key.Key.{Key}
 use Rattle.object_words.specs.declared.entry.Tag.{Tag}
 use Rattle.object_words.specs.Keys.{put}
 use Rattle.object_words.specs.Rows.{RowView}
-use Rattle.object_words.specs.Numbers.{next}
 use Rattle.object_words.specs.Entries.{EntryView, entry_of, with_tags, stored_if_newer, is_kept}
 use Rattle.realm_model.specs.Facts.{TagNote, Home, Instance}
-use Rattle.realm_model.specs.Phases.{ActorId, FirstEvent, Phase}
+use Rattle.realm_model.specs.Phases.{ActorId, FirstEvent}
 use Rattle.realm_model.specs.Learnt.{first_after, learnt}
 use Rattle.realm_model.specs.States.{clock_at}
 use Rattle.realm_model.specs.Worlds.{World, put_actor}
@@ -17,7 +16,7 @@ use Rattle.realm_model.specs.declared.event.Reply.{Reply}
 use Rattle.realm_model.proofs.Bounds.{counted_early}
 use Rattle.realm_model.proofs.Makers.{by_before, by_now}
 use Rattle.realm_model.proofs.ObjectLemmas.{put_actor_cases}
-use Rattle.index_law.specs.Tables.{Entries, entries_of, Heads, heads_of, rows_of, Notes, Instances}
+use Rattle.index_law.specs.Tables.{Entries, entries_of, Heads, heads_of, Notes, Instances}
 use Rattle.index_law.specs.Numbers.{IsNumbered, Numbers}
 use Rattle.index_law.specs.Invariants.{IndexHolds}
 use Rattle.index_law.proofs.Puts.{kept_entry}
@@ -28,7 +27,7 @@ pub numbered_more : (count : ℕ) (e : EntryView) → IsNumbered count e → IsN
 numbered_more count e is = (omega (arith, is.0), omega (arith, is.1))
 
 kept_numbered : (count : ℕ) (e : EntryView) → IsNumbered count e → IsNumbered count (kept_entry e)
-kept_numbered count e is = elim (is_kept e) as (λ b. IsNumbered count (entry_of (cond b (Some e) None))) [ | true ↦ is | false ↦ (omega arith, omega arith) ]
+kept_numbered count e is = elim (is_kept e) as (λ b. IsNumbered count (entry_of (cond b (Some e) None))) [ true ↦ is | false ↦ (omega arith, omega arith) ]
 
 pub tags_numbered : (count : ℕ) (e : EntryView) (tags : List Tag) → IsNumbered count e → IsNumbered (count + 1) (kept_entry (with_tags e tags))
 tags_numbered count e tags is = kept_numbered (count + 1) (with_tags e tags) (omega (arith, is.0), omega (arith, is.1))
@@ -36,7 +35,7 @@ tags_numbered count e tags is = kept_numbered (count + 1) (with_tags e tags) (om
 pub stored_numbered : (count : ℕ) (e : EntryView) (tags : List Tag) (version : ℕ) (row : RowView) → version ≤ count → IsNumbered count e → IsNumbered (count + 1) (kept_entry (stored_if_newer (with_tags e tags) version row))
 stored_numbered count e tags version row below is =
     kept_numbered (count + 1) (stored_if_newer (with_tags e tags) version row)
-    (elim (nat_lt e.version version) as (λ b. cond b version e.version ≤ count + 1) [ | true ↦ omega (arith, below) | false ↦ omega (arith, is.0) ], omega (arith, is.1))
+    (elim (nat_lt e.version version) as (λ b. cond b version e.version ≤ count + 1) [ true ↦ omega (arith, below) | false ↦ omega (arith, is.0) ], omega (arith, is.1))
 
 -- ---- one event more
 

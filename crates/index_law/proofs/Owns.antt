@@ -1,19 +1,17 @@
 -- What actors know of their own tags, after an event.
-use Rattle.std.proofs.Common.{◌≡◌, ℕ, ◌+◌, ◌==◌, ◌&&◌, ◌||◌, true, false, List, Option, Some, None, refl, sym, subst, ap, ◌∙◌}
+use Rattle.std.proofs.Common.{◌≡◌, ℕ, ◌==◌, ◌&&◌, ◌||◌, true, false, List, Option, Some, None, refl, sym, subst, ap, ◌∙◌}
 use Rattle.object_words.specs.declared.entry.Guard.{Guard}
 use Rattle.object_words.specs.Keys.{put, is_key}
-use Rattle.object_words.proofs.KeyLemmas.{number_itself}
 use Rattle.rgw_types.specs.declared.pool_key.Key.{Key}
 use Rattle.realm_model.specs.Facts.{TagNote}
 use Rattle.realm_model.specs.Needs.{is_pending}
 use Rattle.realm_model.specs.Phases.{ActorId, OwnChange, Stage, pending, tried, over, OwnTag, Phase}
 use Rattle.realm_model.specs.Learnt.{at_stage, tried_from, with_try, announced, changed}
-use Rattle.realm_model.specs.Worlds.{World, same_actor, changed_note, ended_note}
+use Rattle.realm_model.specs.Worlds.{same_actor, changed_note, ended_note}
 use Rattle.realm_model.proofs.ObjectLemmas.{number_same, actor_itself}
 use Rattle.index_law.specs.Tables.{Notes}
 use Rattle.index_law.specs.Tags.{IsOwn}
-use Rattle.index_law.specs.Invariants.{IndexHolds}
-use Rattle.index_law.proofs.NoteLemmas.{Turns, SamePlace, turned_here, over_of, ending, with_change, changing}
+use Rattle.index_law.proofs.NoteLemmas.{Turns, turned_here, over_of, ending, with_change, changing}
 use Rattle.index_law.proofs.Tests.{OwnsTag}
 
 -- nothing is known anew, but that the tag is no longer open
@@ -58,16 +56,16 @@ own_other g tags me a tag t note there mine apart n =
           let actors : a ≡ me = let notes : note ≡ n.note = cc in sym n.actor_is ∙ ap (λ (x : TagNote). x.actor) (sym notes) ∙ mine in
           absurd (let self = subst (λ x. same_actor x me ≡ true) (sym actors) (actor_itself me) in cc)
       | false ↦ λ other. record {
-          note = n.note;
-          there = rw other n.there;
-          actor_is = n.actor_is;
-          zone_is = n.zone_is;
-          key_is = n.key_is;
-          name_is = n.name_is;
-          deadline_is = n.deadline_is;
-          change_is = n.change_is;
-          not_ended = n.not_ended;
-        }
+        note = n.note;
+        there = rw other n.there;
+        actor_is = n.actor_is;
+        zone_is = n.zone_is;
+        key_is = n.key_is;
+        name_is = n.name_is;
+        deadline_is = n.deadline_is;
+        change_is = n.change_is;
+        not_ended = n.not_ended;
+      }
     ] refl
 
 -- a note more
@@ -76,16 +74,16 @@ own_added tags number new none a t n =
     elim (number == t.guard.tag) as (λ b. (number == t.guard.tag) ≡ b → IsOwn (put tags number (Some new)) a t) [
       | true ↦ λ same. absurd (none n.note (ap tags (number_same number t.guard.tag same) ∙ n.there))
       | false ↦ λ other. record {
-          note = n.note;
-          there = rw other n.there;
-          actor_is = n.actor_is;
-          zone_is = n.zone_is;
-          key_is = n.key_is;
-          name_is = n.name_is;
-          deadline_is = n.deadline_is;
-          change_is = n.change_is;
-          not_ended = n.not_ended;
-        }
+        note = n.note;
+        there = rw other n.there;
+        actor_is = n.actor_is;
+        zone_is = n.zone_is;
+        key_is = n.key_is;
+        name_is = n.name_is;
+        deadline_is = n.deadline_is;
+        change_is = n.change_is;
+        not_ended = n.not_ended;
+      }
     ] refl
 
 -- ---- the own tag of an actor

@@ -1,29 +1,27 @@
 -- A swap that is done makes a row: its instance is new, and so are the names of its container in the zone.
-use Rattle.std.proofs.Common.{◌≡◌, ◌⊎◌, inl, inr, ⊎_elim, ℕ, ◌+◌, ◌==◌, ◌<◌, ◌≤◌, ◌^◌, ◌&&◌, Bool, true, false, cond, List, Option, Some, None, refl, sym, subst, ap, ◌∙◌, arith}
+use Rattle.std.proofs.Common.{◌≡◌, ◌⊎◌, inl, inr, ⊎_elim, ℕ, ◌+◌, ◌==◌, ◌<◌, ◌^◌, true, false, cond, List, Option, Some, None, refl, sym, subst, ap, ◌∙◌, arith}
 use Rattle.std.specs.List.{AllByRecursion}
 use Rattle.rgw_types.specs.declared.pool_key.Key.{Key}
 use Rattle.object_words.specs.declared.bucket.Bucket.{Bucket}
-use Rattle.object_words.specs.Keys.{put, container_of, instance_of, shard_key}
-use Rattle.object_words.specs.Names.{Named, at, with_name, entries as names_of}
-use Rattle.object_words.specs.Tags.{has_tag, has_due}
-use Rattle.object_words.specs.Entries.{EntryView, no_entry}
-use Rattle.object_words.specs.Heads.{Head, no_head}
+use Rattle.object_words.specs.Keys.{put, container_of, instance_of}
+use Rattle.object_words.specs.Names.{at, with_name, entries as names_of}
+use Rattle.object_words.specs.Tags.{has_due}
+use Rattle.object_words.specs.Entries.{no_entry}
 use Rattle.object_words.specs.Logs.{Log}
-use Rattle.object_words.specs.Roots.{Root, stored, stored_or_none}
+use Rattle.object_words.specs.Roots.{Root, stored}
 use Rattle.object_words.proofs.KeyLemmas.{number_itself, same_text}
 use Rattle.object_words.proofs.NameLemmas.{is_name_of, name_itself, at-with_name}
 use Rattle.realm_model.specs.Facts.{TagNote, Home, Instance, idle}
-use Rattle.realm_model.specs.Phases.{ActorId, FirstEvent, OwnTag, RowRead, Sighting, Phase}
-use Rattle.realm_model.specs.Learnt.{put_bundle, row_known, first_after, left_by_swap, with_read, learnt}
+use Rattle.realm_model.specs.Phases.{ActorId, FirstEvent, OwnTag, Sighting, Phase}
+use Rattle.realm_model.specs.Learnt.{put_bundle, row_known, first_after, left_by_swap, learnt}
 use Rattle.realm_model.specs.States.{clock_at}
 use Rattle.realm_model.specs.Steps.{is_master}
 use Rattle.realm_model.specs.Worlds.{World, same_actor, put_actor, with_home}
 use Rattle.realm_model.specs.declared.op.Op.{Op}
 use Rattle.realm_model.specs.declared.op.Op.TheVariants.{BucketSwap}
-use Rattle.realm_model.specs.declared.event.Reply.{Reply}
 use Rattle.realm_model.specs.declared.event.Reply.TheVariants.{Done}
 use Rattle.realm_model.proofs.ObjectLemmas.{number_same, actor_itself, put_cases, put_actor_cases}
-use Rattle.index_law.specs.Tables.{Rows, entries_of, heads_of, rows_of, Instances, changes_of, IsPlaced}
+use Rattle.index_law.specs.Tables.{entries_of, heads_of, rows_of, Instances, changes_of, IsPlaced}
 use Rattle.index_law.specs.Rows.{IsNamed, IsInRow, IsKept, ReadIsNamed, RowsStand}
 use Rattle.index_law.specs.Agreements.{Agreement, Agreements}
 use Rattle.index_law.specs.Sights.{IsSafe}

@@ -1,14 +1,13 @@
 -- A preparation that is done: the entry has a tag more, which is noted.
-use Rattle.std.proofs.Common.{◌≡◌, ◌⊎◌, inl, inr, ⊎_elim, ℕ, ◌+◌, ◌<◌, ◌≤◌, ◌^◌, ◌&&◌, true, false, List, Option, Some, None, refl, sym, subst, ap, ◌∙◌, arith}
+use Rattle.std.proofs.Common.{◌≡◌, inl, inr, ⊎_elim, ℕ, ◌+◌, ◌<◌, ◌≤◌, ◌&&◌, true, false, List, Option, Some, None, refl, sym, subst, ap, arith}
 use Rattle.std.specs.Prelude.{nat_lt}
-use Rattle.std.specs.List.{AllByRecursion}
 use Rattle.rgw_types.specs.declared.pool_key.Key.{Key}
 use Rattle.object_words.specs.declared.bucket.Bucket.{Bucket}
 use Rattle.object_words.specs.declared.entry.Tag.{Tag}
 use Rattle.object_words.specs.Hashes.{shard_of}
-use Rattle.object_words.specs.Keys.{put, is_key, shard_key, container_of}
+use Rattle.object_words.specs.Keys.{put, shard_key, container_of}
 use Rattle.object_words.specs.Names.{entries as names_of}
-use Rattle.object_words.specs.Tags.{has_tag, is_due, has_due, with_tag, guard_of}
+use Rattle.object_words.specs.Tags.{has_tag, with_tag, guard_of}
 use Rattle.object_words.specs.Entries.{EntryView, with_tags}
 use Rattle.object_words.specs.Heads.{Head}
 use Rattle.object_words.specs.Shards.{Shard, entry_at, with_entry}
@@ -17,9 +16,8 @@ use Rattle.realm_model.specs.Settings.{SettingsView, IsSettings}
 use Rattle.realm_model.specs.Tests.{is_so}
 use Rattle.realm_model.specs.Containers.{entry_in}
 use Rattle.realm_model.specs.Facts.{TagNote}
-use Rattle.realm_model.specs.Needs.{has_no_tag, has_read, names_shard}
-use Rattle.realm_model.specs.Allowed.{meets_need}
-use Rattle.realm_model.specs.Phases.{ActorId, OwnChange, OwnTag, RowRead, Sighting, pending}
+use Rattle.realm_model.specs.Needs.{has_read, names_shard}
+use Rattle.realm_model.specs.Phases.{ActorId, OwnTag, Sighting, pending}
 use Rattle.realm_model.specs.Learnt.{learnt}
 use Rattle.realm_model.specs.States.{at_moment, clock_at, put_in}
 use Rattle.realm_model.specs.Steps.{new_tag}
@@ -28,13 +26,13 @@ use Rattle.realm_model.specs.declared.op.Op.{Op}
 use Rattle.realm_model.specs.declared.op.Op.TheVariants.{Prepare}
 use Rattle.realm_model.specs.declared.event.Reply.{Reply}
 use Rattle.realm_model.specs.declared.event.Reply.TheVariants.{Prepared}
-use Rattle.realm_model.proofs.Computing.{left_of, right_of}
+use Rattle.realm_model.proofs.Computing.{right_of}
 use Rattle.index_law.specs.Tables.{Entries, entries_of, heads_of, rows_of, Notes, changes_of, change_in, IsPlaced}
 use Rattle.index_law.specs.Rows.{ReadIsNamed}
 use Rattle.index_law.specs.Tags.{IsNoted, IsOwn, OpenTags}
 use Rattle.index_law.specs.Invariants.{Index, IndexHolds}
 use Rattle.index_law.proofs.TagLists.{find_any, has_with, has_new, due_with, all_with}
-use Rattle.index_law.proofs.Puts.{kept_entry, entry_here, entry_cases}
+use Rattle.index_law.proofs.Puts.{entry_here, entry_cases}
 use Rattle.index_law.proofs.Tests.{so}
 use Rattle.index_law.proofs.NoteLemmas.{keeps_added, added_back, added_changes, noted_more, all_map}
 use Rattle.index_law.proofs.NumberLaws.{tags_numbered, tags_more, new_tag_number, clock_early}

@@ -1,36 +1,31 @@
 -- Events that change no entry, no head and no row: reads, refused events, and those on other objects.
-use Rattle.std.proofs.Common.{◌≡◌, ◌⊎◌, inl, inr, ℕ, ◌+◌, ◌==◌, ◌<◌, ◌≤◌, ◌^◌, ◌&&◌, Bool, true, false, cond, List, take, Option, Some, None, refl, sym, subst, ap, ◌∙◌, arith}
+use Rattle.std.proofs.Common.{◌≡◌, ◌⊎◌, inl, ℕ, ◌+◌, ◌==◌, ◌<◌, ◌≤◌, ◌&&◌, true, false, cond, List, Option, Some, None, refl, sym, subst, ap, ◌∙◌, arith}
 use Rattle.std.specs.Prelude.{bytes_eq}
 use Rattle.std.specs.List.{AllByRecursion}
 use Rattle.std.specs.Ordering.{is_lt}
 use Rattle.std.specs.FinMap.Entries.{find}
-use Rattle.std.proofs.lemmas.Bool.Decides.{nat_tests}
 use Rattle.rgw_types.specs.declared.pool_key.Key.{Key}
-use Rattle.object_words.specs.declared.bucket.Bucket.{Bucket}
-use Rattle.object_words.specs.declared.head.HeadSeen.{HeadSeen}
-use Rattle.object_words.specs.declared.why.Why.{Why}
-use Rattle.object_words.specs.declared.why.Why.TheVariants.{Absent, Moved, Closed, Raced, Held, NoTag, Stale, Expired, NotMet, NoSpace, Gone}
+use Rattle.object_words.specs.declared.why.Why.TheVariants.{Absent, Closed}
 use Rattle.object_words.specs.Keys.{put, container_of, head_key}
-use Rattle.object_words.specs.Names.{name_cmp, at, entries, where_name}
+use Rattle.object_words.specs.Names.{name_cmp, at, entries}
 use Rattle.object_words.specs.Tags.{has_due}
 use Rattle.object_words.specs.Entries.{EntryView, entry_of}
 use Rattle.object_words.specs.Heads.{Head, row_of}
 use Rattle.object_words.specs.HeadCalls.{seen, version_seen}
 use Rattle.object_words.specs.Refusals.{fate_refusal}
-use Rattle.object_words.specs.RowsOf.{row_view}
-use Rattle.object_words.specs.Shards.{Shard, entry_at}
+use Rattle.object_words.specs.Shards.{Shard}
 use Rattle.object_words.specs.ShardCalls.{page_of, made}
 use Rattle.realm_model.specs.Settings.{SettingsView}
 use Rattle.realm_model.specs.Containers.{entry_in}
 use Rattle.realm_model.specs.Phases.{ActorId, OwnChange, over, OwnTag, Sighting, Phase}
 use Rattle.realm_model.specs.Learnt.{at_stage, with_try, announced, is_named, sighted, with_head, learnt}
-use Rattle.realm_model.specs.States.{State, at_moment, clock_at, put_in}
-use Rattle.realm_model.specs.Steps.{reply_or, on_shard, row_reply, reply_of, after}
-use Rattle.realm_model.specs.Worlds.{World, same_actor, put_actor, tags_after, last_after, homes_after, instances_after, ended_note}
+use Rattle.realm_model.specs.States.{State, clock_at, put_in}
+use Rattle.realm_model.specs.Steps.{reply_or, on_shard, row_reply}
+use Rattle.realm_model.specs.Worlds.{World, put_actor, tags_after, last_after, homes_after, instances_after, ended_note}
 use Rattle.realm_model.specs.declared.op.Op.{Op}
-use Rattle.realm_model.specs.declared.op.Op.TheVariants.{BucketRead, BucketSwap, ShardMake, Prepare, Complete, Cancel, Page, Suggest, Stats, HeadRead, HeadWrite, TailMake, TailRead, Announce}
+use Rattle.realm_model.specs.declared.op.Op.TheVariants.{BucketRead, Page, HeadRead}
 use Rattle.realm_model.specs.declared.event.Reply.{Reply}
-use Rattle.realm_model.specs.declared.event.Reply.TheVariants.{Done, No, Row, Entries, Head as head_reply, Position}
+use Rattle.realm_model.specs.declared.event.Reply.TheVariants.{No, Row, Entries, Head as head_reply}
 use Rattle.realm_model.proofs.Computing.{left_of, right_of}
 use Rattle.realm_model.proofs.ObjectLemmas.{number_same, put_cases, put_in_cases}
 use Rattle.index_law.specs.Tables.{entries_of, heads_of, rows_of, Notes}
@@ -133,7 +128,7 @@ module _ (w : World) (j : IndexHolds w) (me : ActorId) (moment : ℕ) where
     answer = head_reply (seen head number) now
 
     version_below : version_seen head number ≤ number
-    version_below = let old = heads_more w j moment zone container name in elim (head.version == 0) as (λ b. cond b number head.version ≤ number) [ | true ↦ omega arith | false ↦ old ]
+    version_below = let old = heads_more w j moment zone container name in elim (head.version == 0) as (λ b. cond b number head.version ≤ number) [ true ↦ omega arith | false ↦ old ]
 
     version_is : 0 < head.version → version_seen head number ≡ head.version
     version_is live =

@@ -1,25 +1,24 @@
 -- Rows stand: what an event leaves of them, and what its actor knows of them.
-use Rattle.std.proofs.Common.{◌≡◌, ◌⊎◌, inl, inr, ℕ, ◌+◌, ◌==◌, ◌≤◌, ◌&&◌, not, true, false, cond, List, Option, Some, None, refl, sym, subst, ap, ◌∙◌, arith}
+use Rattle.std.proofs.Common.{◌≡◌, ◌⊎◌, inl, inr, ℕ, ◌+◌, ◌==◌, true, false, cond, List, Option, Some, None, refl, arith}
 use Rattle.std.specs.List.{AllByRecursion}
 use Rattle.object_words.specs.declared.bucket.Bucket.{Bucket}
 use Rattle.object_words.specs.Keys.{put, shard_key, container_of}
 use Rattle.realm_model.specs.Needs.{is_new_shard}
-use Rattle.object_words.specs.Names.{Named, at, entries}
+use Rattle.object_words.specs.Names.{entries}
 use Rattle.realm_model.specs.Facts.{Home, Instance}
-use Rattle.realm_model.specs.Phases.{ActorId, FirstEvent, RowRead, OwnShards, Phase}
-use Rattle.realm_model.specs.Learnt.{with_read, rows_after, with_shards, shards_after, first_after, learnt}
+use Rattle.realm_model.specs.Phases.{ActorId, FirstEvent, OwnShards, Phase}
+use Rattle.realm_model.specs.Learnt.{with_read, with_shards, shards_after, first_after, learnt}
 use Rattle.realm_model.specs.States.{clock_at}
 use Rattle.realm_model.specs.Worlds.{World, put_actor}
 use Rattle.realm_model.specs.declared.op.Op.{Op}
-use Rattle.realm_model.specs.declared.op.Op.TheVariants.{BucketRead, BucketSwap, ShardMake, Announce}
+use Rattle.realm_model.specs.declared.op.Op.TheVariants.{BucketSwap, ShardMake, Announce}
 use Rattle.realm_model.specs.declared.event.Reply.{Reply}
-use Rattle.realm_model.specs.declared.event.Reply.TheVariants.{Done, No, Row, Position}
-use Rattle.realm_model.proofs.ObjectLemmas.{number_same, put_cases, put_actor_cases}
-use Rattle.index_law.specs.Tables.{Rows, rows_of, Instances, IsPlaced}
-use Rattle.index_law.specs.Rows.{IsNamed, IsInRow, IsKept, ReadIsNamed, RowsStand}
+use Rattle.realm_model.specs.declared.event.Reply.TheVariants.{Done, Position}
+use Rattle.realm_model.proofs.ObjectLemmas.{put_cases, put_actor_cases}
+use Rattle.index_law.specs.Tables.{rows_of, Instances}
+use Rattle.index_law.specs.Rows.{IsNamed, ReadIsNamed, RowsStand}
 use Rattle.index_law.specs.Invariants.{IndexHolds}
 use Rattle.index_law.proofs.NameLists.{all_with_name}
-use Rattle.index_law.proofs.NoteLemmas.{all_map}
 
 -- ---- tables that only grow
 

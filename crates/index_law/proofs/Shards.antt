@@ -1,11 +1,10 @@
 -- Shards are made once and stay, and those of a row were made by its maker.
-use Rattle.std.proofs.Common.{◌≡◌, ◌⊎◌, inl, inr, ⊎_elim, ℕ, ◌+◌, ◌==◌, ◌<◌, ◌≤◌, ◌&&◌, not, Bool, true, false, cond, List, [], ◌∷◌, Option, Some, None, refl, sym, subst, ap, ◌∙◌, arith}
-use Rattle.std.specs.Prelude.{is_some}
+use Rattle.std.proofs.Common.{◌≡◌, ℕ, ◌+◌, ◌==◌, ◌<◌, ◌&&◌, true, false, cond, List, [], ◌∷◌, Option, Some, None, refl, sym, subst, ap, ◌∙◌, arith}
 use Rattle.rgw_types.specs.declared.pool_key.Key.{Key}
 use Rattle.object_words.specs.declared.bucket.Bucket.{Bucket}
 use Rattle.object_words.specs.declared.why.Why.{Why}
-use Rattle.object_words.specs.Keys.{put, shard_key, container_of, number_of, is_key}
-use Rattle.object_words.specs.Names.{at, with_name}
+use Rattle.object_words.specs.Keys.{put, shard_key, container_of, is_key}
+use Rattle.object_words.specs.Names.{at}
 use Rattle.object_words.specs.Refusals.{unless_refused}
 use Rattle.object_words.specs.declared.log.LogWhat.TheVariants.{Bucket as bucket_row}
 use Rattle.object_words.specs.Logs.{logged}
@@ -16,19 +15,19 @@ use Rattle.object_words.specs.Shards.{Shard, new_shard, entry_at, with_entry}
 use Rattle.object_words.specs.ShardCalls.{made, prepare_refusal, complete_refusal, suggest_refusal, settled, suggested}
 use Rattle.object_words.specs.Tags.{with_tag, without_tag, tags_due_taken, guard_of}
 use Rattle.object_words.specs.Entries.{with_tags}
-use Rattle.object_words.proofs.KeyLemmas.{same_key, key_itself, same_text, number_itself}
+use Rattle.object_words.proofs.KeyLemmas.{same_key, key_itself, number_itself}
 use Rattle.object_words.proofs.NameLemmas.{is_name_of, at-none, at-with_name, at-without_name}
-use Rattle.realm_model.specs.Settings.{SettingsView, IsSettings}
+use Rattle.realm_model.specs.Settings.{SettingsView}
 use Rattle.realm_model.specs.Tests.{is_so}
 use Rattle.realm_model.specs.Ops.{zone_of}
 use Rattle.realm_model.specs.Phases.{ActorId, FirstEvent, OwnShards, Phase}
-use Rattle.realm_model.specs.Needs.{is_between, is_next_shard, is_new_shard, is_first, is_form, is_make, takes_over}
-use Rattle.realm_model.specs.Allowed.{meets_need, allowed}
+use Rattle.realm_model.specs.Needs.{is_between, is_new_shard, is_first, is_form}
+use Rattle.realm_model.specs.Allowed.{meets_need}
 use Rattle.realm_model.specs.Learnt.{with_shards, shards_after, first_after, learnt}
 use Rattle.realm_model.specs.States.{State, at_moment, clock_at, put_in}
 use Rattle.realm_model.specs.Steps.{is_master, change_at, on_shard, new_tag, suggest_event_refusal, reply_or, reply_of, after}
 use Rattle.realm_model.specs.Worlds.{World, start, put_actor, actor_of, happens}
-use Rattle.realm_model.specs.Histories.{run, world_of, IsNext, LegalFrom, Legal}
+use Rattle.realm_model.specs.Histories.{run, world_of, LegalFrom, Legal}
 use Rattle.realm_model.specs.declared.op.Op.{Op}
 use Rattle.realm_model.specs.declared.op.Op.TheVariants.{BucketRead, BucketSwap, ShardMake, Prepare, Complete, Cancel, Page, Suggest, Stats, HeadRead, HeadWrite, TailMake, TailRead, Announce}
 use Rattle.realm_model.specs.declared.event.Event.{Event}
@@ -41,7 +40,6 @@ use Rattle.index_law.specs.Serving.{IsServing, IsMade, ShardsServe}
 use Rattle.index_law.proofs.Puts.{call_cases}
 use Rattle.index_law.proofs.Tests.{So, so}
 use Rattle.index_law.proofs.Keeping.{Form, form_of}
-use Rattle.index_law.proofs.EntryFacts.{not_stale}
 
 abbrev Pool : Type 0
 Pool = ℕ → Key → Option Shard

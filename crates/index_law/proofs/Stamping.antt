@@ -1,15 +1,13 @@
 -- A change has a stamp that was never given, and other events give none.
-use Rattle.std.proofs.Common.{◌≡◌, ◌⊎◌, inl, inr, ⊎_elim, ℕ, ◌+◌, ◌-◌, ◌==◌, ◌<◌, ◌≤◌, ◌^◌, Bool, true, false, cond, List, [], ◌∷◌, ◌++◌, length, Option, Some, None, refl, sym, subst, ap, ◌∙◌, arith}
-use Rattle.std.specs.Prelude.{bytes_eq, IfSome}
+use Rattle.std.proofs.Common.{◌≡◌, ◌⊎◌, inl, inr, ⊎_elim, ℕ, ◌+◌, ◌-◌, ◌==◌, ◌≤◌, ◌^◌, true, false, cond, List, [], ◌∷◌, Option, Some, None, refl, sym, subst, ap, ◌∙◌, arith}
+use Rattle.std.specs.Prelude.{bytes_eq}
 use Rattle.rgw_model.specs.declared.slot.Slot.{Slot}
 use Rattle.rgw_types.specs.declared.stamp.Stamp.{Stamp}
-use Rattle.rgw_types.specs.Stamps.{IsEarlier, stamp_above}
+use Rattle.rgw_types.specs.Stamps.{stamp_above}
 use Rattle.object_words.specs.declared.entry.Guard.{Guard}
-use Rattle.object_words.specs.declared.head.Changed.{Changed as ChangedOf}
 use Rattle.object_words.specs.declared.head.Conditions.{Conditions}
 use Rattle.object_words.specs.declared.head.NewHead.{NewHead}
 use Rattle.object_words.specs.declared.head.SeenSlot.TheVariants.{Live}
-use Rattle.object_words.specs.declared.why.Why.{Why}
 use Rattle.object_words.specs.Keys.{put, head_key}
 use Rattle.object_words.specs.Heads.{Head, seen_stamp}
 use Rattle.object_words.specs.HeadCalls.{write_refusal, stamp_next, change_of}
@@ -17,16 +15,16 @@ use Rattle.object_words.specs.Refusals.{unless_refused}
 use Rattle.object_words.proofs.KeyLemmas.{number_itself}
 use Rattle.realm_model.specs.Settings.{SettingsView, IsSettings}
 use Rattle.realm_model.specs.Tests.{same_stamp}
-use Rattle.realm_model.specs.Maps.{Made, whole_slot, slot_at, heads}
-use Rattle.realm_model.specs.States.{State, at_moment, clock_at, put_in}
+use Rattle.realm_model.specs.Maps.{whole_slot}
+use Rattle.realm_model.specs.States.{State, at_moment, put_in}
 use Rattle.realm_model.specs.Steps.{reply_or, reply_of, after}
 use Rattle.realm_model.specs.Worlds.{World, start, put_name, put_stamp, slots_after, happens}
-use Rattle.realm_model.specs.Histories.{run, world_of, IsNext, LegalFrom, Legal}
+use Rattle.realm_model.specs.Histories.{run, world_of, LegalFrom, Legal}
 use Rattle.realm_model.specs.declared.op.Op.{Op}
 use Rattle.realm_model.specs.declared.op.Op.TheVariants.{BucketRead, BucketSwap, ShardMake, Prepare, Complete, Cancel, Page, Suggest, Stats, HeadRead, HeadWrite, TailMake, TailRead, Announce}
 use Rattle.realm_model.specs.declared.event.Event.{Event}
 use Rattle.realm_model.specs.declared.event.Reply.{Reply}
-use Rattle.realm_model.specs.declared.event.Reply.TheVariants.{No, Changed}
+use Rattle.realm_model.specs.declared.event.Reply.TheVariants.{Changed}
 use Rattle.realm_model.proofs.ObjectLemmas.{number_same}
 use Rattle.realm_model.proofs.TouchLemmas.{put_in_same}
 use Rattle.std.proofs.lemmas.Slice.Eq.{bytes_eq-Decides}

@@ -1,5 +1,5 @@
 -- A suggestion that is done: the tags that were due are taken out, and the row is stored where it is newer.
-use Rattle.std.proofs.Common.{◌≡◌, ◌⊎◌, inl, inr, ⊎_elim, ℕ, ◌+◌, ◌<◌, ◌≤◌, ◌^◌, true, false, List, Option, Some, None, refl, sym, subst, ap, ◌∙◌, arith}
+use Rattle.std.proofs.Common.{◌≡◌, ◌⊎◌, inl, inr, ℕ, ◌+◌, ◌<◌, ◌≤◌, true, List, Option, Some, sym, subst, ap, ◌∙◌, arith}
 use Rattle.std.proofs.Math.Decide.{dec_lt}
 use Rattle.rgw_types.specs.declared.pool_key.Key.{Key}
 use Rattle.object_words.specs.Keys.{put, container_of}
@@ -15,14 +15,12 @@ use Rattle.realm_model.specs.Learnt.{learnt}
 use Rattle.realm_model.specs.States.{clock_at, put_in}
 use Rattle.realm_model.specs.Worlds.{World, put_actor}
 use Rattle.realm_model.specs.declared.op.Op.{Op}
-use Rattle.realm_model.specs.declared.event.Reply.{Reply}
 use Rattle.realm_model.specs.declared.event.Reply.TheVariants.{Done}
-use Rattle.index_law.specs.Tables.{entries_of, heads_of, rows_of, changes_of, IsPlaced}
+use Rattle.index_law.specs.Tables.{entries_of, heads_of, rows_of, changes_of}
 use Rattle.index_law.specs.Agreements.{HasLast}
 use Rattle.index_law.specs.Sights.{Still, Later}
 use Rattle.index_law.specs.Invariants.{Index, IndexHolds}
 use Rattle.index_law.proofs.TagLists.{any_taken, all_taken}
-use Rattle.index_law.proofs.Puts.{kept_entry}
 use Rattle.index_law.proofs.Tests.{Suggests}
 use Rattle.index_law.proofs.NoteLemmas.{calm_same}
 use Rattle.index_law.proofs.NumberLaws.{stored_numbered, tags_more}

@@ -1,19 +1,18 @@
 -- What the tests of an actor's phase say.
-use Rattle.std.proofs.Common.{◌≡◌, ℕ, ◌==◌, ◌&&◌, not, Bool, true, false, List, Option, Some, None, refl, sym, ap, ◌∙◌}
+use Rattle.std.proofs.Common.{◌≡◌, ℕ, ◌==◌, not, Bool, true, false, List, Option, Some, None, refl, sym}
 use Rattle.std.specs.Prelude.{bytes_eq, is_some}
 use Rattle.std.proofs.lemmas.Slice.Eq.{bytes_eq-Decides}
 use Rattle.rgw_types.specs.declared.pool_key.Key.{Key}
 use Rattle.rgw_types.specs.declared.stamp.Stamp.{Stamp}
 use Rattle.object_words.specs.declared.entry.Guard.{Guard}
-use Rattle.object_words.specs.Keys.{is_key, container_of}
+use Rattle.object_words.specs.Keys.{container_of}
 use Rattle.object_words.specs.Rows.{RowView}
-use Rattle.object_words.proofs.KeyLemmas.{same_key}
-use Rattle.realm_model.specs.Tests.{same_flag, same_stamp, same_guard, same_row, is_so}
+use Rattle.realm_model.specs.Tests.{same_flag, same_stamp, same_row, is_so}
 use Rattle.realm_model.specs.Phases.{OwnChange, OwnTag, Sighting, Phase}
-use Rattle.realm_model.specs.Needs.{is_pending, is_over, is_tag_of, is_change, is_shard_of_tag, may_change_head, is_suggestion}
+use Rattle.realm_model.specs.Needs.{is_pending, is_over, is_tag_of, is_change, may_change_head, is_suggestion}
 use Rattle.realm_model.specs.Settings.{SettingsView}
 use Rattle.realm_model.specs.Allowed.{meets_need}
-use Rattle.realm_model.specs.declared.op.Op.TheVariants.{Complete, Cancel, Suggest}
+use Rattle.realm_model.specs.declared.op.Op.TheVariants.{Complete, Cancel}
 use Rattle.realm_model.proofs.Computing.{left_of, right_of}
 use Rattle.realm_model.proofs.ObjectLemmas.{number_same}
 

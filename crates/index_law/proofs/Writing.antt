@@ -1,18 +1,15 @@
 -- A change of a head that is done: the head and the last tag of its name are others, and the tag has its change.
-use Rattle.std.proofs.Common.{◌≡◌, ◌≢◌, ◌⊎◌, inl, inr, ⊎_elim, ℕ, ◌+◌, ◌==◌, ◌<◌, ◌≤◌, ◌^◌, true, false, List, Option, Some, None, refl, sym, subst, ap, ◌∙◌, arith}
+use Rattle.std.proofs.Common.{◌≡◌, inl, inr, ⊎_elim, ℕ, ◌+◌, ◌==◌, ◌<◌, ◌≤◌, ◌^◌, true, false, List, Option, Some, None, refl, sym, subst, ap, ◌∙◌, arith}
 use Rattle.std.specs.List.{AllByRecursion}
 use Rattle.rgw_types.specs.declared.pool_key.Key.{Key}
 use Rattle.object_words.specs.declared.bucket.Bucket.{Bucket}
 use Rattle.object_words.specs.declared.entry.Guard.{Guard}
-use Rattle.object_words.specs.declared.head.Changed.{Changed as ChangedOf}
 use Rattle.object_words.specs.declared.head.SeenSlot.{SeenSlot}
 use Rattle.object_words.specs.Hashes.{shard_of}
 use Rattle.object_words.specs.Keys.{put, container_of, instance_of, shard_key, head_key}
 use Rattle.object_words.specs.Names.{entries as names_of}
 use Rattle.object_words.specs.Tags.{has_tag, has_due}
-use Rattle.object_words.specs.Entries.{EntryView}
 use Rattle.object_words.specs.Heads.{Head, no_head, row_of}
-use Rattle.object_words.proofs.KeyLemmas.{number_itself}
 use Rattle.realm_model.specs.Facts.{TagNote, Home}
 use Rattle.realm_model.specs.Phases.{ActorId, OwnChange, OwnTag, Sighting, Phase}
 use Rattle.realm_model.specs.Learnt.{changed, learnt}
@@ -21,23 +18,22 @@ use Rattle.realm_model.specs.Worlds.{World, put_actor, put_name, changed_note}
 use Rattle.realm_model.specs.declared.op.Op.{Op}
 use Rattle.realm_model.specs.declared.event.Reply.{Reply}
 use Rattle.realm_model.proofs.ObjectLemmas.{number_same, put_actor_cases}
-use Rattle.index_law.specs.Tables.{entries_of, Heads, heads_of, rows_of, Notes, Lasts, Instances, changes_of, change_in, IsPlaced}
-use Rattle.index_law.specs.Numbers.{Numbers}
-use Rattle.index_law.specs.Rows.{IsInRow, RowsStand, ReadIsNamed}
-use Rattle.index_law.specs.Tags.{IsNoted, IsOwn, TagsOfPrepare, OpenTags}
+use Rattle.index_law.specs.Tables.{entries_of, Heads, heads_of, rows_of, Notes, Lasts, changes_of, IsPlaced}
+use Rattle.index_law.specs.Rows.{ReadIsNamed}
+use Rattle.index_law.specs.Tags.{IsOwn}
 use Rattle.index_law.specs.Changes.{IsBelow, IsLast, ChangesBelow}
-use Rattle.index_law.specs.Agreements.{Told, HasLast, Agreement, Agreements}
-use Rattle.index_law.specs.Sights.{Still, Later, IsSafe, Sights}
+use Rattle.index_law.specs.Agreements.{Agreement, Agreements}
+use Rattle.index_law.specs.Sights.{IsSafe}
 use Rattle.index_law.specs.Reads.{StaysTrue}
 use Rattle.index_law.specs.Invariants.{Index, IndexHolds}
 use Rattle.index_law.proofs.Puts.{head_here, Elsewhere, head_cases, phase_cases}
-use Rattle.index_law.proofs.Tests.{OwnsTag, Writes}
+use Rattle.index_law.proofs.Tests.{Writes}
 use Rattle.index_law.proofs.NoteLemmas.{NoteStays, Back, SamePlace, with_change, changing, keeps_turned, turned_back, turned_here, noted_more, all_map, at_place}
 use Rattle.index_law.proofs.NumberLaws.{entries_more, heads_more, tags_more, homes_more, instances_more, numbers_after}
 use Rattle.index_law.proofs.RowLaws.{rows_stay}
 use Rattle.index_law.proofs.EntryLaws.{safe_same}
 use Rattle.index_law.proofs.Owns.{own_changed, own_other}
-use Rattle.index_law.proofs.EntryFacts.{noted_at, has_note, due_placed}
+use Rattle.index_law.proofs.EntryFacts.{noted_at, due_placed}
 use Rattle.index_law.proofs.Events.{clock_rises, count_rises}
 
 -- a name belongs into one shard of its container in a zone
@@ -211,15 +207,15 @@ module _ (w : World) (j : IndexHolds w) (me : ActorId) (moment : ℕ) (op : Op) 
               let made = l.made in
               absurd cc
           | false ↦ λ apart. record {
-              note = l.note;
-              there = rw apart l.there;
-              zone_is = l.zone_is;
-              container_is = l.container_is;
-              name_is = l.name_is;
-              change = l.change;
-              made = l.made;
-              version_is = l.version_is;
-            }
+            note = l.note;
+            there = rw apart l.there;
+            zone_is = l.zone_is;
+            container_is = l.container_is;
+            name_is = l.name_is;
+            change = l.change;
+            made = l.made;
+            version_is = l.version_is;
+          }
         ] refl
 
   -- ---- agreement

@@ -5,7 +5,7 @@ use Rattle.object_words.specs.declared.entry.Tag.{Tag}
 use Rattle.object_words.specs.Keys.{container_of}
 use Rattle.object_words.specs.Tags.{has_tag}
 use Rattle.object_words.specs.Entries.{EntryView}
-use Rattle.object_words.specs.Heads.{Head, row_of}
+use Rattle.object_words.specs.Heads.{Head}
 use Rattle.realm_model.specs.Containers.{Shows}
 use Rattle.realm_model.specs.Phases.{OwnChange}
 use Rattle.index_law.specs.Tables.{Entries, Heads, Lasts, Instances, IsPlaced}

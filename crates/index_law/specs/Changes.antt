@@ -1,5 +1,5 @@
 -- Changes of heads under tags: none is above its head, and the last one is the head's.
-use Rattle.std.specs.Prelude.{◌≡◌, ℕ, ◌<◌, ◌≤◌, List, Option, Some, None}
+use Rattle.std.specs.Prelude.{◌≡◌, ℕ, ◌<◌, ◌≤◌, List, Some, None}
 use Rattle.object_words.specs.Keys.{container_of}
 use Rattle.object_words.specs.Heads.{Head, no_head, row_of}
 use Rattle.realm_model.specs.Facts.{TagNote}

@@ -1,5 +1,5 @@
 -- Reads that stay true: an entry with the revision that was seen and a tag that was due then is unchanged.
-use Rattle.std.specs.Prelude.{◌≡◌, ℕ, ◌<◌, ◌≤◌, ◌^◌, true, List, Option, Some}
+use Rattle.std.specs.Prelude.{◌≡◌, ℕ, ◌<◌, ◌≤◌, ◌^◌, true, List, Some}
 use Rattle.rgw_types.specs.declared.pool_key.Key.{Key}
 use Rattle.object_words.specs.Tags.{has_due}
 use Rattle.object_words.specs.Entries.{EntryView}

@@ -38,7 +38,7 @@ pub fn the_index_holds()
     ensures shards { (settings : SettingsView) (history later : List EventOf)
         → Legal settings (history ++ later)
         → ShardsServe (state_of settings history).shards (rows_of (state_of settings history).root)
-            (world_of settings history).phases }
+        (world_of settings history).phases }
 {}
 
 /// From any world in which the parts over tables hold, an event that may come next keeps them.
@@ -56,14 +56,14 @@ pub fn settled_names_are_shown()
         → row_in (world_of settings history).rows (state_of settings history) zone container ≡ Some row
         → is_settled (entry_of_name (state_of settings history) zone row name) ≡ true
         → Shows (entry_of_name (state_of settings history) zone row name)
-            (slot_at (heads history zone container) name) }
+        (slot_at (heads history zone container) name) }
     ensures listed { (settings : SettingsView) (history : List EventOf) (zone container : ℕ)
         → (name : List ℕ) (row : BucketOf) → IsSettings settings → Legal settings history
         → row_in (world_of settings history).rows (state_of settings history) zone container ≡ Some row
         → is_settled (entry_of_name (state_of settings history) zone row name) ≡ true
         → is_live (slot_at (heads history zone container) name) ≡ true
         → IsSomeAnd (found_in ((state_of settings history).shards zone (key_of_name row name)) name)
-            (λ e. Shows e (slot_at (heads history zone container) name)) }
+        (λ e. Shows e (slot_at (heads history zone container) name)) }
     ensures counted { (settings : SettingsView) (history : List EventOf) (zone container : ℕ)
         → (name : List ℕ) (row : BucketOf) → IsSettings settings → Legal settings history
         → row_in (world_of settings history).rows (state_of settings history) zone container ≡ Some row
@@ -85,7 +85,7 @@ pub fn shards_of_rows_serve()
         → row_in (world_of settings history).rows (state_of settings history) zone container ≡ Some row
         → shard < row.shards
         → IsSomeAnd ((state_of settings history).shards zone (shard_key container row.instance shard))
-            IsServing }
+        IsServing }
 {}
 
 /// The statistics that a shard answers are the sums over its entries.
@@ -105,7 +105,7 @@ pub fn a_change_has_a_new_stamp()
         → length history < 2 ^ 62
         → e.op ≡ HeadWrite zone container name guard new when_asked → e.reply ≡ Changed change
         → IfSome (seen_stamp (slot_at (heads history zone container) name))
-            (λ before. IsEarlier before change.stamp) }
+        (λ before. IsEarlier before change.stamp) }
     ensures unused { (settings : SettingsView) (history : List EventOf) (e : EventOf)
         → (zone container : ℕ) (name : List ℕ) (guard : GuardOf) (new : NewHeadOf)
         → (when_asked : ConditionsOf) (change : ChangedOf) → IsSettings settings
