@@ -207,6 +207,23 @@ module _ (changes : ℕ → Option OwnChange) (h : Head) (last : Option ℕ) (e 
 
 -- ---- what was seen
 
+-- what makes a suggestion safe stays so with more notes, and where the entry still has the tag or the version
+safe_still : (tags tags' : Notes) (h : Head) (last : Option ℕ) (e e' : EntryView) (moment : ℕ) (read : OwnChange) → Keeps tags tags'
+    → ((version tag : ℕ) (note : TagNote) → version < h.version → last ≡ Some tag → tags tag ≡ Some note → moment < note.deadline → (has_tag tag e.tags ≡ true) ⊎ (version ≤ e.version) → (has_tag tag e'.tags ≡ true) ⊎ (version ≤ e'.version))
+    → Still h read ⊎ Later tags h last e moment read.version → Still h read ⊎ Later tags' h last e' moment read.version
+safe_still tags tags' h last e e' moment read keeps stays (inl still) = inl still
+safe_still tags tags' h last e e' moment read keeps stays (inr l) =
+    let n = keeps l.tag l.note l.there in
+    inr (record {
+      above = l.above;
+      tag = l.tag;
+      last_is = l.last_is;
+      note = n.note;
+      there = n.there;
+      late = subst (λ d. moment < d) (sym n.same.deadline) l.late;
+      stays = stays read.version l.tag l.note l.above l.last_is l.there l.late l.stays;
+    })
+
 -- an entry that changed: no tag is due that was not, and what made a suggestion safe stays
 pub safe_changed : (count clock count' clock' : ℕ) (tags tags' : Notes) (h : Head) (last : Option ℕ) (e e' : EntryView) (s : Sighting) → count ≤ count' → clock ≤ clock' → Keeps tags tags'
     → (has_due s.moment e'.tags ≡ true → has_due s.moment e.tags ≡ true)
@@ -217,21 +234,11 @@ safe_changed count clock count' clock' tags tags' h last e e' s more later keeps
     record {
       past = omega (arith, past, later);
       read_below = λ read there. let under = is.read_below read there in omega (arith, under, more);
-      safe = λ was read there. subst (λ x. Still h read ⊎ Later tags' h last x s.moment read.version) (sym (kept_due e' s.moment was)) (by_case read (is.safe (due (subst (λ x. has_due s.moment x.tags ≡ true) (kept_due e' s.moment was) was)) read there));
-    } where
-      by_case : (read : OwnChange) → Still h read ⊎ Later tags h last e s.moment read.version → Still h read ⊎ Later tags' h last e' s.moment read.version
-      by_case read (inl still) = inl still
-      by_case read (inr l) =
-          let n = keeps l.tag l.note l.there in
-          inr (record {
-            above = l.above;
-            tag = l.tag;
-            last_is = l.last_is;
-            note = n.note;
-            there = n.there;
-            late = subst (λ d. s.moment < d) (sym n.same.deadline) l.late;
-            stays = stays read.version l.tag l.note l.above l.last_is l.there l.late l.stays;
-          })
+      safe = λ was read there.
+          let kept = kept_due e' s.moment was in
+          let before = is.safe (due (subst (λ x. has_due s.moment x.tags ≡ true) kept was)) read there in
+          subst (λ x. Still h read ⊎ Later tags' h last x s.moment read.version) (sym kept) (safe_still tags tags' h last e e' s.moment read keeps stays before);
+    }
 
 -- and an entry that did not
 pub safe_same : (count clock count' clock' : ℕ) (tags tags' : Notes) (h : Head) (last : Option ℕ) (e : EntryView) (s : Sighting) → count ≤ count' → clock ≤ clock' → Keeps tags tags'
@@ -241,21 +248,8 @@ safe_same count clock count' clock' tags tags' h last e s more later keeps is =
     record {
       past = omega (arith, past, later);
       read_below = λ read there. let under = is.read_below read there in omega (arith, under, more);
-      safe = λ was read there. by_case read (is.safe was read there);
-    } where
-      by_case : (read : OwnChange) → Still h read ⊎ Later tags h last e s.moment read.version → Still h read ⊎ Later tags' h last e s.moment read.version
-      by_case read (inl still) = inl still
-      by_case read (inr l) =
-          let n = keeps l.tag l.note l.there in
-          inr (record {
-            above = l.above;
-            tag = l.tag;
-            last_is = l.last_is;
-            note = n.note;
-            there = n.there;
-            late = subst (λ d. s.moment < d) (sym n.same.deadline) l.late;
-            stays = l.stays;
-          })
+      safe = λ was read there. safe_still tags tags' h last e e s.moment read keeps (λ version tag note above last_is noted late stays. stays) (is.safe was read there);
+    }
 
 -- the revision of an entry that changed is above all that was seen of it
 pub stays_changed : (count : ℕ) (e e' : EntryView) (s : Sighting) → count < 2 ^ 62 → e.revision ≤ count → e'.revision ≡ e.revision + 1 → (has_due s.moment e'.tags ≡ true → has_due s.moment e.tags ≡ true)

@@ -47,6 +47,20 @@ own_turned g f turns tags me t t' n guard zone key name change stage =
       not_ended = stage n.note n.not_ended;
     }
 
+-- the note is the same in other notes
+own_same : (tags tags' : Notes) (a : ActorId) (t : OwnTag) (n : IsOwn tags a t) → tags' t.guard.tag ≡ Some n.note → IsOwn tags' a t
+own_same tags tags' a t n there = record {
+  note = n.note;
+  there = there;
+  actor_is = n.actor_is;
+  zone_is = n.zone_is;
+  key_is = n.key_is;
+  name_is = n.name_is;
+  deadline_is = n.deadline_is;
+  change_is = n.change_is;
+  not_ended = n.not_ended;
+}
+
 -- another's note did not
 pub own_other : (g : Option TagNote → Option TagNote) (tags : Notes) (me a : ActorId) (tag : ℕ) (t : OwnTag) (note : TagNote) → tags tag ≡ Some note → note.actor ≡ me → same_actor a me ≡ false → IsOwn tags a t → IsOwn (put tags tag (g (tags tag))) a t
 own_other g tags me a tag t note there mine apart n =
@@ -55,17 +69,7 @@ own_other g tags me a tag t note there mine apart n =
           let one : Some note ≡ Some n.note = sym there ∙ ap tags (number_same tag t.guard.tag same) ∙ n.there in
           let actors : a ≡ me = let notes : note ≡ n.note = cc in sym n.actor_is ∙ ap (λ (x : TagNote). x.actor) (sym notes) ∙ mine in
           absurd (let self = subst (λ x. same_actor x me ≡ true) (sym actors) (actor_itself me) in cc)
-      | false ↦ λ other. record {
-        note = n.note;
-        there = rw other n.there;
-        actor_is = n.actor_is;
-        zone_is = n.zone_is;
-        key_is = n.key_is;
-        name_is = n.name_is;
-        deadline_is = n.deadline_is;
-        change_is = n.change_is;
-        not_ended = n.not_ended;
-      }
+      | false ↦ λ other. own_same tags (put tags tag (g (tags tag))) a t n (rw other n.there)
     ] refl
 
 -- a note more
@@ -73,17 +77,7 @@ pub own_added : (tags : Notes) (number : ℕ) (new : TagNote) → ((note : TagNo
 own_added tags number new none a t n =
     elim (number == t.guard.tag) as (λ b. (number == t.guard.tag) ≡ b → IsOwn (put tags number (Some new)) a t) [
       | true ↦ λ same. absurd (none n.note (ap tags (number_same number t.guard.tag same) ∙ n.there))
-      | false ↦ λ other. record {
-        note = n.note;
-        there = rw other n.there;
-        actor_is = n.actor_is;
-        zone_is = n.zone_is;
-        key_is = n.key_is;
-        name_is = n.name_is;
-        deadline_is = n.deadline_is;
-        change_is = n.change_is;
-        not_ended = n.not_ended;
-      }
+      | false ↦ λ other. own_same tags (put tags number (Some new)) a t n (rw other n.there)
     ] refl
 
 -- ---- the own tag of an actor

@@ -27,7 +27,7 @@ use Rattle.realm_model.specs.Learnt.{with_shards, shards_after, first_after, lea
 use Rattle.realm_model.specs.States.{State, at_moment, clock_at, put_in}
 use Rattle.realm_model.specs.Steps.{is_master, change_at, on_shard, new_tag, suggest_event_refusal, reply_or, reply_of, after}
 use Rattle.realm_model.specs.Worlds.{World, start, put_actor, actor_of, happens}
-use Rattle.realm_model.specs.Histories.{run, world_of, LegalFrom, Legal}
+use Rattle.realm_model.specs.Histories.{run, world_of, IsNext, LegalFrom, Legal}
 use Rattle.realm_model.specs.declared.op.Op.{Op}
 use Rattle.realm_model.specs.declared.op.Op.TheVariants.{BucketRead, BucketSwap, ShardMake, Prepare, Complete, Cancel, Page, Suggest, Stats, HeadRead, HeadWrite, TailMake, TailRead, Announce}
 use Rattle.realm_model.specs.declared.event.Event.{Event}
@@ -277,13 +277,15 @@ module _ (settings : SettingsView) (w : World) (j : ShardsServe w.state.shards (
   serves_by (TailRead zone write part start count) may = unchanged (TailRead zone write part start count) (reply_of settings st (TailRead zone write part start count)) (λ z k is. cc)
   serves_by (Announce zone container instance shard bucket) may = unchanged (Announce zone container instance shard bucket) (reply_of settings st (Announce zone container instance shard bucket)) (λ z k is. cc)
 
+pub serves_next : (settings : SettingsView) (w : World) (e : Event) → ShardsServe w.state.shards (rows_of w.state.root) w.phases → IsNext settings w e → ShardsServe (happens settings w e).state.shards (rows_of (happens settings w e).state.root) (happens settings w e).phases
+serves_next settings w e j next =
+    let me = actor_of e in
+    let need = right_of (is_between 1 settings.zones (zone_of e.op)) (meets_need settings (w.phases me) e.op) next.may in
+    subst (λ r. Left settings w j me e.moment e.op r) (sym next.answer) (serves_by settings w j me e.moment e.op need)
+
 serves_from : (settings : SettingsView) (w : World) (es : List Event) → LegalFrom settings w es → ShardsServe w.state.shards (rows_of w.state.root) w.phases → ShardsServe (run settings w es).state.shards (rows_of (run settings w es).state.root) (run settings w es).phases
 serves_from settings w [] legal j = j
-serves_from settings w (e ∷ es) legal j =
-    let me = actor_of e in
-    let need = right_of (is_between 1 settings.zones (zone_of e.op)) (meets_need settings (w.phases me) e.op) legal.0.may in
-    serves_from settings (happens settings w e) es legal.1
-    (subst (λ r. Left settings w j me e.moment e.op r) (sym legal.0.answer) (serves_by settings w j me e.moment e.op need))
+serves_from settings w (e ∷ es) legal j = serves_from settings (happens settings w e) es legal.1 (serves_next settings w e j legal.0)
 
 pub shards_serve : (settings : SettingsView) (history : List Event) → Legal settings history → ShardsServe (world_of settings history).state.shards (rows_of (world_of settings history).state.root) (world_of settings history).phases
 shards_serve settings history legal =

@@ -19,7 +19,7 @@ use Rattle.realm_model.specs.Maps.{whole_slot}
 use Rattle.realm_model.specs.States.{State, at_moment, put_in}
 use Rattle.realm_model.specs.Steps.{reply_or, reply_of, after}
 use Rattle.realm_model.specs.Worlds.{World, start, put_name, put_stamp, slots_after, happens}
-use Rattle.realm_model.specs.Histories.{run, world_of, LegalFrom, Legal}
+use Rattle.realm_model.specs.Histories.{run, world_of, IsNext, LegalFrom, Legal}
 use Rattle.realm_model.specs.declared.op.Op.{Op}
 use Rattle.realm_model.specs.declared.op.Op.TheVariants.{BucketRead, BucketSwap, ShardMake, Prepare, Complete, Cancel, Page, Suggest, Stats, HeadRead, HeadWrite, TailMake, TailRead, Announce}
 use Rattle.realm_model.specs.declared.event.Event.{Event}
@@ -173,12 +173,15 @@ module _ (settings : SettingsView) (w : World) (j : IndexHolds w) (given : Stamp
   given_by (TailRead zone write part start count) = given
   given_by (Announce zone container instance shard bucket) = given
 
+pub given_next : (settings : SettingsView) (w : World) (e : Event) → IndexHolds w → StampsGiven (heads_of w.state.heads) w.stamps.slots → IsNext settings w e → StampsGiven (heads_of (happens settings w e).state.heads) (happens settings w e).stamps.slots
+given_next settings w e j given next = subst (λ r. Left settings w j given e.moment e.op r) (sym next.answer) (given_by settings w j given e.moment e.op)
+
 given_from : (settings : SettingsView) → IsSettings settings → (w : World) (es : List Event) → LegalFrom settings w es → IndexHolds w → StampsGiven (heads_of w.state.heads) w.stamps.slots
     → StampsGiven (heads_of (run settings w es).state.heads) (run settings w es).stamps.slots
 given_from settings good w [] legal j given = given
 given_from settings good w (e ∷ es) legal j given =
     given_from settings good (happens settings w e) es legal.1 (keeps settings good w j e legal.0)
-    (subst (λ r. Left settings w j given e.moment e.op r) (sym legal.0.answer) (given_by settings w j given e.moment e.op))
+    (given_next settings w e j given legal.0)
 
 pub stamps_given : (settings : SettingsView) (history : List Event) → IsSettings settings → Legal settings history → StampsGiven (heads_of (world_of settings history).state.heads) (world_of settings history).stamps.slots
 stamps_given settings history good legal =

@@ -96,6 +96,15 @@ pub record Writes (p : Phase) (zone container : ℕ) (name : List ℕ) (guard : 
   pub deadline_is : (owns.t).guard.deadline ≡ guard.deadline
   pub change_is : (owns.t).change ≡ None
 
+abbrev owns_tag : (p : Phase) (t : OwnTag) (zone : ℕ) (name : List ℕ) (tag : ℕ) → p.tag ≡ Some t → is_tag_of t zone name ≡ true → (t.guard.tag == tag) ≡ true → OwnsTag p zone name tag
+owns_tag p t zone name tag is of tag_is = record {
+  t = t;
+  is = is;
+  zone_is = number_same t.zone zone (left_of (t.zone == zone) (bytes_eq t.name name) of);
+  name_is = same_text t.name name (right_of (t.zone == zone) (bytes_eq t.name name) of);
+  tag_is = number_same t.guard.tag tag tag_is;
+}
+
 module _ (settings : SettingsView) (p : Phase) (zone : ℕ) (key : Key) (name : List ℕ) (tag : ℕ) where
   pub completes : (version : ℕ) (row : RowView) → meets_need settings p (Complete zone key name tag version row) ≡ true → Completes p zone name tag version row
   completes version row may =
@@ -106,13 +115,7 @@ module _ (settings : SettingsView) (p : Phase) (zone : ℕ) (key : Key) (name : 
       let more = right_of (is_tag_of t zone name) _ rest in
       let last = right_of (t.guard.tag == tag) _ more in
       record {
-        owns = record {
-          t = t;
-          is = o.is;
-          zone_is = number_same t.zone zone (left_of (t.zone == zone) (bytes_eq t.name name) of);
-          name_is = same_text t.name name (right_of (t.zone == zone) (bytes_eq t.name name) of);
-          tag_is = number_same t.guard.tag tag (left_of (t.guard.tag == tag) _ more);
-        };
+        owns = owns_tag p t zone name tag o.is of (left_of (t.guard.tag == tag) _ more);
         change_is = change_of t.change version row (left_of (is_change t.change version row) _ last);
       }
 
@@ -125,13 +128,7 @@ module _ (settings : SettingsView) (p : Phase) (zone : ℕ) (key : Key) (name : 
       let of = left_of (is_tag_of t zone name) _ more in
       let last = right_of (is_tag_of t zone name) _ more in
       record {
-        owns = record {
-          t = t;
-          is = o.is;
-          zone_is = number_same t.zone zone (left_of (t.zone == zone) (bytes_eq t.name name) of);
-          name_is = same_text t.name name (right_of (t.zone == zone) (bytes_eq t.name name) of);
-          tag_is = number_same t.guard.tag tag (left_of (t.guard.tag == tag) _ last);
-        };
+        owns = owns_tag p t zone name tag o.is of (left_of (t.guard.tag == tag) _ last);
         change_is = none_of t.change (left_of (not (is_some t.change)) _ rest);
       }
 
@@ -146,13 +143,7 @@ writes p zone container name guard may =
     let last = right_of (is_tag_of t zone name) _ place in
     let same = right_of (container_of t.key == container) _ last in
     record {
-      owns = record {
-        t = t;
-        is = o.is;
-        zone_is = number_same t.zone zone (left_of (t.zone == zone) (bytes_eq t.name name) of);
-        name_is = same_text t.name name (right_of (t.zone == zone) (bytes_eq t.name name) of);
-        tag_is = number_same t.guard.tag guard.tag (left_of (t.guard.tag == guard.tag) (t.guard.deadline == guard.deadline) same);
-      };
+      owns = owns_tag p t zone name guard.tag o.is of (left_of (t.guard.tag == guard.tag) (t.guard.deadline == guard.deadline) same);
       pending = left_of (is_pending t.stage) _ o.passes;
       container_is = number_same (container_of t.key) container (left_of (container_of t.key == container) _ last);
       deadline_is = number_same t.guard.deadline guard.deadline (right_of (t.guard.tag == guard.tag) (t.guard.deadline == guard.deadline) same);

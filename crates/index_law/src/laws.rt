@@ -15,7 +15,7 @@ ghost use Rattle.realm_model.specs.Containers.{row_in, key_of_name, entry_of_nam
 ghost use Rattle.realm_model.specs.Counts.{live_count, live_bytes};
 ghost use Rattle.realm_model.specs.Maps.{slot_at, heads};
 ghost use Rattle.realm_model.specs.Settings.{SettingsView, IsSettings};
-ghost use Rattle.realm_model.specs.Worlds.{World, happens};
+ghost use Rattle.realm_model.specs.Worlds.{World, start, happens};
 ghost use Rattle.realm_model.specs.Histories.{world_of, state_of, IsNext, Legal};
 ghost use Rattle.realm_model.specs.declared.op.Op.TheVariants.{HeadWrite, Stats as stats_op};
 ghost use Rattle.realm_model.specs.declared.event.Event.{Event as EventOf};
@@ -41,11 +41,20 @@ pub fn the_index_holds()
         (world_of settings history).phases }
 {}
 
-/// From any world in which the parts over tables hold, an event that may come next keeps them.
+/// From any world in which the parts hold, an event that may come next keeps them; and they hold before
+/// the first event.
 pub fn each_event_keeps_the_index()
-    ensures { (settings : SettingsView) (w : World) (e : EventOf)
+    ensures start { (settings : SettingsView) → IndexHolds (start settings) }
+    ensures tables { (settings : SettingsView) (w : World) (e : EventOf)
         → IsSettings settings → IndexHolds w → IsNext settings w e
         → IndexHolds (happens settings w e) }
+    ensures stamps { (settings : SettingsView) (w : World) (e : EventOf)
+        → IndexHolds w → StampsGiven (heads_of w.state.heads) w.stamps.slots → IsNext settings w e
+        → StampsGiven (heads_of (happens settings w e).state.heads) (happens settings w e).stamps.slots }
+    ensures shards { (settings : SettingsView) (w : World) (e : EventOf)
+        → ShardsServe w.state.shards (rows_of w.state.root) w.phases → IsNext settings w e
+        → ShardsServe (happens settings w e).state.shards (rows_of (happens settings w e).state.root)
+        (happens settings w e).phases }
 {}
 
 /// A name without a tag, of a container that has a row in the zone, is listed and counted as its head:
