@@ -1,6 +1,6 @@
 -- What follows from the parts for those who read.
-use Rattle.std.proofs.Common.{◌≡◌, ⊎_elim, ℕ, ◌+◌, ◌==◌, ◌<◌, ◌^◌, true, false, cond, List, [], ◌∷◌, ◌++◌, length, Option, Some, None, refl, sym, subst, ap, ◌∙◌, arith}
-use Rattle.std.specs.Prelude.{IfSome, IsSomeAnd, unwrap_or}
+use Rattle.std.proofs.Common.{◌≡◌, ⊎_elim, ℕ, ◌+◌, ◌==◌, ◌||◌, not, ◌<◌, ◌^◌, true, false, cond, List, [], ◌∷◌, ◌++◌, length, Option, Some, None, refl, sym, subst, ap, ◌∙◌, arith, Bool}
+use Rattle.std.specs.Prelude.{IfSome, IsSomeAnd, is_some, unwrap_or}
 use Rattle.rgw_types.specs.declared.pool_key.Key.{Key}
 use Rattle.rgw_types.specs.declared.stamp.Stamp.{Stamp}
 use Rattle.rgw_types.specs.Stamps.{IsEarlier}
@@ -14,6 +14,7 @@ use Rattle.object_words.specs.declared.head.SeenSlot.{SeenSlot}
 use Rattle.object_words.specs.declared.head.SeenSlot.TheVariants.{Nothing, Live, Mark}
 use Rattle.object_words.specs.declared.shard.ShardStats.{ShardStats}
 use Rattle.object_words.specs.declared.why.Why.{Why}
+use Rattle.object_words.specs.Names.{at}
 use Rattle.object_words.specs.Entries.{EntryView, entry_of}
 use Rattle.object_words.specs.Heads.{Head, row_of, is_live, seen_stamp}
 use Rattle.object_words.specs.HeadCalls.{write_refusal, stamp_next, change_of}
@@ -45,7 +46,7 @@ use Rattle.index_law.specs.Tables.{rows_of, heads_of, IsPlaced}
 use Rattle.index_law.specs.Invariants.{IndexHolds}
 use Rattle.rgw_model.specs.declared.slot.Slot.{Slot}
 use Rattle.index_law.specs.Stamps.{IsReached, StampsGiven}
-use Rattle.index_law.specs.Serving.{IsServing, ShardsServe}
+use Rattle.index_law.specs.Serving.{IsHeld, IsServing, ShardsServe}
 use Rattle.index_law.proofs.Stamping.{above_zone, stamps_given}
 use Rattle.index_law.proofs.Shards.{shards_serve}
 use Rattle.index_law.proofs.Puts.{head_here}
@@ -115,19 +116,28 @@ module _ (settings : SettingsView) (history : List Event) (zone container : ℕ)
   sized_as (Live new stamp) e shows = ap (λ (v : RowView). cond v.exists v.size 0) shows
   sized_as (Mark stamp) e shows = ap (λ (v : RowView). cond v.exists v.size 0) shows
 
-  live_there : (o : Option EntryView) (slot : SeenSlot) → is_live slot ≡ true → Shows (entry_of o) slot → IsSomeAnd o (λ e. Shows e slot)
-  live_there (Some e) slot live shows = shows
-  live_there None Nothing live shows = cc
-  live_there None (Live new stamp) live shows = absurd (let bad = ap (λ (r : RowView). r.exists) shows in cc)
-  live_there None (Mark stamp) live shows = cc
+  -- a kept entry without a tag exists
+  kept_exists : (exists : Bool) (tags : List Tag) → (exists || not (length tags == 0)) ≡ true → (length tags == 0) ≡ true → exists ≡ true
+  kept_exists true tags kept none = refl
+  kept_exists false tags kept none = absurd (let bad : not true ≡ true = subst (λ b. not b ≡ true) none kept in cc)
 
-  pub listed : is_live (slot_at (heads history zone container) name) ≡ true → IsSomeAnd (found_in ((state_of settings history).shards zone (key_of_name row name)) name) (λ e. Shows e (slot_at (heads history zone container) name))
-  listed live =
-      live_there (found_in ((state_of settings history).shards zone (key_of_name row name)) name) (slot_at (heads history zone container) name) live
-      (subst (λ e. Shows e (slot_at (heads history zone container) name)) (as_found ((state_of settings history).shards zone (key_of_name row name))) shown) where
-        as_found : (o : Option Shard) → entry_in o name ≡ entry_of (found_in o name)
-        as_found None = refl
-        as_found (Some s) = refl
+  live_is : (slot : SeenSlot) → (row_of slot).exists ≡ is_live slot
+  live_is Nothing = refl
+  live_is (Live new stamp) = refl
+  live_is (Mark stamp) = refl
+
+  found_live : (o : Option EntryView) (slot : SeenSlot) → ((e : EntryView) → o ≡ Some e → IsHeld e) → is_settled (entry_of o) ≡ true → Shows (entry_of o) slot → is_some o ≡ is_live slot
+  found_live None slot held none shows = ap (λ (r : RowView). r.exists) shows ∙ live_is slot
+  found_live (Some e) slot held none shows = sym (kept_exists e.row.exists e.tags (held e refl).kept none) ∙ ap (λ (r : RowView). r.exists) shows ∙ live_is slot
+
+  in_shard : (o : Option Shard) (slot : SeenSlot) → ((s : Shard) → o ≡ Some s → IsServing s) → is_settled (entry_in o name) ≡ true → Shows (entry_in o name) slot → is_some (found_in o name) ≡ is_live slot
+  in_shard None slot serving none shows = found_live None slot (λ e is. absurd cc) none shows
+  in_shard (Some s) slot serving none shows = found_live (at s.entries name) slot ((serving s refl).held name) none shows
+
+  pub listed : is_some (found_in ((state_of settings history).shards zone (key_of_name row name)) name) ≡ is_live (slot_at (heads history zone container) name)
+  listed =
+      in_shard ((state_of settings history).shards zone (key_of_name row name)) (slot_at (heads history zone container) name)
+      ((shards_serve settings history legal).serving zone (key_of_name row name)) settled shown
 
   pub counted : object_count (entry_of_name (state_of settings history) zone row name) ≡ live_count (slot_at (heads history zone container) name)
   counted = counted_as (slot_at (heads history zone container) name) (entry_of_name (state_of settings history) zone row name) shown

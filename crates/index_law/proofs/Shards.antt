@@ -1,5 +1,5 @@
 -- Shards are made once and stay, and those of a row were made by its maker.
-use Rattle.std.proofs.Common.{◌≡◌, ℕ, ◌+◌, ◌==◌, ◌<◌, ◌&&◌, true, false, cond, List, [], ◌∷◌, Option, Some, None, refl, sym, subst, ap, ◌∙◌, arith}
+use Rattle.std.proofs.Common.{◌≡◌, ℕ, ◌+◌, ◌==◌, ◌<◌, ◌&&◌, true, false, cond, List, [], ◌∷◌, Option, Some, None, refl, sym, subst, ap, ◌∙◌, arith, ◌≤◌}
 use Rattle.rgw_types.specs.declared.pool_key.Key.{Key}
 use Rattle.object_words.specs.declared.bucket.Bucket.{Bucket}
 use Rattle.object_words.specs.declared.why.Why.{Why}
@@ -12,11 +12,14 @@ use Rattle.object_words.specs.Rows.{RowView}
 use Rattle.std.proofs.lemmas.Bool.Decides.{nat_tests}
 use Rattle.object_words.specs.Roots.{is_logged, Root, version_of, swap_refusal, swapped, stored, stored_or_none, with_bucket}
 use Rattle.object_words.specs.Shards.{Shard, new_shard, entry_at, with_entry}
-use Rattle.object_words.specs.ShardCalls.{made, prepare_refusal, complete_refusal, suggest_refusal, settled, suggested}
+use Rattle.object_words.specs.ShardCalls.{logged_if_newer, made, prepare_refusal, complete_refusal, suggest_refusal, settled, suggested}
 use Rattle.object_words.specs.Tags.{with_tag, without_tag, tags_due_taken, guard_of}
-use Rattle.object_words.specs.Entries.{with_tags}
+use Rattle.object_words.specs.Entries.{EntryView, with_tags, stored_if_newer, is_kept}
 use Rattle.object_words.proofs.KeyLemmas.{same_key, key_itself, number_itself}
 use Rattle.object_words.proofs.NameLemmas.{is_name_of, at-none, at-with_name, at-without_name}
+use Rattle.object_words.specs.declared.entry.Tag.{Tag}
+use Rattle.object_words.specs.Numbers.{next}
+use Rattle.realm_model.proofs.EntryLemmas.{kept_or_none, at-with_entry}
 use Rattle.realm_model.specs.Settings.{SettingsView}
 use Rattle.realm_model.specs.Tests.{is_so}
 use Rattle.realm_model.specs.Ops.{zone_of}
@@ -36,7 +39,7 @@ use Rattle.realm_model.specs.declared.event.Reply.TheVariants.{Done, No, Prepare
 use Rattle.realm_model.proofs.Computing.{left_of, right_of}
 use Rattle.realm_model.proofs.ObjectLemmas.{number_same, put_cases, put_in_cases, put_actor_cases}
 use Rattle.index_law.specs.Tables.{Rows, rows_of}
-use Rattle.index_law.specs.Serving.{IsServing, IsMade, ShardsServe}
+use Rattle.index_law.specs.Serving.{IsHeld, IsServing, IsMade, ShardsServe}
 use Rattle.index_law.proofs.Puts.{call_cases}
 use Rattle.index_law.proofs.Tests.{So, so}
 use Rattle.index_law.proofs.Keeping.{Form, form_of}
@@ -114,6 +117,35 @@ module _ (w : World) (j : ShardsServe w.state.shards (rows_of w.state.root) w.ph
       (λ z c none. made_same (w.phases me).shards (w.phases me) op reply other z c ∙ j.none_made me z c none)
       (λ z n row number is less. grows z (shard_key row.id row.instance number) (j.of_rows z n row number is less))
 
+-- ---- one entry changed
+
+next_positive : (n : ℕ) → 1 ≤ next n
+next_positive n = omega arith
+
+entry_serves : (s : Shard) (name : List ℕ) (e : EntryView) → 1 ≤ e.revision → IsServing s → IsServing (with_entry s name e)
+entry_serves s name e revision is = record { fate = is.fate; hold = is.hold; held = λ q x there. by_name q x (sym (at-with_entry s name e q) ∙ there) } where
+  by_kept : (x : EntryView) → kept_or_none e ≡ Some x → IsHeld x
+  by_kept x there =
+      elim (is_kept e) as (λ b. is_kept e ≡ b → cond b (Some e) None ≡ Some x → IsHeld x) [
+        | true ↦ λ kept same. let one : e ≡ x = cc in subst IsHeld one (record { revision = revision; kept = kept })
+        | false ↦ λ gone none. absurd cc
+      ] refl there
+
+  by_name : (q : List ℕ) (x : EntryView) → cond (is_name_of q name) (kept_or_none e) (at s.entries q) ≡ Some x → IsHeld x
+  by_name q x there =
+      elim (is_name_of q name) as (λ b. cond b (kept_or_none e) (at s.entries q) ≡ Some x → IsHeld x) [
+        | true ↦ λ here. by_kept x here
+        | false ↦ λ old. is.held q x old
+      ] there
+
+tags_serve : (s : Shard) (name : List ℕ) (tags : List Tag) → IsServing s → IsServing (with_entry s name (with_tags (entry_at s name) tags))
+tags_serve s name tags is = entry_serves s name (with_tags (entry_at s name) tags) (next_positive (entry_at s name).revision) is
+
+settled_serves : (s : Shard) (name : List ℕ) (tags : List Tag) (version : ℕ) (row : RowView) → IsServing s → IsServing (settled s name tags version row)
+settled_serves s name tags version row is =
+    entry_serves (record s { log = logged_if_newer s.log (entry_at s name).version name version }) name (stored_if_newer (with_tags (entry_at s name) tags) version row) (next_positive (entry_at s name).revision)
+    (record { fate = is.fate; hold = is.hold; held = is.held })
+
 -- ---- each event
 
 module _ (settings : SettingsView) (w : World) (j : ShardsServe w.state.shards (rows_of w.state.root) w.phases) (me : ActorId) (moment : ℕ) where
@@ -141,13 +173,10 @@ module _ (settings : SettingsView) (w : World) (j : ShardsServe w.state.shards (
       (put_in_cases (λ z k o. (x : Shard) → o ≡ Some x → IsServing x) w.state.shards zone key (Some (new s))
       (λ x is. let same : new s ≡ x = cc in subst IsServing same (keeps s (j.serving zone key s there))) j.serving))
 
-  same_fate : (s s' : Shard) → s'.fate ≡ s.fate → s'.hold ≡ s.hold → IsServing s → IsServing s'
-  same_fate s s' fate hold is = record { fate = fate ∙ is.fate; hold = hold ∙ is.hold }
-
   suggested_serves : (s : Shard) (name : List ℕ) (revision seen version : ℕ) (row : RowView) → IsServing s → IsServing (suggested s name revision seen version row)
   suggested_serves s name revision seen version row is =
       elim (suggest_refusal s name revision) as (λ r. IsServing (unless_refused r s (settled s name (tags_due_taken seen (entry_at s name).tags) version row))) [
-        | None ↦ same_fate s _ refl refl is
+        | None ↦ settled_serves s name (tags_due_taken seen (entry_at s name).tags) version row is
         | Some why ↦ is
       ]
 
@@ -172,7 +201,7 @@ module _ (settings : SettingsView) (w : World) (j : ShardsServe w.state.shards (
             record { shard = x.0; there = x.1 }
 
         serving_made : (o : Option Shard) → ((s : Shard) → o ≡ Some s → IsServing s) → (x : Shard) → made o ≡ Some x → IsServing x
-        serving_made None was x is = let same : new_shard ≡ x = cc in subst IsServing same (record { fate = refl; hold = refl })
+        serving_made None was x is = let same : new_shard ≡ x = cc in subst IsServing same (record { fate = refl; hold = refl; held = λ name e there. absurd (let none = at-none {X = EntryView} name in cc) })
         serving_made (Some s) was x is = was x is
 
         serving : (z : ℕ) (k : Key) (s : Shard) → shards z k ≡ Some s → IsServing s
@@ -262,11 +291,11 @@ module _ (settings : SettingsView) (w : World) (j : ShardsServe w.state.shards (
   serves_by (ShardMake zone key) may = make_serves zone key may
   serves_by (Prepare zone key name) may =
       let t = new_tag settings st in
-      called (Prepare zone key name) (λ z k is. cc) zone key prepare_refusal (λ s. with_entry s name (with_tags (entry_at s name) (with_tag t (entry_at s name).tags))) (λ s. Prepared (guard_of t)) (λ s is. same_fate s _ refl refl is)
+      called (Prepare zone key name) (λ z k is. cc) zone key prepare_refusal (λ s. with_entry s name (with_tags (entry_at s name) (with_tag t (entry_at s name).tags))) (λ s. Prepared (guard_of t)) (λ s is. tags_serve s name (with_tag t (entry_at s name).tags) is)
   serves_by (Complete zone key name tag version row) may =
-      called (Complete zone key name tag version row) (λ z k is. cc) zone key (λ s. complete_refusal s name tag) (λ s. settled s name (without_tag tag (entry_at s name).tags) version row) (λ s. Done) (λ s is. same_fate s _ refl refl is)
+      called (Complete zone key name tag version row) (λ z k is. cc) zone key (λ s. complete_refusal s name tag) (λ s. settled s name (without_tag tag (entry_at s name).tags) version row) (λ s. Done) (λ s is. settled_serves s name (without_tag tag (entry_at s name).tags) version row is)
   serves_by (Cancel zone key name tag) may =
-      called (Cancel zone key name tag) (λ z k is. cc) zone key (λ s. complete_refusal s name tag) (λ s. with_entry s name (with_tags (entry_at s name) (without_tag tag (entry_at s name).tags))) (λ s. Done) (λ s is. same_fate s _ refl refl is)
+      called (Cancel zone key name tag) (λ z k is. cc) zone key (λ s. complete_refusal s name tag) (λ s. with_entry s name (with_tags (entry_at s name) (without_tag tag (entry_at s name).tags))) (λ s. Done) (λ s is. tags_serve s name (without_tag tag (entry_at s name).tags) is)
   serves_by (Page zone key start limit) may = unchanged (Page zone key start limit) (reply_of settings st (Page zone key start limit)) (λ z k is. cc)
   serves_by (Suggest zone key name revision seen version row) may =
       called (Suggest zone key name revision seen version row) (λ z k is. cc) zone key (λ s. suggest_event_refusal s name revision seen) (λ s. suggested s name revision seen version row) (λ s. Done) (λ s is. suggested_serves s name revision seen version row is)

@@ -1,5 +1,5 @@
 //! Laws of the definitions: the functions here do nothing.
-ghost use Rattle.std.specs.Prelude.{◌≡◌, ◌<◌, ◌^◌, ◌++◌, ◌∷◌, [], ℕ, List, length, true, Some, None, IfSome, IsSomeAnd};
+ghost use Rattle.std.specs.Prelude.{◌≡◌, ◌<◌, ◌^◌, ◌++◌, ◌∷◌, [], ℕ, List, length, true, Some, None, IfSome, IsSomeAnd, is_some};
 ghost use Rattle.rgw_types.specs.declared.pool_key.Key.{Key as KeyOf};
 ghost use Rattle.rgw_types.specs.Stamps.{IsEarlier};
 ghost use Rattle.object_words.specs.declared.bucket.Bucket.{Bucket as BucketOf};
@@ -58,7 +58,7 @@ pub fn each_event_keeps_the_index()
 {}
 
 /// A name without a tag, of a container that has a row in the zone, is listed and counted as its head:
-/// its entry shows the slot that the bucket map has, and a live one is in its shard.
+/// its entry shows the slot that the bucket map has, and is in its shard exactly where that is live.
 pub fn settled_names_are_shown()
     ensures shown { (settings : SettingsView) (history : List EventOf) (zone container : ℕ)
         → (name : List ℕ) (row : BucketOf) → IsSettings settings → Legal settings history
@@ -70,9 +70,8 @@ pub fn settled_names_are_shown()
         → (name : List ℕ) (row : BucketOf) → IsSettings settings → Legal settings history
         → row_in (world_of settings history).rows (state_of settings history) zone container ≡ Some row
         → is_settled (entry_of_name (state_of settings history) zone row name) ≡ true
-        → is_live (slot_at (heads history zone container) name) ≡ true
-        → IsSomeAnd (found_in ((state_of settings history).shards zone (key_of_name row name)) name)
-        (λ e. Shows e (slot_at (heads history zone container) name)) }
+        → is_some (found_in ((state_of settings history).shards zone (key_of_name row name)) name)
+        ≡ is_live (slot_at (heads history zone container) name) }
     ensures counted { (settings : SettingsView) (history : List EventOf) (zone container : ℕ)
         → (name : List ℕ) (row : BucketOf) → IsSettings settings → Legal settings history
         → row_in (world_of settings history).rows (state_of settings history) zone container ≡ Some row
