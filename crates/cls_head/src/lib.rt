@@ -10,7 +10,10 @@ mod pieces;
 mod tails;
 
 pub use heads::{read, write};
-pub use laws::{a_head_has_one_spelling, a_tail_has_one_spelling, what_is_absent_is_no_object};
+pub use laws::{
+    a_head_has_one_spelling, a_tail_has_one_spelling, heads_are_written_so,
+    what_is_absent_is_no_object,
+};
 pub use object_pool::OutOfMemory;
 pub use tails::{make_tail, read_tail};
 
