@@ -1,0 +1,4 @@
+pub mod Ascii
+pub mod Days
+pub mod Tokens
+pub mod OnLiterals

@@ -1,0 +1,4 @@
+pub mod Moments
+pub mod Listings
+pub mod Fields
+pub mod Replies

@@ -1,0 +1,21 @@
+//! The replies of the Swift API as bytes: heads, and the rows of listings.
+#![tactic(auto)]
+
+mod account;
+mod head;
+mod listing;
+mod moment;
+mod plain;
+mod reply;
+mod row;
+
+pub use account::json_accounts;
+pub use head::write_head;
+pub use listing::json_rows;
+pub use plain::{plain_accounts, plain_rows};
+pub use reply::{
+    ContainerCounts, Denial, Invalid, ListingForm, ShownObject, ShownSpan, SwiftRefusal, SwiftReply,
+    TargetKind,
+};
+pub use row::{AccountRow, AccountRows, Row, Rows};
+pub use std::alloc::AllocError as OutOfMemory;
