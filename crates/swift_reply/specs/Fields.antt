@@ -18,7 +18,7 @@ number_field name n = text_field name (decimal n)
 abbrev pub content_range_field : ShownSpan → ℕ → Field
 content_range_field span size = text_field (codes "Content-Range")
     (codes "bytes " ++ decimal span.start ++ codes "-" ++ decimal (span.start + span.count - 1)
-     ++ codes "/" ++ decimal size)
+    ++ codes "/" ++ decimal size)
 
 -- the size of what the range lies behind (RFC 9110, section 15.5.17)
 abbrev pub no_range_field : ℕ → Field

@@ -2,3 +2,4 @@ pub mod Moments
 pub mod Listings
 pub mod Fields
 pub mod Replies
+pub mod Known

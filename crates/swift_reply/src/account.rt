@@ -11,12 +11,7 @@ use rgw_types::Bytes;
 use std::alloc::{AllocError, Global};
 
 /// Adds the row of a container. The members come by rising name.
-fn push_container(
-    out: &mut Writer,
-    name: &str,
-    count: u64,
-    bytes: u64,
-) -> Result<(), AllocError>
+fn push_container(out: &mut Writer, name: &str, count: u64, bytes: u64) -> Result<(), AllocError>
     ensures ok { OnOk result (out.new.tokens
         ≡ out.old.tokens ++ json_tokens (outline (container_data name.now count bytes))) }
     ensures before { out.new.before ≡ out.old.before }

@@ -130,14 +130,20 @@ pub struct ContainerCounts {
 #[derive(Debug, Drop)]
 pub enum SwiftReply {
     /// An object was stored.
-    Stored { etag: [u8; 16], stamp: Stamp },
+    Stored {
+        etag: [u8; 16],
+        stamp: Stamp,
+    },
     /// An object is shown, whole or a span of it.
     Shown {
         object: ShownObject,
         span: Option<ShownSpan>,
     },
     /// The object is the one that the client has.
-    Same { etag: [u8; 16], stamp: Stamp },
+    Same {
+        etag: [u8; 16],
+        stamp: Stamp,
+    },
     /// A container was made.
     Created,
     /// A container was there and is changed, or an object's metadata are.
@@ -145,7 +151,10 @@ pub enum SwiftReply {
     /// Something was done that leaves nothing to show.
     Done,
     /// The rows of a container.
-    Listed { rows: Rows, form: ListingForm },
+    Listed {
+        rows: Rows,
+        form: ListingForm,
+    },
     Counted(ContainerCounts),
     /// The rows of an account.
     AccountListed {

@@ -1,0 +1,120 @@
+use super::{
+    AccountRow, AccountRows, Row, Rows, json_accounts, json_rows, plain_accounts, plain_rows,
+    write_head,
+};
+use http_model::{Field, Fields, ReplyHead};
+use object_words::{EntryRow, MediaType};
+use rgw_types::{Bytes, Stamp, Text};
+use std::alloc::{AllocError, Global};
+use std::test::Fail;
+
+// All texts here were written by hand or by another program.
+
+/// The MD5 digest of `hello`.
+const HELLO: [u8; 16] = [
+    93, 65, 64, 42, 188, 75, 42, 118, 185, 113, 157, 145, 16, 23, 197, 146,
+];
+
+/// An object of five bytes of plain text, stored at this moment.
+fn thing(alloc: Global, name: &str, micros: u64) -> Result<Row, AllocError> {
+    let kind = MediaType::new(Text::from_str(alloc, "text/plain")?).unwrap_or(MediaType::absent(
+        alloc,
+    ));
+    let entry = EntryRow {
+        exists: true,
+        size: 5,
+        stamp: Stamp { micros, zone: 1 },
+        etag: HELLO,
+        kind,
+    };
+    Ok(Row::Thing(Text::from_str(alloc, name)?, entry))
+}
+
+fn subdir(alloc: Global, key: &str) -> Result<Row, AllocError> {
+    Ok(Row::Subdir(Text::from_str(alloc, key)?))
+}
+
+fn account_row(alloc: Global, name: &str, subdir: bool) -> Result<AccountRow, AllocError> {
+    let (count, bytes) = if subdir { (0, 0) } else { (1, 5) };
+    Ok(AccountRow {
+        name: Text::from_str(alloc, name)?,
+        count,
+        bytes,
+        subdir,
+    })
+}
+
+fn is(text: &Bytes, bytes: &[u8]) -> bool {
+    text.as_slice() == bytes
+}
+
+fn field(alloc: Global, name: &str, value: &str) -> Result<Field, AllocError> {
+    Ok(Field {
+        name: Text::from_str(alloc, name)?,
+        value: Bytes::from_slice(alloc, value.as_bytes())?,
+    })
+}
+
+#[test]
+fn rows_of_a_container(rt: HostRuntime) -> Result<(), Fail> {
+    let alloc = rt.alloc();
+    let mut rows = Rows::new(alloc);
+    assert!(rt; plain_rows(alloc, &rows)?.is_empty());
+    assert!(rt; is(&json_rows(alloc, &rows)?, b"[]"));
+    rows.push(subdir(alloc, "a\"\\\u{1}\n\u{7f}é/")?)?;
+    rows.push(thing(alloc, "k", 1_700_000_000_000_000)?)?;
+    rows.push(thing(alloc, "l", 951_868_799_999_999)?)?;
+    assert!(rt;
+        is(
+            &plain_rows(alloc, &rows)?,
+            b"a\"\\\x01\n\x7f\xc3\xa9/\nk\nl\n"
+        )
+    );
+    let text =
+        b"[{\"subdir\":\"a\\\"\\\\\\u0001\\n\x7f\xc3\xa9/\"},{\"bytes\":5,\"content_type\":\"text/plain\",\"hash\":\"5d41402abc4b2a76b9719d911017c592\",\"last_modified\":\"2023-11-14T22:13:20.000000\",\"name\":\"k\"},{\"bytes\":5,\"content_type\":\"text/plain\",\"hash\":\"5d41402abc4b2a76b9719d911017c592\",\"last_modified\":\"2000-02-29T23:59:59.999999\",\"name\":\"l\"}]";
+    assert!(rt; is(&json_rows(alloc, &rows)?, text));
+    Ok(())
+}
+
+#[test]
+fn rows_of_an_account(rt: HostRuntime) -> Result<(), Fail> {
+    let alloc = rt.alloc();
+    let mut rows = AccountRows::new(alloc);
+    assert!(rt; plain_accounts(alloc, &rows)?.is_empty());
+    assert!(rt; is(&json_accounts(alloc, &rows)?, b"[]"));
+    rows.push(account_row(alloc, "docs", false)?)?;
+    assert!(rt;
+        is(
+            &json_accounts(alloc, &rows)?,
+            b"[{\"bytes\":5,\"count\":1,\"name\":\"docs\"}]"
+        )
+    );
+    rows.push(account_row(alloc, "e/", true)?)?;
+    assert!(rt; is(&plain_accounts(alloc, &rows)?, b"docs\ne/\n"));
+    assert!(rt;
+        is(
+            &json_accounts(alloc, &rows)?,
+            b"[{\"bytes\":5,\"count\":1,\"name\":\"docs\"},{\"subdir\":\"e/\"}]"
+        )
+    );
+    Ok(())
+}
+
+#[test]
+fn heads(rt: HostRuntime) -> Result<(), Fail> {
+    let alloc = rt.alloc();
+    let mut fields = Fields::new(alloc);
+    let none = ReplyHead { code: 100, fields };
+    assert!(rt; is(&write_head(alloc, &none)?, b"HTTP/1.1 100 Continue\r\n\r\n"));
+    fields = Fields::new(alloc);
+    fields.push(field(alloc, "Content-Length", "0")?)?;
+    fields.push(field(alloc, "Connection", "close")?)?;
+    let stored = ReplyHead { code: 507, fields };
+    assert!(rt;
+        is(
+            &write_head(alloc, &stored)?,
+            b"HTTP/1.1 507 Insufficient Storage\r\nContent-Length: 0\r\nConnection: close\r\n\r\n"
+        )
+    );
+    Ok(())
+}
