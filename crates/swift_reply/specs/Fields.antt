@@ -110,23 +110,23 @@ field_for f (Some x) = f x ∷ []
 abbrev pub fields_of : Says → List Field
 fields_of says =
     field_for content_length_field says.body_length
-    ++ field_for content_type_field says.kind
-    ++ field_for etag_field says.etag
-    ++ field_for last_modified_field says.modified
-    ++ field_if says.ranges accept_ranges_field
-    ++ field_for (λ f. f) says.range
-    ++ meta_fields (codes "X-Object-Meta-") says.object_meta
-    ++ field_for (number_field (codes "X-Delete-At")) says.expires
-    ++ field_for (number_field (codes "X-Container-Object-Count")) says.container_objects
-    ++ field_for (number_field (codes "X-Container-Bytes-Used")) says.container_bytes
-    ++ meta_fields (codes "X-Container-Meta-") says.container_meta
-    ++ field_for (text_field (codes "X-Container-Read")) says.readers
-    ++ field_for (text_field (codes "X-Container-Write")) says.writers
-    ++ field_for (number_field (codes "X-Account-Container-Count")) says.account_containers
-    ++ field_for (number_field (codes "X-Account-Object-Count")) says.account_objects
-    ++ field_for (number_field (codes "X-Account-Bytes-Used")) says.account_bytes
-    ++ field_for (λ f. f) says.storage
-    ++ field_for (text_field (codes "X-Auth-Token")) says.token
-    ++ field_for allow_field says.allow
-    ++ field_if says.challenge challenge_field
-    ++ field_if says.close close_field
+    ++ (field_for content_type_field says.kind
+    ++ (field_for etag_field says.etag
+    ++ (field_for last_modified_field says.modified
+    ++ (field_if says.ranges accept_ranges_field
+    ++ (field_for (λ f. f) says.range
+    ++ (meta_fields (codes "X-Object-Meta-") says.object_meta
+    ++ (field_for (number_field (codes "X-Delete-At")) says.expires
+    ++ (field_for (number_field (codes "X-Container-Object-Count")) says.container_objects
+    ++ (field_for (number_field (codes "X-Container-Bytes-Used")) says.container_bytes
+    ++ (meta_fields (codes "X-Container-Meta-") says.container_meta
+    ++ (field_for (text_field (codes "X-Container-Read")) says.readers
+    ++ (field_for (text_field (codes "X-Container-Write")) says.writers
+    ++ (field_for (number_field (codes "X-Account-Container-Count")) says.account_containers
+    ++ (field_for (number_field (codes "X-Account-Object-Count")) says.account_objects
+    ++ (field_for (number_field (codes "X-Account-Bytes-Used")) says.account_bytes
+    ++ (field_for (λ f. f) says.storage
+    ++ (field_for (text_field (codes "X-Auth-Token")) says.token
+    ++ (field_for allow_field says.allow
+    ++ (field_if says.challenge challenge_field
+    ++ field_if says.close close_field)))))))))))))))))))

@@ -1,8 +1,9 @@
 -- The text of each reply: its status, what it says in its fields, and its body (OpenStack Object Storage API v1).
 use Rattle.std.specs.Prelude.{ℕ, ◌+◌, Bool, true, false, List, [], ◌∷◌, ◌++◌, length, Option, Some, None, if◌then◌else◌, codes, decimal}
+use Rattle.http_model.specs.declared.field.Field.{Field}
 use Rattle.http_model.specs.declared.reply.ReplyForm.{ReplyForm}
 use Rattle.http_model.specs.declared.reply.ReplyHead.{ReplyHead}
-use Rattle.http_model.specs.Replies.{crlf, status_line, bad_request_line, line_kind, line_body, text_of}
+use Rattle.http_model.specs.Replies.{crlf, status_line, field_if, line_kind, line_body, text_of}
 use Rattle.swift_reply.specs.declared.reply.ContainerCounts.{ContainerCounts}
 use Rattle.swift_reply.specs.declared.reply.Denial.{Denial}
 use Rattle.swift_reply.specs.declared.reply.Denial.TheVariants as Denied
@@ -16,7 +17,8 @@ use Rattle.swift_reply.specs.declared.reply.SwiftRefusal.{SwiftRefusal}
 use Rattle.swift_reply.specs.declared.reply.SwiftRefusal.TheVariants as Why
 use Rattle.swift_reply.specs.declared.reply.SwiftReply.{SwiftReply}
 use Rattle.swift_reply.specs.declared.reply.SwiftReply.TheVariants.{Stored, Shown, Same, Created, Accepted, Done, Listed, Counted, AccountListed, AccountCounted, LetIn, Refused}
-use Rattle.swift_reply.specs.Fields.{Says, silent, fields_of, content_range_field, no_range_field, storage_url_field}
+use Rattle.swift_reply.specs.declared.reply.TargetKind.{TargetKind}
+use Rattle.swift_reply.specs.Fields.{Says, field_for, allow_field, challenge_field, silent, fields_of, content_range_field, no_range_field, storage_url_field}
 use Rattle.swift_reply.specs.Listings.{plain_text, plain_account_text, json_text, json_account_text}
 
 -- ---- refusals
@@ -40,7 +42,6 @@ denial_word Denied.Read = codes "read"
 denial_word Denied.Write = codes "write"
 
 abbrev pub refusal_code : SwiftRefusal → ℕ
-refusal_code (Why.BadRequest word) = 400
 refusal_code (Why.Invalid what) = 400
 refusal_code Why.Unauthorized = 401
 refusal_code (Why.Denied denial) = 403
@@ -65,44 +66,72 @@ refusal_code Why.LateTag = 503
 refusal_code Why.LateRead = 503
 refusal_code (Why.NoSpace free needed) = 507
 
--- the line of a body, without its line feed
-abbrev pub refusal_line : SwiftRefusal → List ℕ
-refusal_line (Why.BadRequest word) = bad_request_line word
-refusal_line (Why.Invalid what) = codes "Bad request: " ++ invalid_word what
-refusal_line Why.Unauthorized = codes "Unauthorized"
-refusal_line (Why.Denied denial) = codes "Denied: " ++ denial_word denial
-refusal_line Why.NoPath = codes "No such path"
-refusal_line Why.NoContainer = codes "No such container"
-refusal_line Why.NoObject = codes "No such object"
-refusal_line (Why.NoMethod target) = codes "Method not allowed"
-refusal_line Why.NotYours = codes "Not yours"
-refusal_line (Why.NotEmpty name) = codes "Not empty: " ++ name
-refusal_line (Why.Unsettled name) = codes "Unsettled: " ++ name
-refusal_line Why.NoLength = codes "Length required"
-refusal_line Why.NotMet = codes "Precondition failed"
-refusal_line Why.TooLarge = codes "Too large"
-refusal_line Why.TargetTooLong = codes "Target too long"
-refusal_line (Why.NoRange size) = codes "Range not satisfiable"
-refusal_line Why.OtherEtag = codes "ETag mismatch"
-refusal_line Why.NotBuilt = codes "Not built"
-refusal_line (Why.Busy id) = codes "Busy: " ++ decimal id
-refusal_line Why.MovedOften = codes "Moved often"
-refusal_line Why.RacedOften = codes "Raced often"
-refusal_line Why.LateTag = codes "Late: tag"
-refusal_line Why.LateRead = codes "Late: read"
-refusal_line (Why.NoSpace free needed) = codes "No space: " ++ decimal free ++ codes " of " ++ decimal needed
+-- the line of a body, without its line feed: what is the same for each, and what follows it
+abbrev pub refusal_front : SwiftRefusal → List ℕ
+refusal_front (Why.Invalid what) = codes "Bad request: "
+refusal_front Why.Unauthorized = codes "Unauthorized"
+refusal_front (Why.Denied denial) = codes "Denied: "
+refusal_front Why.NoPath = codes "No such path"
+refusal_front Why.NoContainer = codes "No such container"
+refusal_front Why.NoObject = codes "No such object"
+refusal_front (Why.NoMethod target) = codes "Method not allowed"
+refusal_front Why.NotYours = codes "Not yours"
+refusal_front (Why.NotEmpty name) = codes "Not empty: "
+refusal_front (Why.Unsettled name) = codes "Unsettled: "
+refusal_front Why.NoLength = codes "Length required"
+refusal_front Why.NotMet = codes "Precondition failed"
+refusal_front Why.TooLarge = codes "Too large"
+refusal_front Why.TargetTooLong = codes "Target too long"
+refusal_front (Why.NoRange size) = codes "Range not satisfiable"
+refusal_front Why.OtherEtag = codes "ETag mismatch"
+refusal_front Why.NotBuilt = codes "Not built"
+refusal_front (Why.Busy id) = codes "Busy: "
+refusal_front Why.MovedOften = codes "Moved often"
+refusal_front Why.RacedOften = codes "Raced often"
+refusal_front Why.LateTag = codes "Late: tag"
+refusal_front Why.LateRead = codes "Late: read"
+refusal_front (Why.NoSpace free needed) = codes "No space: "
 
--- a body that is one line
-abbrev pub line_says : List ℕ → Says
-line_says line = record silent { body_length = Some (length line + 1); kind = Some line_kind }
+abbrev pub refusal_rest : SwiftRefusal → List ℕ
+refusal_rest (Why.Invalid what) = invalid_word what
+refusal_rest (Why.Denied denial) = denial_word denial
+refusal_rest (Why.NotEmpty name) = name
+refusal_rest (Why.Unsettled name) = name
+refusal_rest (Why.Busy id) = decimal id
+refusal_rest (Why.NoSpace free needed) = decimal free ++ codes " of " ++ decimal needed
+refusal_rest refusal = []
+
+abbrev pub refusal_line : SwiftRefusal → List ℕ
+refusal_line refusal = refusal_front refusal ++ refusal_rest refusal
 
 -- three refusals say more than their line
+abbrev pub refusal_range : SwiftRefusal → Option Field
+refusal_range (Why.NoRange size) = Some (no_range_field size)
+refusal_range refusal = None
+
+abbrev pub refusal_allow : SwiftRefusal → Option TargetKind
+refusal_allow (Why.NoMethod target) = Some target
+refusal_allow refusal = None
+
+abbrev pub refusal_challenges : SwiftRefusal → Bool
+refusal_challenges Why.Unauthorized = true
+refusal_challenges refusal = false
+
+-- these three, in the order of fields
+abbrev pub own_fields : SwiftRefusal → List Field
+own_fields refusal =
+    field_for (λ f. f) (refusal_range refusal)
+    ++ (field_for allow_field (refusal_allow refusal) ++ field_if (refusal_challenges refusal) challenge_field)
+
+-- a body that is one line
 abbrev pub refusal_says : SwiftRefusal → Says
-refusal_says Why.Unauthorized = record (line_says (refusal_line Why.Unauthorized)) { challenge = true }
-refusal_says (Why.NoMethod target) = record (line_says (refusal_line (Why.NoMethod target))) { allow = Some target }
-refusal_says (Why.NoRange size) =
-    record (line_says (refusal_line (Why.NoRange size))) { range = Some (no_range_field size) }
-refusal_says refusal = line_says (refusal_line refusal)
+refusal_says refusal = record silent {
+  body_length = Some (length (refusal_line refusal) + 1);
+  kind = Some line_kind;
+  range = refusal_range refusal;
+  allow = refusal_allow refusal;
+  challenge = refusal_challenges refusal;
+}
 
 -- ---- objects
 

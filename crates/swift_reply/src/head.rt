@@ -4,7 +4,7 @@ ghost use Rattle.http.specs.StatusCode.{IsStatusCode};
 ghost use Rattle.http_model.specs.Replies.{phrase_of, status_line, field_line, head_text};
 
 use http::StatusCode;
-use http_model::{Field, ReplyHead};
+use http_model::ReplyHead;
 use rgw_types::Bytes;
 use std::alloc::{AllocError, Global};
 
@@ -16,12 +16,10 @@ fn phrase(status: StatusCode) -> &'static str
     status.canonical_reason().unwrap_or("")
 }
 
-/// Adds the status line of a code.
-fn push_status(out: &mut Vec<u8>, code: u16) -> Result<(), AllocError>
-    requires { IsStatusCode code }
-    ensures { OnOk result (out.new.items ≡ out.old.items ++ status_line code) }
+/// Adds a status line.
+pub(crate) fn push_status(out: &mut Vec<u8>, status: StatusCode) -> Result<(), AllocError>
+    ensures { OnOk result (out.new.items ≡ out.old.items ++ status_line status) }
 {
-    let status = StatusCode::from_u16(code).unwrap();
     out.extend_from_slice(b"HTTP/1.1 ")?;
     out.extend_from_slice(status.as_str().as_bytes())?;
     out.extend_from_slice(b" ")?;
@@ -30,12 +28,12 @@ fn push_status(out: &mut Vec<u8>, code: u16) -> Result<(), AllocError>
 }
 
 /// Adds a field.
-fn push_field(out: &mut Vec<u8>, field: &Field) -> Result<(), AllocError>
-    ensures { OnOk result (out.new.items ≡ out.old.items ++ field_line field.now) }
+pub(crate) fn push_field(out: &mut Vec<u8>, name: &str, value: &[u8]) -> Result<(), AllocError>
+    ensures { OnOk result (out.new.items ≡ out.old.items ++ field_line (record { name = name.now; value = value.now })) }
 {
-    out.extend_from_slice(field.name.as_bytes())?;
+    out.extend_from_slice(name.as_bytes())?;
     out.extend_from_slice(b": ")?;
-    out.extend_from_slice(field.value.as_slice())?;
+    out.extend_from_slice(value)?;
     out.extend_from_slice(b"\r\n")
 }
 
@@ -47,9 +45,9 @@ pub fn write_head(alloc: Global, head: &ReplyHead) -> Result<Bytes, AllocError>
     ensures { IfOk result (λ text. text ≡ head_text head.now) }
 {
     let mut text = Vec::new(alloc);
-    push_status(&mut text, head.code)?;
+    push_status(&mut text, StatusCode::from_u16(head.code).unwrap())?;
     for field in head.fields.as_slice() {
-        push_field(&mut text, field)?;
+        push_field(&mut text, field.name.as_str(), field.value.as_slice())?;
     }
     text.extend_from_slice(b"\r\n")?;
     Ok(Bytes::from_vec(text))

@@ -1,5 +1,6 @@
 // Refusals by hand, as laws of the definitions.
 ghost use Rattle.std.specs.Prelude.{◌≡◌, ◌∷◌, [], Some, None, codes, true, false};
+ghost use Rattle.http_model.specs.Replies.{bad_request_text};
 ghost use Rattle.http_model.specs.declared.reply.BadRequest.TheVariants as Word;
 ghost use Rattle.swift_reply.specs.declared.reply.Denial.TheVariants as Denied;
 ghost use Rattle.swift_reply.specs.declared.reply.Invalid.TheVariants as Bad;
@@ -38,7 +39,7 @@ const NOT_EMPTY: &[u8] =
 
 /// Refusals from 400 to 409.
 pub fn first_refusals_are_replied_so()
-    ensures head { reply_text closing_form (Refused (Why.BadRequest Word.Head)) [] ≡ BAD_HEAD.now }
+    ensures head { bad_request_text closing_form Word.Head ≡ BAD_HEAD.now }
     ensures name { reply_text open_form (Refused (Why.Invalid Bad.Name)) [] ≡ BAD_NAME.now }
     ensures expiry { reply_text open_form (Refused (Why.Invalid Bad.Expiry)) [] ≡ BAD_EXPIRY.now }
     ensures token { reply_text open_form (Refused Why.Unauthorized) [] ≡ UNAUTHORIZED.now }

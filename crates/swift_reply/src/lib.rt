@@ -2,16 +2,21 @@
 #![tactic(auto)]
 
 mod account;
+mod broken;
+mod fields;
 mod head;
 mod known;
 mod known_refusals;
 mod listing;
 mod moment;
+mod object;
 mod plain;
+mod refusal;
 mod reply;
 mod row;
 
 pub use account::json_accounts;
+pub use broken::push_bad_request;
 pub use head::write_head;
 pub use known::{
     containers_are_replied_so, listings_are_replied_so, moments_are_written_so,
@@ -19,7 +24,9 @@ pub use known::{
 };
 pub use known_refusals::{first_refusals_are_replied_so, later_refusals_are_replied_so};
 pub use listing::json_rows;
+pub use object::{push_shown_head, push_stored};
 pub use plain::{plain_accounts, plain_rows};
+pub use refusal::push_refusal;
 pub use reply::{
     ContainerCounts, Denial, Invalid, ListingForm, ShownObject, ShownSpan, SwiftRefusal,
     SwiftReply, TargetKind,

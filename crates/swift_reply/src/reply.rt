@@ -1,6 +1,6 @@
 //! What a reply of the Swift API says. The definitions of `specs` give each its bytes.
 use crate::{AccountRows, Rows};
-use http_model::BadRequest;
+use object_words::ObjectName;
 use rgw_types::{Bytes, Pairs, Stamp, Text};
 
 /// What of a request is not taken though its head was read, as the 400 names it.
@@ -55,8 +55,6 @@ pub enum ListingForm {
 /// Why the gateway does not do what a request asks.
 #[derive(Debug, Drop)]
 pub enum SwiftRefusal {
-    /// The head or the framing breaks the grammar.
-    BadRequest(BadRequest),
     Invalid(Invalid),
     Unauthorized,
     Denied(Denial),
@@ -68,9 +66,9 @@ pub enum SwiftRefusal {
     /// The container is another account's.
     NotYours,
     /// The container has this object.
-    NotEmpty { name: Text },
+    NotEmpty { name: ObjectName },
     /// Changes of this name are under way.
-    Unsettled { name: Text },
+    Unsettled { name: ObjectName },
     /// A PUT of an object has no length.
     NoLength,
     /// A condition of the request does not hold.
