@@ -1,10 +1,11 @@
 use super::{
-    AccountRow, AccountRows, Row, Rows, json_accounts, json_rows, plain_accounts, plain_rows,
+    AccountRow, AccountRows, Row, Rows, SwiftRefusal, TargetKind, json_accounts, json_rows,
+    plain_accounts, plain_rows, push_bad_request, push_refusal, push_shown_head, push_stored,
     write_head,
 };
-use http_model::{Field, Fields, ReplyHead};
-use object_words::{EntryRow, MediaType};
-use rgw_types::{Bytes, Stamp, Text};
+use http_model::{BadRequest, Field, Fields, ReplyForm, ReplyHead};
+use object_words::{EntryRow, MediaType, ObjectName};
+use rgw_types::{Bytes, Pairs, Stamp, Text};
 use std::alloc::{AllocError, Global};
 use std::test::Fail;
 
@@ -115,6 +116,70 @@ fn heads(rt: HostRuntime) -> Result<(), Fail> {
             &write_head(alloc, &stored)?,
             b"HTTP/1.1 507 Insufficient Storage\r\nContent-Length: 0\r\nConnection: close\r\n\r\n"
         )
+    );
+    Ok(())
+}
+
+const OPEN: ReplyForm = ReplyForm {
+    bodiless: false,
+    close: false,
+};
+
+const CLOSING: ReplyForm = ReplyForm {
+    bodiless: false,
+    close: true,
+};
+
+const STAMP: Stamp = Stamp {
+    micros: 1_700_000_000_000_000,
+    zone: 1,
+};
+
+#[test]
+fn objects(rt: HostRuntime) -> Result<(), Fail> {
+    let alloc = rt.alloc();
+    let mut out = Vec::new(alloc);
+    push_stored(&mut out, &HELLO, STAMP, CLOSING)?;
+    assert!(rt;
+        out.as_slice()
+            == b"HTTP/1.1 201 Created\r\nContent-Length: 0\r\nETag: 5d41402abc4b2a76b9719d911017c592\r\nLast-Modified: Tue, 14 Nov 2023 22:13:20 GMT\r\nConnection: close\r\n\r\n".as_slice()
+    );
+    out.clear();
+    let pair = (
+        Text::from_str(alloc, "color")?,
+        Text::from_str(alloc, "red")?,
+    );
+    let meta = Pairs::from_vec(vec![in alloc; pair]?).unwrap_or(Pairs::new(alloc));
+    let kind = Text::from_str(alloc, "text/plain")?;
+    push_shown_head(&mut out, &kind, &meta, &HELLO, STAMP, 5, OPEN)?;
+    assert!(rt;
+        out.as_slice()
+            == b"HTTP/1.1 200 OK\r\nContent-Length: 5\r\nContent-Type: text/plain\r\nETag: 5d41402abc4b2a76b9719d911017c592\r\nLast-Modified: Tue, 14 Nov 2023 22:13:20 GMT\r\nAccept-Ranges: bytes\r\nX-Object-Meta-color: red\r\n\r\n".as_slice()
+    );
+    Ok(())
+}
+
+#[test]
+fn refusals(rt: HostRuntime) -> Result<(), Fail> {
+    let alloc = rt.alloc();
+    let mut out = Vec::new(alloc);
+    let named = ObjectName::new(Text::from_str(alloc, "a/b")?)
+        .ok()
+        .ok_or("no name")?;
+    push_refusal(&mut out, &SwiftRefusal::NotEmpty { name: named }, OPEN)?;
+    push_refusal(
+        &mut out,
+        &SwiftRefusal::NoSpace {
+            free: 2,
+            needed: 15,
+        },
+        CLOSING,
+    )?;
+    push_refusal(&mut out, &SwiftRefusal::NoMethod(TargetKind::Account), OPEN)?;
+    push_bad_request(&mut out, BadRequest::Host, OPEN)?;
+    assert!(rt;
+        out.as_slice()
+            == b"HTTP/1.1 409 Conflict\r\nContent-Length: 15\r\nContent-Type: text/plain; charset=utf-8\r\n\r\nNot empty: a/b\nHTTP/1.1 507 Insufficient Storage\r\nContent-Length: 18\r\nContent-Type: text/plain; charset=utf-8\r\nConnection: close\r\n\r\nNo space: 2 of 15\nHTTP/1.1 405 Method Not Allowed\r\nContent-Length: 19\r\nContent-Type: text/plain; charset=utf-8\r\nAllow: GET, HEAD\r\n\r\nMethod not allowed\nHTTP/1.1 400 Bad Request\r\nContent-Length: 18\r\nContent-Type: text/plain; charset=utf-8\r\n\r\nBad request: host\n".as_slice()
     );
     Ok(())
 }
