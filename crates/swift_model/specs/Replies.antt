@@ -1,5 +1,5 @@
 -- The reply to a request: what its text is (OpenStack Object Storage API v1).
-use Rattle.std.specs.Prelude.{ℕ, true, List, [], Option, None}
+use Rattle.std.specs.Prelude.{ℕ, true, List, [], None}
 use Rattle.http_model.specs.declared.reply.ReplyForm.{ReplyForm}
 use Rattle.http_model.specs.declared.reply.StreamEnd.{StreamEnd}
 use Rattle.http_model.specs.declared.reply.StreamEnd.TheVariants as End

@@ -1,5 +1,5 @@
 -- The fields of replies in their one order (RFC 9110; OpenStack Object Storage API v1).
-use Rattle.std.specs.Prelude.{ℕ, ◌+◌, ◌-◌, Bool, true, false, List, [], ◌∷◌, ◌++◌, map, Option, Some, None, codes, decimal}
+use Rattle.std.specs.Prelude.{ℕ, ◌+◌, ◌-◌, Bool, false, List, [], ◌∷◌, ◌++◌, map, Option, Some, None, codes, decimal}
 use Rattle.http_model.specs.declared.field.Field.{Field}
 use Rattle.http_model.specs.Replies.{field_if, content_length_field, content_type_field, etag_field, last_modified_field, accept_ranges_field, close_field}
 use Rattle.swift_reply.specs.declared.reply.ShownSpan.{ShownSpan}

@@ -1,5 +1,5 @@
 -- What the known replies are replies with.
-use Rattle.std.specs.Prelude.{ℕ, true, false, List, [], ◌∷◌, Option, Some, None, codes}
+use Rattle.std.specs.Prelude.{ℕ, true, false, List, [], ◌∷◌, Option, codes}
 use Rattle.http_model.specs.declared.reply.ReplyForm.{ReplyForm}
 use Rattle.rgw_types.specs.declared.stamp.Stamp.{Stamp}
 use Rattle.swift_reply.specs.declared.reply.ContainerCounts.{ContainerCounts}

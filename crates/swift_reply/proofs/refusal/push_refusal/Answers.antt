@@ -1,7 +1,6 @@
 use Rattle.std.proofs.Common.{ℕ, ◌≡◌, ◌+◌, List, ◌++◌, length, flat_map, ◌∙◌, sym, ap, arith, append_assoc}
 use Rattle.std.proofs.lemmas.List.{length-append}
 use Rattle.std.proofs.lemmas.List.Concat.{flat_map-append}
-use Rattle.http_model.specs.declared.field.Field.{Field}
 use Rattle.http_model.specs.Replies.{crlf, status_line, field_line, closing_fields, content_length_field, content_type_field, field_if, line_kind, line_body, written_body, head_text, text_of}
 use Rattle.swift_reply.specs.Fields.{field_for, allow_field, challenge_field}
 use Rattle.swift_reply.specs.Replies.{refusal_code, refusal_front, refusal_rest, refusal_line, refusal_range, refusal_allow, refusal_challenges, own_fields, reply_text}
