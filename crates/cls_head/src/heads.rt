@@ -1,4 +1,4 @@
-ghost use Rattle.std.specs.Prelude.{◌≡◌, ◌<◌, ◌≤◌, ◌^◌, IfOk, length};
+ghost use Rattle.std.specs.Prelude.{◌≡◌, ◌≤◌, IfOk};
 ghost use Rattle.rgw_types.specs.Stripes.{ManifestView};
 ghost use Rattle.object_pool.specs.Places.{object_of, pool_of};
 ghost use Rattle.object_words.specs.Answers.{Answers};
@@ -86,7 +86,6 @@ pub fn write(
     clock: u64,
 ) -> Result<Changed, ClassFault>
     requires head { (h : Head) × IsHead (object_of head.old) h }
-    requires first { length new.now.first < 2 ^ 32 }
     requires zone_low { 1 ≤ zone }
     requires zone_high { zone ≤ 8 }
     ensures works { WorksWith head.old head.new (pool_of head.new).free }

@@ -1,4 +1,4 @@
-ghost use Rattle.std.specs.Prelude.{◌≡◌, ◌<◌, ◌^◌, length};
+ghost use Rattle.std.specs.Prelude.{◌≡◌};
 ghost use Rattle.object_pool.specs.Places.{object_of, pool_of};
 ghost use Rattle.object_words.specs.Answers.{Answers, Replies};
 ghost use Rattle.object_words.specs.Tails.{Tail, bytes_at, read_refusal, tail_made, tail_refusal};
@@ -12,7 +12,6 @@ use std::alloc::Global;
 
 /// Makes a tail of these bytes, or refuses where too few frames are free for them. Takes no memory.
 pub fn make_tail(tail: &mut Place<'_>, bytes: &[u8]) -> Result<(), Why>
-    requires { length bytes.now < 2 ^ 32 }
     ensures works { WorksWith tail.old tail.new (pool_of tail.new).free }
     ensures answers { (t : Tail) → IsTail (object_of tail.old) t
         → Replies result (tail_refusal bytes.now (pool_of tail.old).free (pool_of tail.old).frame) (λ _. Unit {0})

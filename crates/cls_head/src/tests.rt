@@ -87,7 +87,6 @@ fn change(
     clock: u64,
 ) -> Answer
     requires head { (h : Head) × IsHead (object_of head.old) h }
-    requires first { length new.now.first < 2 ^ 32 }
     ensures { (h : Head) × IsHead (object_of head.new) h }
 {
     let guard = Guard {

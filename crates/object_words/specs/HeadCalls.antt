@@ -1,5 +1,5 @@
 -- What each call does to a head: why it is refused, and what it leaves, which is the head as it was where it is refused.
-use Rattle.std.specs.Prelude.{ℕ, ◌==◌, nat_lt, nat_le, Option, Some, None, unwrap_or, if◌then◌else◌}
+use Rattle.std.specs.Prelude.{ℕ, ◌-◌, ◌^◌, ◌==◌, min, nat_lt, nat_le, Option, Some, None, unwrap_or, if◌then◌else◌}
 use Rattle.rgw_types.specs.declared.stamp.Stamp.{Stamp}
 use Rattle.rgw_types.specs.Stamps.{stamp_above}
 use Rattle.object_words.specs.declared.entry.Guard.{Guard}
@@ -36,9 +36,9 @@ guard_refusal guard clock = if nat_le guard.deadline clock then Some (Expired gu
 abbrev pub condition_refusal : Conditions → SeenSlot → Option Why
 condition_refusal when slot = if fails when (etag_of slot) then Some (NotMet (seen_stamp slot)) else None
 
--- fewer frames are free than the bytes take
+-- fewer frames are free than the bytes take; how many they take is told up to the greatest number of 32 bits
 abbrev pub space_refusal : ℕ → ℕ → Option Why
-space_refusal free needed = if nat_lt free needed then Some (NoSpace free needed) else None
+space_refusal free needed = if nat_lt free needed then Some (NoSpace free (min needed (2 ^ 32 - 1))) else None
 
 -- ---- write
 

@@ -98,7 +98,7 @@ write_unwritten head guard new when clock free frame =
     (tested IsUnwritten (nat_le guard.deadline clock) (Expired guard.deadline clock) tt)
     (first_is IsUnwritten (condition_refusal when head.slot) (space_refusal free (frames_for frame new.first))
     (tested IsUnwritten (fails when (etag_of head.slot)) _ tt)
-    (tested IsUnwritten (nat_lt free (frames_for frame new.first)) (NoSpace free (frames_for frame new.first)) tt))
+    (tested IsUnwritten (nat_lt free (frames_for frame new.first)) _ tt))
 
 -- ---- answers
 
@@ -147,7 +147,7 @@ reply_suits settings st (HeadWrite zone container name guard new when) =
 reply_suits settings st (TailMake zone write part bytes) =
     let needed = frames_for settings.frame bytes in
     answer_suits (TailMake zone write part bytes) _ (tail_refusal bytes (st.free zone) settings.frame) tt
-    (tested (λ why. Suits (TailMake zone write part bytes) (No why)) (nat_lt (st.free zone) needed) (NoSpace (st.free zone) needed) tt)
+    (tested (λ why. Suits (TailMake zone write part bytes) (No why)) (nat_lt (st.free zone) needed) _ tt)
 reply_suits settings st (TailRead zone write part start count) =
     let tail = st.tails zone (tail_key write part) in
     answer_suits (TailRead zone write part start count) _ (read_refusal tail st.clock) tt
