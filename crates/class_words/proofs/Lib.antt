@@ -1,1 +1,2 @@
 pub mod WorksLemmas
+pub mod LogLemmas

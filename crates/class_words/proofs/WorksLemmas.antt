@@ -1,5 +1,5 @@
 -- What one call on a place leaves, and one after another.
-use Rattle.std.proofs.Common.{◌≡◌, ℕ, refl, ap, ◌∙◌}
+use Rattle.std.proofs.Common.{ℕ, refl, ap, ◌∙◌}
 use Rattle.object_pool.specs.declared.place.Place.{Place}
 use Rattle.object_pool.specs.Objects.{Object, object_at}
 use Rattle.object_pool.specs.Places.{Becomes, Changes, ChangesRows, Stays, pool_of}

@@ -1,17 +1,16 @@
 -- When an object of a pool is a shard of an index.
-use Rattle.std.specs.Prelude.{◌≡◌, ℕ, ◌+◌, ◌*◌, ◌^◌, ◌<◌, ◌≤◌, true, List, [], length, Option, Some, None, IfSome, option_map}
+use Rattle.std.specs.Prelude.{◌≡◌, ℕ, ◌+◌, ◌*◌, ◌^◌, ◌<◌, ◌≤◌, List, [], length, Option, Some, None, IfSome, option_map}
 use Rattle.std.specs.List.{AllByRecursion}
-use Rattle.std.specs.Str.{IsUtf8}
 use Rattle.omap_pages.specs.Contents.{Contents, room_at}
 use Rattle.omap_pages.specs.Rows.{value_at}
 use Rattle.object_pool.specs.Objects.{Object, nothing}
-use Rattle.object_words.specs.Limits.{is_name}
 use Rattle.object_words.specs.Names.{at}
 use Rattle.object_words.specs.Entries.{EntryView}
 use Rattle.object_words.specs.Shards.{Shard, byte_count, object_count, sum_over, tag_count}
 use Rattle.index_entry.specs.declared.header.ShardHeader.{ShardHeader}
 use Rattle.index_entry.specs.Headers.{IsHeader, header_bytes}
 use Rattle.index_entry.specs.Layouts.{IsEntry, entry_bytes}
+use Rattle.index_entry.specs.LogRows.{IsNameText}
 use Rattle.class_words.specs.LogRows.{IsLog, logged_at, or_logged}
 
 -- the header with the sums over the shard's entries
@@ -32,7 +31,7 @@ entry_room e = 318 + 16 * length e.tags
 
 -- a text that is a name of an object
 abbrev pub IsObjectName : List ℕ → Type 0
-IsObjectName name = IsUtf8 name × (is_name 1024 name ≡ true)
+IsObjectName name = IsNameText 1024 name
 
 -- the name has this entry, or none, and room for each later value of it
 pub record HasEntry (c : Contents) (name : List ℕ) (found : Option EntryView) : Type 0 where

@@ -5,13 +5,13 @@ use Rattle.object_pool.specs.Objects.{KeepsCounts, KeepsOthers}
 use Rattle.object_pool.specs.Places.{borrow_of, key_of, object_of, pool_of}
 
 -- only the object at the place changes, and so many frames are free then
-pub record WorksWith (old new : Place) (free : ℕ) : Type 0 where
+pub record WorksWith (old new : Place) (left : ℕ) : Type 0 where
   pub same_borrow : borrow_of new ≡ borrow_of old
   pub key : key_of new ≡ key_of old
   pub others : KeepsOthers (pool_of old) (pool_of new) (key_of old)
   pub frame : (pool_of new).frame ≡ (pool_of old).frame
   pub frames : (pool_of new).frames ≡ (pool_of old).frames
-  pub free : (pool_of new).free ≡ free
+  pub free : (pool_of new).free ≡ left
 
 -- only the object at the place changes, and no frame is taken or given back
 pub record Works (old new : Place) : Type 0 where

@@ -45,7 +45,7 @@ pub fn logs_and_names_stand_apart()
 pub fn a_log_grows_at_its_end()
     ensures absent { (log : LogOf) → IsLog log → log.last + 1 < 2 ^ 64 → logged_at log (log_key (log.last + 1)) ≡ None }
     ensures there { (log : LogOf) (what : WhatOf) → IsLog log → log.last + 1 < 2 ^ 64 → logged_at (logged log what) (log_key (log.last + 1)) ≡ Some (what_bytes what) }
-    ensures others { (log : LogOf) (what : WhatOf) (key : List ℕ) → log.last + 1 < 2 ^ 64 → key ≢ log_key (log.last + 1) → logged_at (logged log what) key ≡ logged_at log key }
+    ensures others { (log : LogOf) (what : WhatOf) (key : List ℕ) → IsLog log → log.last + 1 < 2 ^ 64 → key ≢ log_key (log.last + 1) → logged_at (logged log what) key ≡ logged_at log key }
     ensures kept { (log : LogOf) (what : WhatOf) → IsLog log → IsWhat what → log.last + 1 < 2 ^ 64 → IsLog (logged log what) }
 {}
 

@@ -143,6 +143,7 @@ impl Place<'_> {
         ensures other_rooms { OnOk result (KeepsOtherRooms (rows_of self.old) (rows_of self.new) key) }
         ensures spare { (rows_of self.new).spare ≡ (rows_of self.old).spare }
         ensures err { OnErr result (Stays self.old self.new) }
+        ensures in_order { IsInOrder (rows_of self.new).rows }
     {
         self.pool.parts_mut(self.key).rows_mut().put(key, value)
     }
@@ -158,6 +159,7 @@ impl Place<'_> {
         ensures other_rooms { KeepsOtherRooms (rows_of self.old) (rows_of self.new) key.now }
         ensures spare { (rows_of self.new).spare ≡ (rows_of self.old).spare }
         ensures absent { OnFalse result (rows_of self.new ≡ rows_of self.old) }
+        ensures in_order { IsInOrder (rows_of self.new).rows }
     {
         self.pool.parts_mut(self.key).rows_mut().remove(key)
     }
@@ -174,6 +176,7 @@ impl Place<'_> {
         ensures rooms_outside { KeepsRoomsOutside (rows_of self.old) (rows_of self.new) from.now to.now }
         ensures spare { (rows_of self.new).spare ≡ (rows_of self.old).spare }
         ensures none { result ≡ 0 → rows_of self.new ≡ rows_of self.old }
+        ensures in_order { IsInOrder (rows_of self.new).rows }
     {
         self.pool
             .parts_mut(self.key)
@@ -197,6 +200,7 @@ impl Place<'_> {
         ensures spare { (rows_of self.new).spare ≡ (rows_of self.old).spare }
         ensures readied { Readies self.old self.new }
         ensures err { OnErr result (Stays self.old self.new) }
+        ensures in_order { IsInOrder (rows_of self.new).rows }
     {
         self.pool.parts_mut(self.key).rows_mut().widen(key, room)
     }
@@ -220,6 +224,7 @@ impl Place<'_> {
         ensures others { rows.KeepsOthers (rows_of self.old).rows (rows_of self.new).rows key.now }
         ensures rooms { KeepsRooms (rows_of self.old) (rows_of self.new) }
         ensures spare { (rows_of self.new).spare ≡ (rows_of self.old).spare }
+        ensures in_order { IsInOrder (rows_of self.new).rows }
     {
         self.pool
             .parts_mut(self.key)
@@ -241,6 +246,7 @@ impl Place<'_> {
         ensures rooms { KeepsRooms (rows_of self.old) (rows_of self.new) }
         ensures readied { Readies self.old self.new }
         ensures err { OnErr result (Stays self.old self.new) }
+        ensures in_order { IsInOrder (rows_of self.new).rows }
     {
         self.pool.parts_mut(self.key).rows_mut().reserve(count)
     }
@@ -260,6 +266,7 @@ impl Place<'_> {
         ensures fits { length value.now ≤ room_at (rows_of self.new).rooms key.now }
         ensures rooms { KeepsRooms (rows_of self.old) (rows_of self.new) }
         ensures spare { (rows_of self.new).spare + 1 ≡ (rows_of self.old).spare }
+        ensures in_order { IsInOrder (rows_of self.new).rows }
     {
         self.pool
             .parts_mut(self.key)

@@ -89,6 +89,7 @@ impl Omap {
         ensures other_rooms { OnOk result (KeepsOtherRooms self.old self.new key) }
         ensures spare { self.new.spare ≡ self.old.spare }
         ensures err { OnErr result (self.new ≡ self.old) }
+        ensures in_order { IsInOrder self.new.rows }
     {
         match search(self.leaves.as_slice(), key.as_slice()) {
             Ok(place) => self.leaves.row_mut(place).set_value(value.into_vec()),
@@ -122,6 +123,7 @@ impl Omap {
         ensures other_rooms { KeepsOtherRooms self.old self.new key.now }
         ensures spare { self.new.spare ≡ self.old.spare }
         ensures absent { OnFalse result (self.new ≡ self.old) }
+        ensures in_order { IsInOrder self.new.rows }
     {
         match search(self.leaves.as_slice(), key) {
             Ok(place) => {
@@ -142,6 +144,7 @@ impl Omap {
         ensures rooms_outside { KeepsRoomsOutside self.old self.new from.now to.now }
         ensures spare { self.new.spare ≡ self.old.spare }
         ensures none { result ≡ 0 → self.new ≡ self.old }
+        ensures in_order { IsInOrder self.new.rows }
     {
         if self.leaves.is_empty() {
             return 0;
@@ -163,6 +166,7 @@ impl Omap {
         ensures rooms { KeepsRooms self.old self.new }
         ensures spare { self.new.spare ≡ self.old.spare }
         ensures err { OnErr result (self.new ≡ self.old) }
+        ensures in_order { IsInOrder self.new.rows }
     {
         let place = place_of(self.leaves.as_slice(), key);
         self.leaves.row_mut(place).widen(room as usize)?;
@@ -186,6 +190,7 @@ impl Omap {
         ensures others { KeepsOthers self.old.rows self.new.rows key.now }
         ensures rooms { KeepsRooms self.old self.new }
         ensures spare { self.new.spare ≡ self.old.spare }
+        ensures in_order { IsInOrder self.new.rows }
     {
         let place = place_of(self.leaves.as_slice(), key);
         self.leaves
@@ -203,6 +208,7 @@ impl Omap {
         ensures rows { self.new.rows ≡ self.old.rows }
         ensures rooms { KeepsRooms self.old self.new }
         ensures err { OnErr result (self.new ≡ self.old) }
+        ensures in_order { IsInOrder self.new.rows }
     {
         let count = self.spares.len().max(rows as usize);
         self.leaves.reserve(count)?;
@@ -223,6 +229,7 @@ impl Omap {
         ensures fits { length value.now ≤ room_at self.new.rooms key.now }
         ensures rooms { KeepsRooms self.old self.new }
         ensures spare { self.new.spare + 1 ≡ self.old.spare }
+        ensures in_order { IsInOrder self.new.rows }
     {
         let place = gap_for(self.leaves.as_slice(), key);
         let (row, leaf) = self.spares.make_row(key, value);

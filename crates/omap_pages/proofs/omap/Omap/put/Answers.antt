@@ -1,9 +1,10 @@
-use Rattle.std.proofs.Common.{◌≡◌, length, ap, ◌∙◌, arith}
+use Rattle.std.proofs.Common.{◌≡◌, length, refl, ap, ◌∙◌, arith}
 use Rattle.std.specs.List.{insert}
-use Rattle.std.specs.FinMap.Entries.{put}
+use Rattle.std.specs.FinMap.Entries.{is_sorted, put}
+use Rattle.omap_pages.specs.Cells.{contents_of}
 use Rattle.omap_pages.specs.Leaves.{flat, position, with_row_at}
 use Rattle.omap_pages.specs.Rows.{key_cmp}
-use Rattle.omap_pages.proofs.CellLemmas.{IsPut, is_put, sorted_put}
+use Rattle.omap_pages.proofs.CellLemmas.{IsPut, is_put, order_seen, sorted_put}
 use Rattle.omap_pages.proofs.KeyLemmas.{written, put_in}
 use Rattle.omap_pages.proofs.omap.Omap.put.Goals as goal
 
@@ -26,6 +27,7 @@ returns-in-Ok c = let seen = seen_over c in record {
   other_rooms = seen.other_rooms;
   spare = ap (λ o. o.spare) c.self.view_is;
   err = tt;
+  in_order = order_seen (flat (with_row_at c.self.inside.leaves.leaves c.in-Ok.place c.set_value.new.self)) c.self.inside.spares (contents_of (flat (with_row_at c.self.inside.leaves.leaves c.in-Ok.place c.set_value.new.self)) c.self.inside.spares) refl (sorted_put (flat c.self.inside.leaves.leaves) _ c.self.invariant.0 _ _ (over c));
 }
 
 -- the row goes into the gap for its key
@@ -47,6 +49,7 @@ returns-then-has_room c = let seen = seen_into c in record {
   other_rooms = seen.other_rooms;
   spare = ap (λ o. o.spare) c.self.view_is;
   err = tt;
+  in_order = order_seen (flat c.insert.new.self.leaves) c.self.inside.spares (contents_of (flat c.insert.new.self.leaves) c.self.inside.spares) refl (sorted_put (flat c.self.inside.leaves.leaves) _ c.self.invariant.0 _ _ (into c));
 }
 
 -- it does so with a new leaf
@@ -68,4 +71,11 @@ returns-in_ok-leaf-in-Err c = let seen = seen_into_new c in record {
   other_rooms = seen.other_rooms;
   spare = ap (λ o. o.spare) c.self.view_is;
   err = tt;
+  in_order = order_seen (flat c.insert_with.new.self.leaves) c.self.inside.spares (contents_of (flat c.insert_with.new.self.leaves) c.self.inside.spares) refl (sorted_put (flat c.self.inside.leaves.leaves) _ c.self.invariant.0 _ _ (into_new c));
 }
+
+pub returns-in_err-reserve-in-Err-clause-in_order : goal.returns-in_err-reserve-in-Err-clause-in_order
+returns-in_err-reserve-in-Err-clause-in_order c = order_seen (flat c.reserve.new.self.leaves) c.self.inside.spares (contents_of (flat c.reserve.new.self.leaves) c.self.inside.spares) refl (ap (λ z. is_sorted key_cmp (flat z)) c.reserve.ensures.leaves ∙ c.self.invariant.0)
+
+pub returns-in_err-leaf-in-Err-clause-in_order : goal.returns-in_err-leaf-in-Err-clause-in_order
+returns-in_err-leaf-in-Err-clause-in_order c = order_seen (flat c.reserve.new.self.leaves) c.self.inside.spares (contents_of (flat c.reserve.new.self.leaves) c.self.inside.spares) refl (ap (λ z. is_sorted key_cmp (flat z)) c.reserve.ensures.leaves ∙ c.self.invariant.0)

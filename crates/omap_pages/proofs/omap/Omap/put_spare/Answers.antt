@@ -1,8 +1,9 @@
 use Rattle.std.proofs.Common.{◌≡◌, refl, ap, ◌∙◌, arith}
 use Rattle.std.specs.FinMap.Entries.{find, put, is_sorted}
+use Rattle.omap_pages.specs.Cells.{contents_of}
 use Rattle.omap_pages.specs.Leaves.{flat}
 use Rattle.omap_pages.specs.Rows.{key_cmp}
-use Rattle.omap_pages.proofs.CellLemmas.{is_put, sorted_put, none_seen, room_seen}
+use Rattle.omap_pages.proofs.CellLemmas.{order_seen, is_put, sorted_put, none_seen, room_seen}
 use Rattle.omap_pages.proofs.KeyLemmas.{put_in}
 use Rattle.omap_pages.proofs.omap.Omap.put_spare.Goals as goal
 
@@ -33,4 +34,5 @@ returns c =
       fits = omega (arith, seen.room, c.make_row-row.ensures.fits);
       rooms = seen.all_rooms (omega (arith, none));
       spare = omega (arith, ap (λ o. o.spare) c.self.view_is, c.make_row-row.ensures.fewer);
+      in_order = order_seen (flat c.insert_with.new.self.leaves) c.make_row-row.new.self (contents_of (flat c.insert_with.new.self.leaves) c.make_row-row.new.self) refl (sorted_put (flat c.self.inside.leaves.leaves) _ c.self.invariant.0 _ _ (into c));
     }

@@ -1,9 +1,10 @@
 use Rattle.std.proofs.Common.{◌≡◌, not, is_some, ap, sym, ◌∙◌, arith, refl}
 use Rattle.std.specs.FinMap.Entries.{where_key}
 use Rattle.std.specs.Ordering.{eq_by_cmp}
+use Rattle.omap_pages.specs.Cells.{contents_of}
 use Rattle.omap_pages.specs.Leaves.{flat}
 use Rattle.omap_pages.specs.Rows.{key_cmp}
-use Rattle.omap_pages.proofs.CellLemmas.{is_kept, sorted_where, is_some_seen, value_seen, same_rows, apart, tied}
+use Rattle.omap_pages.proofs.CellLemmas.{order_seen, is_kept, sorted_where, is_some_seen, value_seen, same_rows, apart, tied}
 use Rattle.omap_pages.proofs.KeyLemmas.{removed, found_some, found_none, kept_all}
 use Rattle.omap_pages.proofs.omap.Omap.remove.Goals as goal
 
@@ -27,6 +28,7 @@ returns-in-Ok c =
       other_rooms = λ q ne. seen.rooms q (ap not (apart key q (λ e. ne (sym e))));
       spare = ap (λ o. o.spare) c.self.view_is;
       absent = tt;
+      in_order = order_seen (flat c.remove.new.self.leaves) c.self.inside.spares (contents_of (flat c.remove.new.self.leaves) c.self.inside.spares) refl (sorted_where (flat c.self.inside.leaves.leaves) _ c.self.invariant.0 _ (kept c));
     }
 
 pub returns-in-Err : goal.returns-in-Err
@@ -45,4 +47,5 @@ returns-in-Err c =
       other_rooms = λ q ne. omega arith;
       spare = refl;
       absent = refl;
+      in_order = order_seen (flat c.self.inside.leaves.leaves) c.self.inside.spares c.args.self.now c.self.view_is c.self.invariant.0;
     }

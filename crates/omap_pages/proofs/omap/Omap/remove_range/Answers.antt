@@ -1,4 +1,4 @@
-use Rattle.std.proofs.Common.{◌≡◌, not, max, inl, inr, subst, ap, ◌∙◌, arith}
+use Rattle.std.proofs.Common.{◌≡◌, not, max, inl, inr, refl, subst, ap, ◌∙◌, arith}
 use Rattle.std.specs.List.{remove_range}
 use Rattle.std.specs.Ordering.{is_le}
 use Rattle.std.specs.FinMap.Entries.{where_key}
@@ -7,7 +7,7 @@ use Rattle.omap_pages.specs.Cells.{contents_of}
 use Rattle.omap_pages.specs.Leaves.{flat, position, IsNotAfter, IsPlace}
 use Rattle.omap_pages.specs.Places.{IsPartedAt}
 use Rattle.omap_pages.specs.Rows.{key_cmp, is_within}
-use Rattle.omap_pages.proofs.CellLemmas.{is_kept, sorted_where, length-where_seen}
+use Rattle.omap_pages.proofs.CellLemmas.{order_seen, is_kept, sorted_where, length-where_seen}
 use Rattle.omap_pages.proofs.LeavesLemmas.{position_rises}
 use Rattle.omap_pages.proofs.RangeLemmas.{outside_range, length-within_range}
 use Rattle.omap_pages.proofs.omap.Omap.remove_range.Goals as goal
@@ -60,4 +60,5 @@ returns c =
           let same : position ls c.later-end.result ≡ position ls c.start_from-start.result = omega (arith, c.remove_range.ensures.count) in
           let unchanged = removed c ∙ ap (λ end. remove_range cells (position ls c.start_from-start.result) end) same ∙ take-append-drop (position ls c.start_from-start.result) cells in
           ap (λ es. contents_of es spare) unchanged ∙ c.self.view_is;
+      in_order = order_seen (flat c.remove_range.new.self.leaves) c.self.inside.spares (contents_of (flat c.remove_range.new.self.leaves) c.self.inside.spares) refl (sorted_where (flat c.self.inside.leaves.leaves) _ c.self.invariant.0 _ (kept c));
     }

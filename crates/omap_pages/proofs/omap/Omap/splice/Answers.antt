@@ -1,9 +1,10 @@
 use Rattle.std.proofs.Common.{◌≡◌, ◌+◌, Some, is_some, refl, ap, sym, ◌∙◌, arith}
 use Rattle.std.specs.FinMap.Entries.{find, put, is_sorted}
 use Rattle.std.specs.List.{splice}
+use Rattle.omap_pages.specs.Cells.{contents_of}
 use Rattle.omap_pages.specs.Leaves.{flat, with_row_at}
 use Rattle.omap_pages.specs.Rows.{key_cmp, with_row}
-use Rattle.omap_pages.proofs.CellLemmas.{is_put, sorted_put, is_some_seen, value_seen, room_seen}
+use Rattle.omap_pages.proofs.CellLemmas.{order_seen, is_put, sorted_put, is_some_seen, value_seen, room_seen}
 use Rattle.omap_pages.proofs.KeyLemmas.{found, written}
 use Rattle.omap_pages.proofs.omap.Omap.splice.Goals as goal
 
@@ -53,4 +54,5 @@ returns c =
       others = seen.others;
       rooms = seen.all_rooms (omega (arith, room));
       spare = ap (λ o. o.spare) c.self.view_is;
+      in_order = order_seen (flat (with_row_at c.self.inside.leaves.leaves c.place_of-place.result c.splice.new.self)) c.self.inside.spares (contents_of (flat (with_row_at c.self.inside.leaves.leaves c.place_of-place.result c.splice.new.self)) c.self.inside.spares) refl (sorted_put (flat c.self.inside.leaves.leaves) _ c.self.invariant.0 _ _ (over c));
     }

@@ -41,6 +41,7 @@ returns c =
       rooms = seen.all_rooms (omega (arith, room, c.in_ok-widen.ensures.ok));
       spare = ap (λ o. o.spare) c.self.view_is;
       err = tt;
+      in_order = order_seen (flat (with_row_at c.self.inside.leaves.leaves c.place_of-place.result c.widen.new.self)) c.self.inside.spares (contents_of (flat (with_row_at c.self.inside.leaves.leaves c.place_of-place.result c.widen.new.self)) c.self.inside.spares) refl (sorted_put (flat c.self.inside.leaves.leaves) _ c.self.invariant.0 _ _ (over c));
     }
 
 -- after an error the row is what it was
@@ -72,3 +73,6 @@ returns-in_err-widen-clause-enough c = λ le.
     let is = found c.as_slice.result.now c.self.inside.leaves.leaves c.as_slice.ensures.leaves c.args.key.now c.args.key.now refl c.place_of-place.result c.place_of-place.ensures.at c.row_mut.result.now c.row_mut.ensures.value in
     let room = room_seen cells c.self.inside.spares c.args.self.now c.self.view_is c.args.key.now _ is in
     absurd (let no = c.in_err-widen.ensures.enough (omega (arith, room, le)) in cc no)
+
+pub returns-in_err-widen-clause-in_order : goal.returns-in_err-widen-clause-in_order
+returns-in_err-widen-clause-in_order c = order_seen (flat (with_row_at c.self.inside.leaves.leaves c.place_of-place.result c.widen.new.self)) c.self.inside.spares (contents_of (flat (with_row_at c.self.inside.leaves.leaves c.place_of-place.result c.widen.new.self)) c.self.inside.spares) refl (ap (is_sorted key_cmp) (unchanged c) ∙ c.self.invariant.0)
