@@ -1,8 +1,8 @@
 -- The sums in the header of a shard after one change.
-use Rattle.std.proofs.Common.{◌≡◌, ℕ, ◌+◌, ◌-◌, ◌<◌, ◌≤◌, ◌^◌, ◌==◌, ◌||◌, not, Bool, true, false, cond, true≢false, if◌then◌else◌, List, length, refl, sym, ap, ◌∙◌, arith}
+use Rattle.std.proofs.Common.{◌≡◌, ℕ, ◌+◌, ◌≤◌, ◌==◌, ◌||◌, not, Bool, true, false, cond, true≢false, if◌then◌else◌, List, length, refl, sym, ap, arith}
 use Rattle.std.proofs.lemmas.Bool.Decides.{nat_tests}
 use mir.Val.{bool_byte}
-use Rattle.object_words.specs.Rows.{RowView, no_row}
+use Rattle.object_words.specs.Rows.{RowView}
 use Rattle.object_words.specs.Entries.{EntryView, is_kept, no_entry}
 use Rattle.object_words.specs.Shards.{Shard, byte_count, entry_at, object_count, sum_over, tag_count, with_entry}
 use Rattle.object_words.proofs.Sums.{sum-with_entry}

@@ -6,3 +6,5 @@ pub mod ShardLemmas
 pub mod CountLemmas
 pub mod SettleLemmas
 pub mod StartLemmas
+pub mod PageLemmas
+pub mod WithinLemmas

@@ -1,14 +1,13 @@
 -- The bytes of an entry with one piece put in the place of another.
-use Rattle.std.proofs.Common.{◌≡◌, ℕ, zero, suc, ◌+◌, ◌-◌, ◌*◌, ◌<◌, ◌≤◌, List, [], ◌∷◌, ◌++◌, length, take, drop, refl, sym, ap, ap₂, ◌∙◌, arith, append_assoc, append-nil, length-append}
+use Rattle.std.proofs.Common.{◌≡◌, ℕ, zero, suc, ◌+◌, ◌*◌, ◌<◌, List, [], ◌∷◌, ◌++◌, length, take, drop, refl, sym, ap, ap₂, ◌∙◌, arith, append_assoc, append-nil, length-append}
 use Rattle.std.specs.List.{remove, splice}
-use Rattle.std.proofs.lemmas.List.{take_at, drop_at, drop-drop, take_all, drop_all, length-take, length-drop}
+use Rattle.std.proofs.lemmas.List.{take_at, drop_at, length-take}
 use Rattle.object_words.specs.declared.entry.Tag.{Tag}
 use Rattle.object_words.specs.Rows.{RowView}
-use Rattle.object_words.specs.Entries.{EntryView}
 use Rattle.index_entry.specs.Numbers.{number_bytes}
-use Rattle.index_entry.specs.Layouts.{entry_bytes, flag, front_bytes, row_bytes, tag_bytes, tags_bytes}
+use Rattle.index_entry.specs.Layouts.{flag, front_bytes, row_bytes, tag_bytes, tags_bytes}
 use Rattle.index_entry.proofs.PieceLemmas.{length-number_bytes}
-use Rattle.index_entry.proofs.TagLemmas.{drop-tags_bytes, length-tag_bytes, length-tags_bytes, tags_bytes-append}
+use Rattle.index_entry.proofs.TagLemmas.{length-tag_bytes, length-tags_bytes, tags_bytes-append}
 use Rattle.index_entry.proofs.EntryLemmas.{length-front_bytes}
 
 -- one piece in the place of another

@@ -1,25 +1,22 @@
 -- The row of one name at one change.
-use Rattle.std.proofs.Common.{◌≡◌, ℕ, ◌+◌, ◌-◌, ◌*◌, ◌<◌, ◌≤◌, ◌^◌, List, [], ◌∷◌, ◌++◌, length, Option, Some, None, option_map, IsSome, IfSome, unwrap_or, refl, sym, ap, ◌∙◌, subst, arith, length-append, append-nil}
+use Rattle.std.proofs.Common.{◌≡◌, ℕ, ◌+◌, ◌*◌, ◌<◌, ◌^◌, List, [], ◌∷◌, ◌++◌, length, Option, Some, None, option_map, IsSome, IfSome, unwrap_or, refl, sym, ap, ◌∙◌, subst, arith, length-append}
 use Rattle.std.specs.List.{AllByRecursion, remove, splice}
 use Rattle.std.proofs.lemmas.List.Edits.{length-remove}
-use Rattle.omap_pages.specs.Contents.{Contents, room_at, KeepsRooms}
+use Rattle.omap_pages.specs.Contents.{Contents, KeepsRooms}
 use Rattle.omap_pages.specs.Rows.{value_at}
-use Rattle.omap_pages.specs.Rows as rows
 use Rattle.object_pool.specs.declared.place.Place.{Place}
-use Rattle.object_pool.specs.Places.{Readies, rows_of}
 use Rattle.object_words.specs.declared.entry.Tag.{Tag}
 use Rattle.object_words.specs.Rows.{RowView, no_row}
 use Rattle.object_words.specs.Entries.{EntryView, entry_of, no_entry, with_tags}
-use Rattle.object_words.specs.Tags.{tags_rise, with_tag}
+use Rattle.object_words.specs.Tags.{with_tag}
 use Rattle.index_entry.specs.declared.entry.EntryFront.{EntryFront}
 use Rattle.index_entry.specs.Numbers.{number_bytes}
 use Rattle.index_entry.specs.Layouts.{IsEntry, IsTag, IsWritten, entry_bytes, front_bytes, front_of, row_bytes, tag_bytes}
-use Rattle.index_entry.proofs.EntryLemmas.{length-entry_bytes, no_row_written, row_most}
+use Rattle.index_entry.proofs.EntryLemmas.{no_row_written}
 use Rattle.class_words.specs.Shards.{HasEntry}
-use Rattle.class_words.specs.Works.{WorksOnRows}
-use Rattle.class_words.proofs.WorksLemmas.{works_on_rows, works_on_rows_then}
+use Rattle.class_words.proofs.WorksLemmas.{works_on_rows_then}
 use Rattle.cls_index.specs.Rows.{KeepsToName}
-use Rattle.cls_index.proofs.RawLemmas.{length-raw, raw, raw_count, raw_first, raw_front, raw_less, raw_more, raw_revision}
+use Rattle.cls_index.proofs.RawLemmas.{raw, raw_count, raw_first, raw_front, raw_less, raw_more, raw_revision}
 use Rattle.cls_index.proofs.TagLemmas.{all_with, all_without, rise_less, rise_more}
 
 pub some_same : {X : Type 0} (x y : X) → Some x ≡ Some y → x ≡ y

@@ -1,5 +1,5 @@
 -- A shard after tags were taken from an entry, and its row was kept or stored.
-use Rattle.std.proofs.Common.{◌≡◌, ℕ, ◌+◌, ◌-◌, ◌*◌, ◌≤◌, ◌<◌, ◌^◌, Bool, true, false, cond, List, [], length, Some, refl, sym, ap, ◌∙◌, subst, arith}
+use Rattle.std.proofs.Common.{◌≡◌, ℕ, ◌+◌, ◌-◌, ◌≤◌, ◌<◌, ◌^◌, Bool, true, false, cond, List, Some, sym, ap, ◌∙◌, subst, arith}
 use Rattle.omap_pages.specs.Contents.{Contents, KeepsOtherRooms, KeepsRooms}
 use Rattle.omap_pages.specs.Rows.{value_at}
 use Rattle.omap_pages.specs.Rows as rows

@@ -1,5 +1,5 @@
 -- The rows of a shard after one change.
-use Rattle.std.proofs.Common.{◌≡◌, ◌≢◌, ℕ, ◌+◌, ◌*◌, ◌≤◌, ◌<◌, ◌^◌, Bool, true, false, cond, List, [], ◌∷◌, length, Option, Some, None, option_map, IfSome, refl, sym, ap, ◌∙◌, subst, arith}
+use Rattle.std.proofs.Common.{◌≡◌, ◌≢◌, ℕ, ◌+◌, ◌≤◌, ◌<◌, ◌^◌, Bool, true, false, cond, List, Option, Some, None, option_map, IfSome, refl, sym, ap, ◌∙◌, subst, arith}
 use Rattle.std.specs.Ordering.{eq_by_cmp}
 use Rattle.omap_pages.specs.Contents.{Contents, KeepsOtherRooms, KeepsRooms, room_at}
 use Rattle.omap_pages.specs.Rows.{key_cmp, value_at}
@@ -8,10 +8,10 @@ use Rattle.object_pool.specs.Objects.{Object}
 use Rattle.object_words.specs.declared.entry.Tag.{Tag}
 use Rattle.object_words.specs.declared.log.LogWhat.{LogWhat}
 use Rattle.object_words.specs.declared.log.LogWhat.TheVariants.{Name}
-use Rattle.object_words.specs.Entries.{EntryView, entry_of, is_kept}
+use Rattle.object_words.specs.Entries.{EntryView, is_kept}
 use Rattle.object_words.specs.Logs.{logged}
 use Rattle.object_words.specs.Names.{Named, at, with_name, without_name}
-use Rattle.object_words.specs.Shards.{Shard, entry_at, with_entry}
+use Rattle.object_words.specs.Shards.{Shard, with_entry}
 use Rattle.object_words.proofs.NameLemmas.{at-with_name, at-without_name, is_name_of, name_itself, same_map}
 use Rattle.index_entry.specs.declared.entry.EntryFront.{EntryFront}
 use Rattle.index_entry.specs.declared.header.ShardHeader.{ShardHeader}
@@ -24,7 +24,7 @@ use Rattle.cls_index.specs.Rows.{IsLeft, entry_left, kept_or_none}
 use Rattle.cls_index.proofs.RowLemmas.{if_some}
 
 -- what holds of one entry and of the others
-inserted : (P : List ℕ → EntryView → Type 0) (m : Named EntryView) (name : List ℕ) (e : EntryView) → P name e → ((q : List ℕ) → q ≢ name → IfSome (at m q) (P q)) → (q : List ℕ) → IfSome (at (with_name m name e) q) (P q)
+pub inserted : (P : List ℕ → EntryView → Type 0) (m : Named EntryView) (name : List ℕ) (e : EntryView) → P name e → ((q : List ℕ) → q ≢ name → IfSome (at m q) (P q)) → (q : List ℕ) → IfSome (at (with_name m name e) q) (P q)
 inserted P m name e here others q =
     subst (λ o. IfSome o (P q)) (sym (at-with_name m name e q))
     (elim (is_name_of q name) as (λ b. is_name_of q name ≡ b → IfSome (cond b (Some e) (at m q)) (P q)) [
@@ -32,7 +32,7 @@ inserted P m name e here others q =
       | false ↦ λ t. others q (names_apart q name t)
     ] refl)
 
-removed : (P : List ℕ → EntryView → Type 0) (m : Named EntryView) (name : List ℕ) → ((q : List ℕ) → q ≢ name → IfSome (at m q) (P q)) → (q : List ℕ) → IfSome (at (without_name m name) q) (P q)
+pub removed : (P : List ℕ → EntryView → Type 0) (m : Named EntryView) (name : List ℕ) → ((q : List ℕ) → q ≢ name → IfSome (at m q) (P q)) → (q : List ℕ) → IfSome (at (without_name m name) q) (P q)
 removed P m name others q =
     subst (λ o. IfSome o (P q)) (sym (at-without_name m name q))
     (elim (is_name_of q name) as (λ b. is_name_of q name ≡ b → IfSome (cond b None (at m q)) (P q)) [
@@ -97,7 +97,7 @@ put_and_drop m name a = same_map _ _ (λ q.
 pub changed_twice : (s : Shard) (name : List ℕ) (a e : EntryView) → with_entry (record s { entries = with_name s.entries name a }) name e ≡ with_entry s name e
 changed_twice s name a e =
     elim (is_kept e) as (λ b. ◌≡◌ {A = Shard} (record s { entries = cond b (with_name (with_name s.entries name a) name e) (without_name (with_name s.entries name a) name) })
-        (record s { entries = cond b (with_name s.entries name e) (without_name s.entries name) })) [
+    (record s { entries = cond b (with_name s.entries name e) (without_name s.entries name) })) [
       | true ↦ λ i. record s { entries = put_twice s.entries name a e i }
       | false ↦ λ i. record s { entries = put_and_drop s.entries name a i }
     ]

@@ -1,9 +1,9 @@
 -- A shard of which the row of one name was changed, and not yet the header.
-use Rattle.std.proofs.Common.{◌≡◌, ℕ, ◌+◌, ◌-◌, ◌*◌, ◌≤◌, ◌<◌, ◌^◌, ◌==◌, ◌||◌, not, Bool, true, false, cond, List, [], ◌∷◌, length, Option, Some, None, IfSome, refl, sym, ap, ◌∙◌, subst, arith}
+use Rattle.std.proofs.Common.{◌≡◌, ℕ, ◌+◌, ◌-◌, ◌≤◌, ◌<◌, ◌==◌, ◌||◌, not, Bool, true, false, cond, List, length, Option, Some, None, IfSome, refl, sym, ap, ◌∙◌, subst, arith}
 use Rattle.std.specs.List.{AllByRecursion, remove}
 use Rattle.std.proofs.lemmas.List.Edits.{length-remove}
 use Rattle.std.proofs.lemmas.Bool.Decides.{nat_tests}
-use Rattle.omap_pages.specs.Contents.{Contents, KeepsOtherRooms}
+use Rattle.omap_pages.specs.Contents.{KeepsOtherRooms}
 use Rattle.omap_pages.specs.Rows as rows
 use Rattle.object_pool.specs.declared.place.Place.{Place}
 use Rattle.object_pool.specs.Objects.{Object}
@@ -16,14 +16,14 @@ use Rattle.object_words.specs.Tags.{has_tag, with_tag, without_tag}
 use Rattle.object_words.specs.Entries.{EntryView, entry_of, is_kept, with_tags}
 use Rattle.object_words.specs.Names.{at}
 use Rattle.object_words.specs.Shards.{Shard, byte_count, entry_at, object_count, sum_over, tag_count, with_entry}
-use Rattle.object_words.specs.ShardCalls.{stale_refusal, suggest_refusal, tag_refusal}
+use Rattle.object_words.specs.ShardCalls.{suggest_refusal, tag_refusal}
 use Rattle.index_entry.specs.declared.entry.EntryFront.{EntryFront}
 use Rattle.index_entry.specs.declared.header.ShardHeader.{ShardHeader}
 use Rattle.index_entry.specs.Headers.{header_bytes}
 use Rattle.index_entry.specs.Layouts.{front_of}
 use Rattle.class_words.specs.Shards.{HasEntry, HasTagsBelow, IsObjectName, IsShard, IsSmall, header_of}
 use Rattle.class_words.proofs.LogLemmas.{entry_at_name}
-use Rattle.cls_index.specs.Rows.{IsLeft, KeepsToName, entry_left, kept_or_none}
+use Rattle.cls_index.specs.Rows.{IsLeft, KeepsToName, entry_left}
 use Rattle.cls_index.proofs.RowLemmas.{length-with_tag, tags_in}
 use Rattle.cls_index.proofs.TagLemmas.{is_equal, not_equal}
 use Rattle.cls_index.proofs.CountLemmas.{bytes_moved, objects_moved, tags_moved}

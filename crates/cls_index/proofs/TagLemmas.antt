@@ -1,12 +1,11 @@
 -- Tags of which one goes or comes.
-use Rattle.std.proofs.Common.{◌≡◌, ℕ, zero, suc, ◌+◌, ◌-◌, ◌*◌, ◌<◌, ◌≤◌, ◌==◌, ◌&&◌, ◌||◌, nat_lt, not, Bool, true, false, cond, true≢false, List, [], ◌∷◌, ◌++◌, length, take, drop, get_or, refl, sym, ap, ap₂, ◌∙◌, arith, subst, filter}
+use Rattle.std.proofs.Common.{◌≡◌, ℕ, zero, suc, ◌+◌, ◌<◌, ◌==◌, ◌&&◌, ◌||◌, nat_lt, Bool, true, false, true≢false, List, [], ◌∷◌, length, take, get_or, refl, sym, ap, arith}
 use Rattle.std.specs.List.{AllByRecursion, remove}
-use Rattle.std.proofs.lemmas.List.{take_more, length-take, length-drop}
+use Rattle.std.proofs.lemmas.List.{take_more}
 use Rattle.std.proofs.lemmas.List.Folds.{list_any-append}
 use Rattle.std.proofs.lemmas.Bool.Decides.{nat_tests}
 use Rattle.object_words.specs.declared.entry.Tag.{Tag}
-use Rattle.object_words.specs.Tags.{has_due, has_tag, is_due, tags_due_taken, tags_rise, with_tag, without_tag}
-use Rattle.index_entry.specs.Layouts.{IsTag}
+use Rattle.object_words.specs.Tags.{has_tag, tags_rise, with_tag, without_tag}
 
 -- each tag is below all that follow it
 abbrev pub Rise : List Tag → Type 0

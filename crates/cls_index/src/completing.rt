@@ -16,7 +16,13 @@ use object_words::{EntryRow, ObjectName, Why};
 
 /// Takes a tag away from the entry of a name. Where the version is greater than the entry's, its row is
 /// stored with it, and the change is logged. Takes no memory.
-pub fn complete(shard: &mut Place<'_>, name: &ObjectName, tag: u64, version: u64, row: &EntryRow) -> Result<(), Why>
+pub fn complete(
+    shard: &mut Place<'_>,
+    name: &ObjectName,
+    tag: u64,
+    version: u64,
+    row: &EntryRow,
+) -> Result<(), Why>
     requires { (s : ShardOf) × IsShard (object_of shard.old) s × IsSmall s }
     ensures works { Works shard.old shard.new }
     ensures answers { (s : ShardOf) → IsShard (object_of shard.old) s → IsSmall s

@@ -5,6 +5,7 @@
 mod cancelling;
 mod completing;
 mod header;
+mod paging;
 mod preparing;
 mod rows;
 mod settling;
@@ -14,6 +15,7 @@ mod tags;
 
 pub use cancelling::cancel;
 pub use completing::complete;
+pub use paging::page;
 pub use preparing::prepare;
 pub use statistics::stats;
 pub use suggesting::suggest;

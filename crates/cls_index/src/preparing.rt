@@ -18,7 +18,14 @@ use std::alloc::Global;
 /// Adds a tag to the entry of a name, which need not be there: the tag has the number of the event, and
 /// a deadline so long after the clock. What the change needs later, room in the entry and a row of the log,
 /// is made ready here.
-pub fn prepare(alloc: Global, shard: &mut Place<'_>, name: &ObjectName, number: u64, clock: u64, life: u64) -> Result<Guard, ClassFault>
+pub fn prepare(
+    alloc: Global,
+    shard: &mut Place<'_>,
+    name: &ObjectName,
+    number: u64,
+    clock: u64,
+    life: u64,
+) -> Result<Guard, ClassFault>
     requires { (s : ShardOf) × IsShard (object_of shard.old) s × IsSmall s × HasTagsBelow number s }
     ensures works { Works shard.old shard.new }
     ensures answers { (s : ShardOf) → IsShard (object_of shard.old) s → IsSmall s → HasTagsBelow number s

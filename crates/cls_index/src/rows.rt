@@ -83,7 +83,13 @@ pub(crate) fn take_tag(shard: &mut Place<'_>, name: &[u8], front: &EntryFront, p
 }
 
 /// Adds a tag behind those of the entry of a name.
-fn push_tag(alloc: Global, shard: &mut Place<'_>, name: &[u8], front: &EntryFront, tag: &Tag) -> Result<(), OutOfMemory>
+fn push_tag(
+    alloc: Global,
+    shard: &mut Place<'_>,
+    name: &[u8],
+    front: &EntryFront,
+    tag: &Tag,
+) -> Result<(), OutOfMemory>
     requires there { (e : EntryView) × HasEntry (rows_of shard.old) name.now (Some e) × (front.now ≡ front_of e) }
     requires few { front.now.tags_start + 16 * front.now.tags < 2 ^ 63 }
     ensures only { KeepsToName shard.old shard.new name.now }
@@ -109,7 +115,14 @@ pub(crate) fn put_revision(shard: &mut Place<'_>, name: &[u8], revision: u64)
 }
 
 /// Puts another version, revision and row into the entry of a name.
-pub(crate) fn put_front(shard: &mut Place<'_>, name: &[u8], front: &EntryFront, version: u64, revision: u64, row: &EntryRow)
+pub(crate) fn put_front(
+    shard: &mut Place<'_>,
+    name: &[u8],
+    front: &EntryFront,
+    version: u64,
+    revision: u64,
+    row: &EntryRow,
+)
     requires { (e : EntryView) × HasEntry (rows_of shard.old) name.now (Some e) × (front.now ≡ front_of e) }
     ensures only { KeepsToName shard.old shard.new name.now }
     ensures entry { (e : EntryView) → HasEntry (rows_of shard.old) name.now (Some e) → front.now ≡ front_of e
@@ -122,7 +135,12 @@ pub(crate) fn put_front(shard: &mut Place<'_>, name: &[u8], front: &EntryFront, 
 }
 
 /// Puts the first entry of a name, with one tag.
-fn put_first(alloc: Global, shard: &mut Place<'_>, name: &[u8], tag: &Tag) -> Result<(), OutOfMemory>
+fn put_first(
+    alloc: Global,
+    shard: &mut Place<'_>,
+    name: &[u8],
+    tag: &Tag,
+) -> Result<(), OutOfMemory>
     ensures only { KeepsToName shard.old shard.new name.now }
     ensures ok { OnOk result (HasEntry (rows_of shard.new) name.now (Some (with_tags no_entry (with_tag tag.now [])))) }
     ensures err { OnErr result (Stays shard.old shard.new) }
@@ -140,7 +158,12 @@ fn put_first(alloc: Global, shard: &mut Place<'_>, name: &[u8], tag: &Tag) -> Re
 }
 
 /// Adds a tag to the entry of a name, which need not be there.
-pub(crate) fn add_tag(alloc: Global, shard: &mut Place<'_>, name: &[u8], tag: &Tag) -> Result<(), OutOfMemory>
+pub(crate) fn add_tag(
+    alloc: Global,
+    shard: &mut Place<'_>,
+    name: &[u8],
+    tag: &Tag,
+) -> Result<(), OutOfMemory>
     requires { (found : Option EntryView) × HasEntry (rows_of shard.old) name.now found × AllByRecursion (λ t. t.tag < tag.now.tag) (entry_of found).tags }
     ensures only { KeepsToName shard.old shard.new name.now }
     ensures ok { (found : Option EntryView) → HasEntry (rows_of shard.old) name.now found → AllByRecursion (λ t. t.tag < tag.now.tag) (entry_of found).tags

@@ -45,7 +45,13 @@ fn log_change(shard: &mut Place<'_>, name: &ObjectName, position: u64)
 }
 
 /// Raises the revision of an entry of which tags were taken, and stores nothing. Takes no memory.
-pub(crate) fn keep_row(shard: &mut Place<'_>, name: &[u8], header: &ShardHeader, front: &EntryFront, taken: u64)
+pub(crate) fn keep_row(
+    shard: &mut Place<'_>,
+    name: &[u8],
+    header: &ShardHeader,
+    front: &EntryFront,
+    taken: u64,
+)
     requires { (s : ShardOf) × (tags : List TagOf) × IsLeft (object_of shard.old) s name.now tags header.now front.now taken }
     ensures works { Works shard.old shard.new }
     ensures shard { (s : ShardOf) (tags : List TagOf) → IsLeft (object_of shard.old) s name.now tags header.now front.now taken
@@ -61,14 +67,29 @@ pub(crate) fn keep_row(shard: &mut Place<'_>, name: &[u8], header: &ShardHeader,
 }
 
 /// Stores the row of a change in an entry of which tags were taken, and logs it. Takes no memory.
-fn store_row(shard: &mut Place<'_>, name: &ObjectName, header: &ShardHeader, front: &EntryFront, taken: u64, version: u64, row: &EntryRow)
+fn store_row(
+    shard: &mut Place<'_>,
+    name: &ObjectName,
+    header: &ShardHeader,
+    front: &EntryFront,
+    taken: u64,
+    version: u64,
+    row: &EntryRow,
+)
     requires { (s : ShardOf) × (tags : List TagOf) × IsLeft (object_of shard.old) s name.now tags header.now front.now taken }
     ensures works { Works shard.old shard.new }
     ensures shard { (s : ShardOf) (tags : List TagOf) → IsLeft (object_of shard.old) s name.now tags header.now front.now taken
         → IsShard (object_of shard.new) (with_entry (record s { log = logged s.log (AName name.now) }) name.now (record (with_tags (entry_at s name.now) tags) { version = version; row = row.now })) }
 {
     let text = bytes_of(name);
-    put_front(shard, text, front, version, front.revision.saturating_add(1), row);
+    put_front(
+        shard,
+        text,
+        front,
+        version,
+        front.revision.saturating_add(1),
+        row,
+    );
     drop_if_empty(shard, text, row.exists, front.tags);
     log_change(shard, name, header.last + 1);
     let counted = ShardHeader {
@@ -83,7 +104,15 @@ fn store_row(shard: &mut Place<'_>, name: &ObjectName, header: &ShardHeader, fro
 
 /// Stores the row of a change in an entry of which tags were taken, where its version is greater than the
 /// entry's. Takes no memory.
-pub(crate) fn settle(shard: &mut Place<'_>, name: &ObjectName, header: &ShardHeader, front: &EntryFront, taken: u64, version: u64, row: &EntryRow)
+pub(crate) fn settle(
+    shard: &mut Place<'_>,
+    name: &ObjectName,
+    header: &ShardHeader,
+    front: &EntryFront,
+    taken: u64,
+    version: u64,
+    row: &EntryRow,
+)
     requires { (s : ShardOf) × (tags : List TagOf) × IsLeft (object_of shard.old) s name.now tags header.now front.now taken }
     ensures works { Works shard.old shard.new }
     ensures shard { (s : ShardOf) (tags : List TagOf) → IsLeft (object_of shard.old) s name.now tags header.now front.now taken

@@ -18,7 +18,14 @@ use object_words::{EntryRow, ObjectName, Why};
 /// Takes those tags away from the entry of a name that were due when the entry was seen with this revision.
 /// Where the version is greater than the entry's, its row is stored with it, and the change is logged.
 /// Takes no memory.
-pub fn suggest(shard: &mut Place<'_>, name: &ObjectName, revision: u64, seen: u64, version: u64, row: &EntryRow) -> Result<(), Why>
+pub fn suggest(
+    shard: &mut Place<'_>,
+    name: &ObjectName,
+    revision: u64,
+    seen: u64,
+    version: u64,
+    row: &EntryRow,
+) -> Result<(), Why>
     // An entry that is still as it was seen had a tag that was due then.
     requires { (s : ShardOf) × IsShard (object_of shard.old) s × IsSmall s × ((entry_at s name.now).revision ≡ revision → has_due seen (entry_at s name.now).tags ≡ true) }
     ensures works { Works shard.old shard.new }

@@ -1,6 +1,6 @@
 use Rattle.std.proofs.Common.{◌∙◌, sym}
 use Rattle.object_pool.specs.Places.{object_of}
-use Rattle.cls_hold.proofs.FreshLemmas.{is_made, stays_made}
+use Rattle.class_words.proofs.FreshLemmas.{is_made, stays_made}
 use Rattle.cls_hold.proofs.making.make.Goals as goal
 
 pub returns-then-exists-clause-ok : goal.returns-then-exists-clause-ok

@@ -1,24 +1,14 @@
-use Rattle.std.proofs.Common.{◌≡◌, ◌-◌, ◌+◌, ◌≤◌, ◌<◌, length, Some, None, refl, sym, ap, ◌∙◌, subst, arith}
-use Rattle.omap_pages.specs.Contents.{KeepsOtherRooms, room_at}
-use Rattle.omap_pages.specs.Rows as rows
+use Rattle.std.proofs.Common.{◌≡◌, ◌-◌, None, sym, subst, arith}
 use Rattle.object_pool.specs.Places.{object_of, rows_of}
 use Rattle.object_words.specs.Names.{at}
-use Rattle.object_words.specs.Numbers.{next}
-use Rattle.object_words.specs.Refusals.{change_refusal, unless_refused}
-use Rattle.object_words.specs.Tags.{tag_of, with_tag, without_tag}
-use Rattle.object_words.specs.Entries.{EntryView, entry_of, with_tags}
-use Rattle.object_words.specs.Shards.{entry_at, sum_over, tag_count, with_entry}
-use Rattle.object_words.specs.ShardCalls.{complete_refusal, prepare_refusal, settled, suggest_refusal}
-use Rattle.index_entry.specs.declared.entry.EntryFront.{EntryFront}
-use Rattle.index_entry.specs.declared.header.ShardHeader.{ShardHeader}
-use Rattle.index_entry.specs.Layouts.{front_of}
-use Rattle.index_entry.proofs.HeaderLemmas.{header_long}
-use Rattle.class_words.specs.Shards.{HasEntry, IsShard, header_of}
-use Rattle.class_words.proofs.WorksLemmas.{works, works_then}
-use Rattle.cls_index.specs.Rows.{IsLeft, KeepsToName, entry_left, kept_or_none}
-use Rattle.cls_index.proofs.RowLemmas.{roomier, tags_in}
-use Rattle.cls_index.proofs.CountLemmas.{few_tags}
-use Rattle.cls_index.proofs.StartLemmas.{entry_under, left_of, no_refusal, not_refused, open_shard, prepared_shard, tag_there, taken_one}
+use Rattle.object_words.specs.Tags.{without_tag}
+use Rattle.object_words.specs.Entries.{with_tags}
+use Rattle.object_words.specs.Shards.{entry_at, with_entry}
+use Rattle.object_words.specs.ShardCalls.{complete_refusal}
+use Rattle.class_words.specs.Shards.{HasEntry, IsShard}
+use Rattle.cls_index.specs.Rows.{IsLeft}
+use Rattle.cls_index.proofs.RowLemmas.{tags_in}
+use Rattle.cls_index.proofs.StartLemmas.{entry_under, no_refusal, not_refused, open_shard, tag_there, taken_one}
 use Rattle.cls_index.proofs.cancelling.cancel.Goals as goal
 
 pub find_tag-requires : goal.find_tag-requires
@@ -62,7 +52,7 @@ keep_row-requires c =
     let e = entry_at s name in
     let left = c.take_tag.ensures.entry e (subst (HasEntry (rows_of c.args.shard.now) text) t.0 has) t.1 t.2 in
     let here = taken_one c.args.shard.now c.take_tag.new.shard s name text c.args.tag c.in-Some.place c.header_at-header.result c.in-Some.front c.bytes_of-text.ensures.text is small c.bytes_of-text.ensures.named
-        (c.header_at-header.ensures s is) t.1 t.2 t.3 c.take_tag.ensures.only left in
+    (c.header_at-header.ensures s is) t.1 t.2 t.3 c.take_tag.ensures.only left in
     (s, without_tag c.args.tag e.tags, subst (λ n. IsLeft (object_of c.take_tag.new.shard) s n (without_tag c.args.tag e.tags) c.header_at-header.result (record c.in-Some.front { tags = c.in-Some.front.tags - 1 }) 1) (sym c.bytes_of-text.ensures.text) here)
 
 pub returns-clause-answers : goal.returns-clause-answers
@@ -74,7 +64,7 @@ returns-clause-answers c s is small =
     let e = entry_at s name in
     let left = c.take_tag.ensures.entry e (subst (HasEntry (rows_of c.args.shard.now) text) t.0 has) t.1 t.2 in
     let here = taken_one c.args.shard.now c.take_tag.new.shard s name text c.args.tag c.in-Some.place c.header_at-header.result c.in-Some.front c.bytes_of-text.ensures.text is small c.bytes_of-text.ensures.named
-        (c.header_at-header.ensures s is) t.1 t.2 t.3 c.take_tag.ensures.only left in
+    (c.header_at-header.ensures s is) t.1 t.2 t.3 c.take_tag.ensures.only left in
     let free = open_shard s c.header_at-header.result (c.header_at-header.ensures s is) c.in_ok-check_changes.ensures.ok in
     let refusal : complete_refusal s name c.args.tag ≡ None = no_refusal _ _ free (tag_there e c.args.tag (sym (c.in-Some.ensures.found (at s.entries name) has))) in
     let tags = without_tag c.args.tag e.tags in

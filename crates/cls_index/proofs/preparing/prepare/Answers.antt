@@ -1,25 +1,19 @@
-use Rattle.std.proofs.Common.{◌≡◌, ◌-◌, ◌+◌, ◌≤◌, ◌<◌, length, Some, None, refl, sym, ap, ◌∙◌, subst, arith}
+use Rattle.std.proofs.Common.{◌+◌, ◌≤◌, Some, sym, ap, ◌∙◌, subst, arith}
 use Rattle.omap_pages.specs.Contents.{KeepsOtherRooms, room_at}
 use Rattle.omap_pages.specs.Rows as rows
 use Rattle.object_pool.specs.Places.{object_of, rows_of}
 use Rattle.object_words.specs.declared.entry.Tag.{Tag}
 use Rattle.object_words.specs.Names.{at}
-use Rattle.object_words.specs.Numbers.{next}
-use Rattle.object_words.specs.Refusals.{change_refusal, unless_refused}
-use Rattle.object_words.specs.Tags.{tag_of, with_tag, without_tag}
-use Rattle.object_words.specs.Entries.{EntryView, entry_of, with_tags}
-use Rattle.object_words.specs.Shards.{entry_at, sum_over, tag_count, with_entry}
-use Rattle.object_words.specs.ShardCalls.{complete_refusal, prepare_refusal, settled, suggest_refusal}
-use Rattle.index_entry.specs.declared.entry.EntryFront.{EntryFront}
+use Rattle.object_words.specs.Tags.{tag_of, with_tag}
+use Rattle.object_words.specs.Entries.{with_tags}
+use Rattle.object_words.specs.Shards.{entry_at, sum_over, tag_count}
 use Rattle.index_entry.specs.declared.header.ShardHeader.{ShardHeader}
-use Rattle.index_entry.specs.Layouts.{front_of}
 use Rattle.index_entry.proofs.HeaderLemmas.{header_long}
 use Rattle.class_words.specs.Shards.{HasEntry, IsShard, header_of}
 use Rattle.class_words.proofs.WorksLemmas.{works, works_then}
-use Rattle.cls_index.specs.Rows.{IsLeft, KeepsToName, entry_left, kept_or_none}
-use Rattle.cls_index.proofs.RowLemmas.{roomier, tags_in}
-use Rattle.cls_index.proofs.CountLemmas.{few_tags}
-use Rattle.cls_index.proofs.StartLemmas.{entry_under, tags_below, left_of, no_refusal, not_refused, open_shard, prepared_shard, tag_there, taken_one}
+use Rattle.cls_index.specs.Rows.{KeepsToName}
+use Rattle.cls_index.proofs.RowLemmas.{roomier}
+use Rattle.cls_index.proofs.StartLemmas.{entry_under, tags_below, not_refused, open_shard, prepared_shard}
 use Rattle.cls_index.proofs.preparing.prepare.Goals as goal
 
 pub add_tag-requires : goal.add_tag-requires
@@ -61,6 +55,6 @@ returns-clause-answers c s is small below =
     let spare : sum_over tag_count s + 1 ≤ d.rows.spare = let k = ap (λ r. r.spare) c.put_header.ensures.rows in omega (arith, k, tags, only.spare, c.in-Ok.ensures.ok) in
     let free = open_shard s c.header_at-header.result read c.in_default.ensures.ok in
     let whole = prepared_shard o d s name t _ is small c.bytes_of.ensures.named
-        (c.put_header.ensures.bytes ∙ only.works.bytes ∙ ap (λ o. o.bytes) c.reserve_rows.ensures.change.object)
-        c.put_header.ensures.attrs (λ i. record (read i) { tags = tags i + 1 }) here others rooms spare in
+    (c.put_header.ensures.bytes ∙ only.works.bytes ∙ ap (λ o. o.bytes) c.reserve_rows.ensures.change.object)
+    c.put_header.ensures.attrs (λ i. record (read i) { tags = tags i + 1 }) here others rooms spare in
     (free, λ i. record { tag = (c.prepared-tag.ensures i).tag; deadline = (c.prepared-tag.ensures i).deadline }, not_refused (IsShard d) _ s _ free whole)

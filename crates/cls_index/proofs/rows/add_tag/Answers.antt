@@ -1,4 +1,4 @@
-use Rattle.std.proofs.Common.{◌≡◌, ◌∙◌, sym, ap, subst, Some, min, ◌+◌, ◌-◌, ◌^◌}
+use Rattle.std.proofs.Common.{◌≡◌, ◌∙◌, ap, subst, Some}
 use Rattle.object_pool.specs.Places.{rows_of}
 use Rattle.object_words.specs.Numbers.{next}
 use Rattle.object_words.specs.Tags.{with_tag}

@@ -1,7 +1,7 @@
-use Rattle.std.proofs.Common.{◌≡◌, ◌+◌, ◌-◌, ◌*◌, length, Some, sym, ap, ◌∙◌, arith}
+use Rattle.std.proofs.Common.{◌≡◌, ◌+◌, length, Some, ap, ◌∙◌, arith}
 use Rattle.object_pool.specs.Places.{rows_of}
 use Rattle.object_words.specs.Tags.{with_tag}
-use Rattle.index_entry.specs.Layouts.{entry_bytes, row_bytes}
+use Rattle.index_entry.specs.Layouts.{entry_bytes}
 use Rattle.index_entry.proofs.PieceLemmas.{length-number_bytes}
 use Rattle.index_entry.proofs.TagLemmas.{length-tag_bytes}
 use Rattle.index_entry.proofs.EntryLemmas.{length-entry_bytes, row_most}

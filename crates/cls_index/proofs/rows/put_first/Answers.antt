@@ -1,4 +1,4 @@
-use Rattle.std.proofs.Common.{◌≡◌, ◌≤◌, ◌++◌, [], length, Some, sym, ap, ◌∙◌, subst, arith, take}
+use Rattle.std.proofs.Common.{◌≡◌, ◌≤◌, [], length, Some, sym, ap, ◌∙◌, subst, arith, take}
 use Rattle.std.proofs.lemmas.List.{take_at}
 use Rattle.omap_pages.specs.Contents.{KeepsOtherRooms, room_at}
 use Rattle.omap_pages.specs.Rows.{value_at}

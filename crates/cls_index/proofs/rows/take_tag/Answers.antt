@@ -1,8 +1,8 @@
-use Rattle.std.proofs.Common.{◌≡◌, ◌+◌, ◌-◌, ◌*◌, length, Some, sym, ap, ◌∙◌, arith}
+use Rattle.std.proofs.Common.{◌≡◌, ◌-◌, length, Some, ap, ◌∙◌, arith}
 use Rattle.std.specs.List.{remove}
 use Rattle.std.proofs.lemmas.List.Edits.{length-remove}
 use Rattle.object_pool.specs.Places.{rows_of}
-use Rattle.index_entry.specs.Layouts.{entry_bytes, row_bytes}
+use Rattle.index_entry.specs.Layouts.{entry_bytes}
 use Rattle.index_entry.proofs.PieceLemmas.{length-number_bytes}
 use Rattle.index_entry.proofs.EntryLemmas.{length-entry_bytes, row_most}
 use Rattle.cls_index.proofs.RawLemmas.{length-raw, raw}

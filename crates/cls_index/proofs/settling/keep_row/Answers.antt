@@ -1,4 +1,4 @@
-use Rattle.std.proofs.Common.{◌≡◌, ◌-◌, length, Some, refl, sym, ap, ◌∙◌, subst, arith}
+use Rattle.std.proofs.Common.{◌≡◌, refl, sym, ap, ◌∙◌, subst, arith}
 use Rattle.omap_pages.specs.Contents.{KeepsOtherRooms, room_at}
 use Rattle.omap_pages.specs.Rows as rows
 use Rattle.object_pool.specs.Places.{object_of, rows_of}

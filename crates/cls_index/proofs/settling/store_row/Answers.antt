@@ -1,5 +1,5 @@
-use Rattle.std.proofs.Common.{◌≡◌, ◌≢◌, ◌-◌, ◌+◌, ◌≤◌, ◌<◌, ◌^◌, cond, length, Some, None, refl, sym, ap, ◌∙◌, subst, arith}
-use Rattle.omap_pages.specs.Contents.{KeepsOtherRooms, KeepsRooms, room_at}
+use Rattle.std.proofs.Common.{◌≡◌, ◌-◌, ◌+◌, cond, Some, None, sym, ap, ◌∙◌, subst, arith}
+use Rattle.omap_pages.specs.Contents.{KeepsRooms}
 use Rattle.omap_pages.specs.Rows.{value_at}
 use Rattle.omap_pages.specs.Rows as rows
 use Rattle.object_pool.specs.Places.{object_of, rows_of}
@@ -8,12 +8,12 @@ use Rattle.object_words.specs.Rows.{RowView}
 use Rattle.object_words.specs.Numbers.{next}
 use Rattle.object_words.specs.Names.{with_name}
 use Rattle.object_words.specs.Entries.{EntryView}
-use Rattle.object_words.specs.Shards.{Shard, byte_count, entry_at, object_count, sum_over, tag_count}
+use Rattle.object_words.specs.Shards.{Shard, byte_count, entry_at, object_count}
 use Rattle.index_entry.specs.declared.entry.EntryFront.{EntryFront}
 use Rattle.index_entry.specs.declared.header.ShardHeader.{ShardHeader}
 use Rattle.index_entry.specs.LogRows.{log_key, what_bytes}
 use Rattle.index_entry.proofs.HeaderLemmas.{header_long}
-use Rattle.class_words.specs.Shards.{HasEntry, HasRows, header_of}
+use Rattle.class_words.specs.Shards.{HasEntry, header_of}
 use Rattle.class_words.proofs.WorksLemmas.{works_then}
 use Rattle.class_words.proofs.LogLemmas.{not_log_key}
 use Rattle.cls_index.specs.Rows.{KeepsToName, entry_left, kept_or_none}

@@ -1,25 +1,15 @@
-use Rattle.std.proofs.Common.{◌≡◌, ◌-◌, ◌+◌, ◌≤◌, ◌<◌, length, Some, None, refl, sym, ap, ◌∙◌, subst, arith}
-use Rattle.omap_pages.specs.Contents.{KeepsOtherRooms, room_at}
-use Rattle.omap_pages.specs.Rows as rows
+use Rattle.std.proofs.Common.{◌-◌, Some, sym, ap, ◌∙◌, subst, arith}
 use Rattle.object_pool.specs.Places.{object_of, rows_of}
 use Rattle.object_words.specs.Names.{at}
-use Rattle.object_words.specs.Numbers.{next}
-use Rattle.object_words.specs.Refusals.{change_refusal, unless_refused}
+use Rattle.object_words.specs.Refusals.{unless_refused}
 use Rattle.object_words.specs.Tags.{tags_due_taken}
-use Rattle.object_words.specs.Entries.{EntryView, entry_of, with_tags}
-use Rattle.object_words.specs.Shards.{entry_at, sum_over, tag_count, with_entry}
-use Rattle.object_words.specs.ShardCalls.{complete_refusal, prepare_refusal, settled, suggest_refusal}
+use Rattle.object_words.specs.Shards.{entry_at}
+use Rattle.object_words.specs.ShardCalls.{settled}
 use Rattle.index_entry.specs.declared.entry.EntryFront.{EntryFront}
-use Rattle.index_entry.specs.declared.header.ShardHeader.{ShardHeader}
-use Rattle.index_entry.specs.Layouts.{front_of}
-use Rattle.index_entry.proofs.HeaderLemmas.{header_long}
-use Rattle.class_words.specs.Shards.{HasEntry, IsShard, header_of}
-use Rattle.class_words.proofs.WorksLemmas.{works, works_then}
-use Rattle.cls_index.specs.Rows.{IsLeft, KeepsToName, entry_left, kept_or_none}
+use Rattle.class_words.specs.Shards.{HasEntry, IsShard}
+use Rattle.cls_index.specs.Rows.{KeepsToName}
 use Rattle.cls_index.proofs.RowLemmas.{front_found, tags_in}
-use Rattle.cls_index.proofs.CountLemmas.{few_tags}
-use Rattle.cls_index.proofs.StartLemmas.{entry_under, left_of, no_refusal, not_refused, open_shard, prepared_shard, tag_there, taken_one}
-use Rattle.cls_index.proofs.TagLemmas.{is_equal, not_equal}
+use Rattle.cls_index.proofs.StartLemmas.{entry_under, left_of, not_refused, open_shard}
 use Rattle.cls_index.proofs.DueLemmas.{fewer_left, some_due}
 use Rattle.cls_index.proofs.StartLemmas.{not_stale, stale}
 use Rattle.cls_index.proofs.suggesting.suggest.Goals as goal
@@ -89,8 +79,8 @@ settle-requires c =
     let here = subst (λ m. HasEntry (rows_of c.take_due-tags.new.shard) m (Some (record e { tags = tags }))) same taken.0 in
     let only = subst (KeepsToName c.args.shard.now c.take_due-tags.new.shard) same c.take_due-tags.ensures.only in
     let left = left_of c.args.shard.now c.take_due-tags.new.shard s name tags c.header_at-header.result (record c.in-Some.front { tags = c.take_due-tags.result }) (c.in-Some.front.tags - c.take_due-tags.result)
-        is small c.bytes_of-text.ensures.named only here (c.header_at-header.ensures s is) (λ i. record (t.1 i) { tags = taken.1 i }) (omega (arith, n, taken.1, fewer_left c.args.seen e.tags))
-        (omega (arith, n, taken.1, some_due c.args.seen e.tags (due revision))) in
+    is small c.bytes_of-text.ensures.named only here (c.header_at-header.ensures s is) (λ i. record (t.1 i) { tags = taken.1 i }) (omega (arith, n, taken.1, fewer_left c.args.seen e.tags))
+    (omega (arith, n, taken.1, some_due c.args.seen e.tags (due revision))) in
     (s, tags, left)
 
 pub returns-clause-answers : goal.returns-clause-answers
@@ -109,8 +99,8 @@ returns-clause-answers c s is small due =
     let here = subst (λ m. HasEntry (rows_of c.take_due-tags.new.shard) m (Some (record e { tags = tags }))) same taken.0 in
     let only = subst (KeepsToName c.args.shard.now c.take_due-tags.new.shard) same c.take_due-tags.ensures.only in
     let left = left_of c.args.shard.now c.take_due-tags.new.shard s name tags c.header_at-header.result (record c.in-Some.front { tags = c.take_due-tags.result }) (c.in-Some.front.tags - c.take_due-tags.result)
-        is small c.bytes_of-text.ensures.named only here (c.header_at-header.ensures s is) (λ i. record (t.1 i) { tags = taken.1 i }) (omega (arith, n, taken.1, fewer_left c.args.seen e.tags))
-        (omega (arith, n, taken.1, some_due c.args.seen e.tags (due revision))) in
+    is small c.bytes_of-text.ensures.named only here (c.header_at-header.ensures s is) (λ i. record (t.1 i) { tags = taken.1 i }) (omega (arith, n, taken.1, fewer_left c.args.seen e.tags))
+    (omega (arith, n, taken.1, some_due c.args.seen e.tags (due revision))) in
     let free = open_shard s c.header_at-header.result (c.header_at-header.ensures s is) c.in_ok-check_changes.ensures.ok in
     let fresh = not_stale s name c.args.revision free revision in
     (fresh, tt, not_refused (IsShard (object_of c.settle.new.shard)) _ s _ fresh (c.settle.ensures.shard s tags left))

@@ -1,4 +1,4 @@
-use Rattle.std.proofs.Common.{◌≡◌, ◌==◌, ◌<◌, length, sym, ap, ◌∙◌, arith}
+use Rattle.std.proofs.Common.{◌==◌, ◌<◌, length, sym, ap, ◌∙◌, arith}
 use Rattle.object_words.specs.declared.entry.Tag.{Tag}
 use Rattle.cls_index.proofs.TagLemmas.{found_at, is_equal, not_equal, passed}
 use Rattle.cls_index.proofs.tags.place_of.Goals as goal

@@ -1,9 +1,5 @@
-use Rattle.std.proofs.Common.{◌≡◌, ℕ, suc, ◌+◌, ◌-◌, ◌*◌, ◌^◌, ◌<◌, List, length, get_or, Some, refl, sym, ap, ◌∙◌, subst, arith}
-use Rattle.std.specs.List.{remove}
-use Rattle.std.proofs.lemmas.List.Edits.{length-remove}
+use Rattle.std.proofs.Common.{◌≡◌, suc, ◌+◌, ◌-◌, ◌<◌, length, get_or, Some, sym, ap, ◌∙◌, subst, arith}
 use Rattle.object_pool.specs.Places.{rows_of}
-use Rattle.object_words.specs.declared.entry.Tag.{Tag}
-use Rattle.object_words.specs.Entries.{EntryView}
 use Rattle.object_words.specs.Tags.{is_due}
 use Rattle.index_entry.specs.declared.entry.EntryFront.{EntryFront}
 use Rattle.index_entry.specs.Layouts.{front_of}

@@ -1,5 +1,5 @@
 -- A shard that was just made.
-use Rattle.std.proofs.Common.{◌≡◌, ℕ, true, false, true≢false, List, [], length, Option, Some, None, IfSome, refl, sym, ap, ◌∙◌, subst, arith, not, ◌==◌, ◌&&◌}
+use Rattle.std.proofs.Common.{◌≡◌, ℕ, true, false, true≢false, List, length, Option, Some, None, IfSome, refl, sym, ap, ◌∙◌, subst, arith, not, ◌==◌, ◌&&◌}
 use Rattle.std.proofs.lemmas.Bool.Decides.{nat_tests}
 use Rattle.object_pool.specs.Objects.{Object, exists, nothing}
 use Rattle.object_words.specs.declared.shard.Hold.TheVariants.{Free}
@@ -13,14 +13,14 @@ use Rattle.index_entry.specs.declared.header.ShardHeader.{ShardHeader}
 use Rattle.index_entry.specs.Headers.{header_bytes}
 use Rattle.index_entry.specs.Layouts.{entry_bytes}
 use Rattle.index_entry.proofs.HeaderLemmas.{header_long}
-use Rattle.class_words.specs.LogRows.{logged_at, or_logged}
+use Rattle.class_words.specs.LogRows.{or_logged}
 use Rattle.class_words.specs.Shards.{IsShard, IsShardOr, header_of}
 use Rattle.std.proofs.Common.{option_map}
 
 abbrev pub fresh_header : ShardHeader
 fresh_header = record { objects = 0; bytes = 0; tags = 0; last = 0; hold = Free; fate = Serving; fence = 0 }
 
-nothing_summed : (f : EntryView → ℕ) → sum_over f new_shard ≡ 0
+pub nothing_summed : (f : EntryView → ℕ) → sum_over f new_shard ≡ 0
 unfolding entries none
 nothing_summed f = refl
 
@@ -36,10 +36,10 @@ fresh_told =
       fence = 0;
     }
 
-none_there : (P : EntryView → Type 0) (name : List ℕ) → IfSome (at none name) P
+pub none_there : (P : EntryView → Type 0) (name : List ℕ) → IfSome (at none name) P
 none_there P name = subst (λ o. IfSome o P) (sym (at-none name)) tt
 
-fresh_shard : (o : Object) (attrs : List ℕ) → attrs ≡ header_bytes fresh_header → o ≡ record nothing { attrs = attrs } → IsShard o new_shard
+pub fresh_shard : (o : Object) (attrs : List ℕ) → attrs ≡ header_bytes fresh_header → o ≡ record nothing { attrs = attrs } → IsShard o new_shard
 fresh_shard o attrs told is = subst (λ x. IsShard x new_shard) (sym is) (record {
   bytes = refl;
   attrs = told ∙ ap header_bytes fresh_told;
