@@ -19,3 +19,6 @@ pub use paging::page;
 pub use preparing::prepare;
 pub use statistics::stats;
 pub use suggesting::suggest;
+
+#[cfg(test)]
+mod tests;
