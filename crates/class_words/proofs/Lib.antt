@@ -1,2 +1,3 @@
 pub mod WorksLemmas
 pub mod LogLemmas
+pub mod FreshLemmas

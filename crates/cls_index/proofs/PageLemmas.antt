@@ -1,0 +1,242 @@
+-- The rows of the entries above a name.
+use Rattle.std.proofs.Common.{◌≡◌, ℕ, zero, suc, ◌-◌, ◌<◌, ◌≤◌, ◌^◌, ◌==◌, nat_lt, nat_le, ◌&&◌, Bool, true, false, cond, true≢false, T, List, [], ◌∷◌, map, length, take, get_or, replicate, IsTrue, ◌↔◌, ◌++◌, Option, Some, None, option_map, IfSome, refl, sym, ap, ◌∙◌, subst, arith}
+use Rattle.std.specs.List.{AllByRecursion}
+use Rattle.std.specs.declared.cmp.Ordering.{Ordering}
+use Rattle.std.specs.declared.cmp.Ordering.TheVariants.{Less, Equal, Greater}
+use Rattle.std.specs.Ordering.{eq_by_cmp, is_eq, is_lt, nat_cmp, ordering_reverse, ordering_then}
+use Rattle.std.specs.Cmp.Lexicographic.{nat_list_cmp_total, slice_cmp}
+use Rattle.std.specs.FinMap.{nat_cmp-IsAntisymmetric, slice_cmp-IsAntisymmetric}
+use Rattle.std.specs.FinMap.Entries.{below_all, find, find-where_key, is_sorted, is_sorted-where_key, same_entries}
+use Rattle.std.proofs.lemmas.List.{length-map, take-map}
+use Rattle.std.proofs.lemmas.Bool.Decides.{nat_tests}
+use Rattle.omap_pages.specs.Contents.{Contents}
+use Rattle.omap_pages.specs.Rows.{Rows, key_cmp, rows_after, value_at}
+use Rattle.object_words.specs.declared.log.LogRow.{LogRow}
+use Rattle.object_words.specs.Entries.{EntryView}
+use Rattle.object_words.specs.Names.{at, entries, name_cmp, where_name}
+use Rattle.object_words.specs.Shards.{Shard}
+use Rattle.object_words.specs.ShardCalls.{entries_after}
+use Rattle.index_entry.specs.Numbers.{number_bytes}
+use Rattle.index_entry.specs.Layouts.{IsEntry, entry_bytes}
+use Rattle.index_entry.specs.LogRows.{log_key}
+use Rattle.class_words.specs.LogRows.{log_rows, logged_at, or_logged}
+use Rattle.class_words.specs.Shards.{HasRows, IsObjectName}
+use Rattle.class_words.proofs.LogLemmas.{name_itself, no_zero, same_name, other_name}
+use Rattle.cls_index.specs.Pages.{IsNamed, StartsAt, top, written}
+
+lower : (a b : ℕ) → a < b → nat_lt a b ≡ true
+lower a b h = grind (arith, nat_tests)
+
+not_lower : (x : ℕ) → x < 256 → nat_lt 255 x ≡ false
+not_lower x fits = grind (arith, nat_tests)
+
+never_above : (xs : List ℕ) → AllByRecursion (λ b. b < 256) xs → is_lt (slice_cmp nat_cmp (replicate (length xs) 255) xs) ≡ false
+never_above [] all = refl
+never_above (x ∷ xs) all =
+    rw (not_lower x all.0)
+    (elim (255 == x) as (λ b. is_lt (ordering_then (cond b Equal Greater) (slice_cmp nat_cmp (replicate (length xs) 255) xs)) ≡ false) [
+      | true ↦ never_above xs all.1
+      | false ↦ refl
+    ])
+
+bytes_fit : (n : ℕ) → AllByRecursion (λ b. b < 256) (number_bytes n)
+unfolding number_bytes
+bytes_fit n = (omega arith, (omega arith, (omega arith, (omega arith, (omega arith, (omega arith, (omega arith, (omega arith, tt))))))))
+
+most_bytes : number_bytes (2 ^ 64 - 1) ≡ replicate 8 255
+unfolding number_bytes
+most_bytes = refl
+
+long_bytes : (n : ℕ) → length (number_bytes n) ≡ 8
+unfolding number_bytes
+long_bytes n = refl
+
+-- no key of a log is above the greatest
+log_low : (position : ℕ) → is_lt (key_cmp top (log_key position)) ≡ false
+log_low position =
+    ap (λ l. is_lt (slice_cmp nat_cmp l (number_bytes position))) (most_bytes ∙ sym (ap (λ n. replicate n 255) (long_bytes position)))
+    ∙ never_above (number_bytes position) (bytes_fit position)
+
+none_in : (rows : List LogRow) (q : List ℕ) → is_lt (key_cmp top q) ≡ true → find key_cmp q (log_rows rows) ≡ None
+none_in [] q above = refl
+none_in (row ∷ rows) q above =
+    let differs = other_name q (log_key row.position) (λ same. true≢false (sym above ∙ ap (λ k. is_lt (key_cmp top k)) same ∙ log_low row.position)) in
+    rw differs (none_in rows q above)
+
+name_above : (name : List ℕ) → IsObjectName name → is_lt (key_cmp top name) ≡ true
+name_above [] is = absurd (true≢false (sym is.0))
+name_above (zero ∷ rest) is = absurd (true≢false (sym (no_zero (0 ∷ rest) is)))
+name_above (suc n ∷ rest) is =
+    ap (λ b. is_lt (ordering_then (cond b Less (cond (0 == suc n) Equal Greater)) (slice_cmp nat_cmp (number_bytes (2 ^ 64 - 1)) rest))) (lower 0 (suc n) (omega arith))
+
+left_of : (a b : Bool) → T (a && b) → T a
+left_of true b p = tt
+left_of false b p = p
+
+right_of : (a b : Bool) → T (a && b) → T b
+right_of true b p = p
+right_of false b p = absurd p
+
+both_of : (a b : Bool) → T a → T b → T (a && b)
+both_of true b p q = q
+both_of false b p q = p
+
+-- ---- rows and entries
+
+find_written : (q : List ℕ) (es : List (List ℕ × EntryView)) → find key_cmp q (map written es) ≡ option_map entry_bytes (find key_cmp q es)
+find_written q [] = refl
+find_written q (e ∷ es) =
+    elim (eq_by_cmp key_cmp q e.0) as (λ b. cond b (Some (entry_bytes e.1)) (find key_cmp q (map written es)) ≡ option_map entry_bytes (cond b (Some e.1) (find key_cmp q es))) [
+      | true ↦ refl
+      | false ↦ find_written q es
+    ]
+
+below_written : (x : List ℕ) (es : List (List ℕ × EntryView)) → T (below_all key_cmp x es) → T (below_all key_cmp x (map written es))
+below_written x [] h = tt
+below_written x (e ∷ es) h = both_of _ _ (left_of _ _ h) (below_written x es (right_of _ _ h))
+
+sorted_written : (es : List (List ℕ × EntryView)) → T (is_sorted key_cmp es) → T (is_sorted key_cmp (map written es))
+sorted_written [] h = tt
+sorted_written (e ∷ es) h = both_of _ _ (below_written e.0 es (left_of _ _ h)) (sorted_written es (right_of _ _ h))
+
+one_after : (c : Contents) (s : Shard) (after start q : List ℕ) → HasRows c s → StartsAt after start
+    → cond (is_lt (key_cmp start q)) (value_at c.rows q) None ≡ option_map entry_bytes (cond (is_lt (key_cmp after q)) (at s.entries q) None)
+one_after c s after start q has from =
+    ap (λ v. cond (is_lt (key_cmp start q)) v None) (has.rows q)
+    ∙ elim (at s.entries q) as (λ o. IfSome o (λ _. IsObjectName q) → cond (is_lt (key_cmp start q)) (or_logged (option_map entry_bytes o) (logged_at s.log q)) None ≡ option_map entry_bytes (cond (is_lt (key_cmp after q)) o None)) [
+      | Some e ↦ λ named. rw (from.low q named) (elim (is_lt (key_cmp after q)) as (λ b. cond b (Some (entry_bytes e)) None ≡ option_map entry_bytes (cond b (Some e) None)) [ true ↦ refl | false ↦ refl ])
+      | None ↦ λ named.
+          elim (is_lt (key_cmp start q)) as (λ b. is_lt (key_cmp start q) ≡ b → cond b (logged_at s.log q) None ≡ None) [
+            | true ↦ λ above. none_in s.log.rows q (from.log q above)
+            | false ↦ λ above. refl
+          ] refl ∙ elim (is_lt (key_cmp after q)) as (λ b. None ≡ option_map entry_bytes (cond b None None)) [ true ↦ refl | false ↦ refl ]
+    ] (has.named q)
+
+same_key : (q k : List ℕ) → key_cmp q k ≡ Equal → q ≡ k
+same_key = slice_cmp-IsAntisymmetric nat_cmp-IsAntisymmetric
+
+-- what the entries above a name have under a name
+after_at : (s : Shard) (after q : List ℕ) → find key_cmp q (entries_after s after) ≡ cond (is_lt (key_cmp after q)) (at s.entries q) None
+unfolding entries where_name at
+after_at s after q = find-where_key key_cmp (λ n. is_lt (key_cmp after n)) q (λ x tie. ap (λ n. is_lt (key_cmp after n)) (sym (same_key q x tie))) s.entries.list
+
+after_sorted : (s : Shard) (after : List ℕ) → T (is_sorted key_cmp (entries_after s after))
+unfolding entries where_name
+after_sorted s after = (where_name (λ name. is_lt (name_cmp after name)) s.entries).sorted
+
+pub rows_of_entries : (c : Contents) (s : Shard) (after start : List ℕ) → HasRows c s → T (is_sorted key_cmp c.rows) → StartsAt after start → rows_after c.rows start ≡ map written (entries_after s after)
+rows_of_entries c s after start has order from =
+    same_entries key_cmp nat_list_cmp_total same_key _ _ (is_sorted-where_key key_cmp (λ k. is_lt (key_cmp start k)) c.rows order) (sorted_written (entries_after s after) (after_sorted s after)) (λ q.
+    find-where_key key_cmp (λ k. is_lt (key_cmp start k)) q (λ x tie. ap (λ n. is_lt (key_cmp start n)) (sym (same_key q x tie))) c.rows
+    ∙ one_after c s after start q has from ∙ sym (find_written q (entries_after s after) ∙ ap (option_map entry_bytes) (after_at s after q)))
+
+is_less : (o : Ordering) → is_lt o ≡ true → o ≡ Less
+is_less Less below = refl
+is_less Equal below = absurd (true≢false (sym below))
+is_less Greater below = absurd (true≢false (sym below))
+
+below_then : (a b c : List ℕ) → key_cmp a b ≡ Less → key_cmp b c ≡ Less → is_lt (key_cmp a c) ≡ true
+below_then a b c p q = ap is_lt (nat_list_cmp_total.trans a b c p q)
+
+-- from a name that is not below the end of the log, or else from that end
+pub starts_itself : (after : List ℕ) → is_lt (key_cmp after top) ≡ false → StartsAt after after
+starts_itself after high = record {
+  low = λ name is. refl;
+  log = λ q above.
+      elim (key_cmp after top) as (λ o. key_cmp after top ≡ o → is_lt o ≡ false → is_lt (key_cmp top q) ≡ true) [
+        | Less ↦ λ e not. absurd (true≢false not)
+        | Equal ↦ λ e not. subst (λ k. is_lt (key_cmp k q) ≡ true) (same_key after top e) above
+        | Greater ↦ λ e not. below_then top after q (nat_list_cmp_total.antisymm top after ∙ ap ordering_reverse e) (is_less _ above)
+      ] refl high;
+}
+
+pub starts_above_log : (after : List ℕ) → is_lt (key_cmp after top) ≡ true → StartsAt after top
+starts_above_log after low = record {
+  low = λ name is. let over = name_above name is in over ∙ sym (below_then after top name (is_less _ low) (is_less _ over));
+  log = λ q above. above;
+}
+
+-- ---- the entries above a name are named
+
+t_less : (o : Ordering) → T (is_lt o) → o ≡ Less
+t_less Less below = refl
+t_less Equal below = absurd below
+t_less Greater below = absurd below
+
+missing : (q : List ℕ) (es : List (List ℕ × EntryView)) → T (below_all key_cmp q es) → find key_cmp q es ≡ None
+missing q [] h = refl
+missing q (e ∷ es) h = ap (λ o. cond (is_eq o) (Some e.1) (find key_cmp q es)) (t_less _ (left_of _ _ h)) ∙ missing q es (right_of _ _ h)
+
+found_later : (q : List ℕ) (x : EntryView) (e : List ℕ × EntryView) (es : List (List ℕ × EntryView)) → T (below_all key_cmp e.0 es) → find key_cmp q es ≡ Some x → find key_cmp q (e ∷ es) ≡ Some x
+found_later q x e es order here =
+    elim (eq_by_cmp key_cmp q e.0) as (λ b. eq_by_cmp key_cmp q e.0 ≡ b → cond b (Some e.1) (find key_cmp q es) ≡ Some x) [
+      | true ↦ λ t. let none = ap (λ k. find key_cmp k es) (same_name q e.0 t) ∙ missing e.0 es order in absurd (let bad : None ≡ Some x = sym none ∙ here in cc)
+      | false ↦ λ t. here
+    ] refl
+
+named_all : (es : List (List ℕ × EntryView)) → T (is_sorted key_cmp es) → ((q : List ℕ) (x : EntryView) → find key_cmp q es ≡ Some x → IsNamed (q, x)) → AllByRecursion IsNamed es
+named_all [] order named = tt
+named_all (e ∷ es) order named = (
+  named e.0 e.1 (ap (λ b. cond b (Some e.1) (find key_cmp e.0 es)) (name_itself e.0)),
+  named_all es (right_of _ _ order) (λ q x here. named q x (found_later q x e es (left_of _ _ order) here)),
+)
+
+of_some : (b : Bool) (o : Option EntryView) (x : EntryView) → cond b o None ≡ Some x → o ≡ Some x
+of_some true o x e = e
+of_some false o x e = absurd (let bad : None ≡ Some x = e in cc)
+
+named_after : (c : Contents) (s : Shard) (after : List ℕ) → HasRows c s → AllByRecursion IsNamed (entries_after s after)
+named_after c s after has = named_all (entries_after s after) (after_sorted s after) (λ q x here.
+    let there = of_some (is_lt (key_cmp after q)) (at s.entries q) x (sym (after_at s after q) ∙ here) in
+    (subst (λ o. IfSome o (λ _. IsObjectName q)) there (has.named q), subst (λ o. IfSome o IsEntry) there (has.entry q)))
+
+named_first : (n : ℕ) (es : List (List ℕ × EntryView)) → AllByRecursion IsNamed es → AllByRecursion IsNamed (take n es)
+named_first zero es all = tt
+named_first (suc n) [] all = tt
+named_first (suc n) (e ∷ es) all = (all.0, named_first n es all.1)
+
+-- ---- a page
+
+pub record IsPage (s : Shard) (after : List ℕ) (limit : ℕ) (found all : Rows) : Type 0 where
+  pub rows : found ≡ map written (take limit (entries_after s after))
+  pub named : AllByRecursion IsNamed (take limit (entries_after s after))
+  pub count : length all ≡ length (entries_after s after)
+
+pub page_rows : (c : Contents) (s : Shard) (after start : List ℕ) (limit : ℕ) (rows : Rows) → HasRows c s → T (is_sorted key_cmp c.rows) → StartsAt after start → rows ≡ take limit (rows_after c.rows start)
+    → IsPage s after limit rows (rows_after c.rows start)
+page_rows c s after start limit rows has order from is =
+    let same = rows_of_entries c s after start has order from in
+    record {
+      rows = is ∙ ap (take limit) same ∙ take-map written limit (entries_after s after);
+      named = named_first limit (entries_after s after) (named_after c s after has);
+      count = ap length same ∙ length-map (entries_after s after) written;
+    }
+
+-- the row at a place
+pub record IsRowAt (es : List (List ℕ × EntryView)) (place : ℕ) (row : List ℕ × List ℕ) : Type 0 where
+  pub entry : EntryView
+  pub named : IsObjectName row.0
+  pub fits : IsEntry entry
+  pub bytes : row.1 ≡ entry_bytes entry
+  pub more : take (suc place) es ≡ take place es ++ (row.0, entry) ∷ []
+
+pub row_at : (es : List (List ℕ × EntryView)) (place : ℕ) (row : List ℕ × List ℕ) → place < length (map written es) → AllByRecursion IsNamed es → row ≡ get_or (map written es) place row → IsRowAt es place row
+row_at [] place row some all is = absurd (omega (arith, some))
+row_at (e ∷ es) zero row some all is = record {
+  entry = e.1;
+  named = subst IsObjectName (sym (ap (λ (r : List ℕ × List ℕ). r.0) is)) all.0.0;
+  fits = all.0.1;
+  bytes = ap (λ (r : List ℕ × List ℕ). r.1) is;
+  more = λ i. (sym (ap (λ (r : List ℕ × List ℕ). r.0) is) i, e.1) ∷ [];
+}
+row_at (e ∷ es) (suc place) row some all is =
+    let rest = row_at es place row (omega (arith, some)) all.1 is in
+    record { entry = rest.entry; named = rest.named; fits = rest.fits; bytes = rest.bytes; more = ap (λ l. e ∷ l) rest.more }
+
+pub same_end : (b : Bool) (n m : ℕ) → (IsTrue b ↔ (n ≤ m)) → b ≡ nat_le n m
+same_end true n m both = let less : n ≤ m = both.0 refl in grind (arith, nat_tests)
+same_end false n m both =
+    elim (nat_le n m) as (λ r. nat_le n m ≡ r → false ≡ r) [
+      | true ↦ λ e. let less : n ≤ m = grind (arith, nat_tests) in absurd (true≢false (sym (both.1 less)))
+      | false ↦ λ e. refl
+    ] refl
