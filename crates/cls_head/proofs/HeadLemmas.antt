@@ -1,5 +1,5 @@
 -- Heads in attributes.
-use Rattle.std.proofs.Common.{◌≡◌, ◌≢◌, ℕ, ◌+◌, ◌-◌, ◌<◌, ◌≤◌, ◌==◌, Bool, false, true≢false, List, [], ◌∷◌, ◌++◌, Option, Some, None, is_some, unwrap_or, length, take, drop, get_or, refl, sym, ap, ◌∙◌, arith, append_assoc, length-append}
+use Rattle.std.proofs.Common.{◌≡◌, ℕ, ◌-◌, ◌<◌, ◌==◌, false, true≢false, List, [], ◌∷◌, ◌++◌, Option, Some, is_some, unwrap_or, length, take, drop, get_or, refl, sym, ap, ◌∙◌, arith, append_assoc}
 use Rattle.std.proofs.lemmas.List.{take_all, take_at, drop_at, length-drop}
 use Rattle.manifest.specs.Layouts.{encoding}
 use Rattle.rgw_types.specs.Stripes.{ManifestView}
@@ -7,7 +7,7 @@ use Rattle.rgw_types.specs.declared.stamp.Stamp.{Stamp}
 use Rattle.object_words.specs.declared.head.NewHead.{NewHead}
 use Rattle.object_words.specs.declared.head.SeenSlot.{SeenSlot}
 use Rattle.object_words.specs.declared.head.SeenSlot.TheVariants.{Nothing, Live, Mark}
-use Rattle.object_words.specs.Heads.{Head, etag_of, manifest_of, seen_stamp}
+use Rattle.object_words.specs.Heads.{etag_of, manifest_of, seen_stamp}
 use Rattle.index_entry.specs.Numbers.{number_bytes}
 use Rattle.cls_head.specs.Layouts.{IsContent, IsSlot, IsStamp, change_bytes, content_bytes, slot_bytes, texts_bytes}
 

@@ -1,3 +1,4 @@
 pub mod TextLemmas
 pub mod HeadLemmas
 pub mod Uniqueness
+pub mod FreshLemmas

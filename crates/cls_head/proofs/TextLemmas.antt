@@ -1,10 +1,10 @@
 -- Texts and pairs in bytes.
-use Rattle.std.proofs.Common.{◌≡◌, ℕ, zero, suc, ◌+◌, ◌-◌, ◌<◌, ◌≤◌, List, [], ◌∷◌, ◌++◌, length, take, drop, get_or, refl, sym, ap, ap₂, ◌∙◌, arith, subst, append_assoc, length-append}
+use Rattle.std.proofs.Common.{◌≡◌, ℕ, zero, suc, ◌+◌, ◌<◌, ◌≤◌, List, [], ◌∷◌, ◌++◌, length, take, drop, get_or, refl, sym, ap, ap₂, ◌∙◌, arith, subst, append_assoc, length-append}
 use Rattle.std.specs.List.{AllByRecursion}
 use Rattle.std.proofs.lemmas.List.{take_more, drop_more, append-nil}
 use Rattle.index_entry.specs.Numbers.{number_bytes}
 use Rattle.index_entry.proofs.PieceLemmas.{length-number_bytes}
-use Rattle.cls_head.specs.Layouts.{IsPair, IsText, pairs_bytes, text_bytes}
+use Rattle.cls_head.specs.Layouts.{IsPair, pairs_bytes, text_bytes}
 
 -- bytes that begin with a number are eight at least
 pub number_long : (bs : List ℕ) (x : ℕ) (rest : List ℕ) → bs ≡ number_bytes x ++ rest → 8 ≤ length bs

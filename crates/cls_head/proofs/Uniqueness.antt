@@ -1,5 +1,5 @@
 -- Attributes are those of one head at most.
-use Rattle.std.proofs.Common.{◌≡◌, ℕ, ◌+◌, ◌<◌, ◌≤◌, ◌^◌, List, [], ◌∷◌, ◌++◌, length, take, drop, get_or, refl, sym, ap, ap₂, ◌∙◌, arith, append_assoc, length-append}
+use Rattle.std.proofs.Common.{◌≡◌, ℕ, ◌<◌, ◌^◌, List, [], ◌∷◌, ◌++◌, length, take, drop, get_or, refl, sym, ap, ap₂, ◌∙◌, arith, length-append}
 use Rattle.std.specs.List.{AllByRecursion}
 use Rattle.std.proofs.lemmas.List.{take_at, drop_at}
 use Rattle.rgw_types.specs.declared.stamp.Stamp.{Stamp}
@@ -13,7 +13,7 @@ use Rattle.object_words.specs.Heads.{Head, first_bytes}
 use Rattle.index_entry.specs.Numbers.{number_bytes}
 use Rattle.index_entry.proofs.PieceLemmas.{behind, length-number_bytes}
 use Rattle.index_entry.proofs.Uniqueness.{same_number}
-use Rattle.cls_head.specs.Layouts.{IsContent, IsPair, IsSlot, IsStamp, IsText, change_bytes, content_bytes, pairs_bytes, slot_bytes, text_bytes, texts_bytes}
+use Rattle.cls_head.specs.Layouts.{IsContent, IsPair, IsSlot, IsStamp, change_bytes, content_bytes, pairs_bytes, slot_bytes, text_bytes, texts_bytes}
 use Rattle.cls_head.specs.Heads.{IsHead}
 use Rattle.cls_head.proofs.TextLemmas.{Pair, text_split}
 use Rattle.cls_head.proofs.HeadLemmas.{behind_etag, behind_manifest, etag_taken, manifest_taken}

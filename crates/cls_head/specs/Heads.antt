@@ -1,5 +1,5 @@
 -- When an object of a pool is a head, and what a call on a head leaves of it.
-use Rattle.std.specs.Prelude.{◌≡◌, ℕ, ◌+◌, ◌-◌}
+use Rattle.std.specs.Prelude.{◌≡◌, ◌+◌, ◌-◌}
 use Rattle.object_pool.specs.declared.place.Place.{Place}
 use Rattle.object_pool.specs.Objects.{Object, no_rows}
 use Rattle.object_pool.specs.Places.{object_of, pool_of}

@@ -1,4 +1,4 @@
-ghost use Rattle.std.specs.Prelude.{◌≡◌, ◌<◌, ◌≤◌, ◌^◌, IfOk, length};
+ghost use Rattle.std.specs.Prelude.{◌≡◌, ◌≤◌, IfOk};
 ghost use Rattle.rgw_types.specs.Stripes.{ManifestView};
 ghost use Rattle.object_pool.specs.Places.{object_of, pool_of};
 ghost use Rattle.object_words.specs.Answers.{Answers};

@@ -1,4 +1,4 @@
-ghost use Rattle.std.specs.Prelude.{◌≡◌, ◌<◌, ◌^◌, length};
+ghost use Rattle.std.specs.Prelude.{◌≡◌};
 ghost use Rattle.object_pool.specs.Places.{object_of, pool_of};
 ghost use Rattle.object_words.specs.Answers.{Answers, Replies};
 ghost use Rattle.object_words.specs.Tails.{Tail, bytes_at, read_refusal, tail_made, tail_refusal};

@@ -4,3 +4,6 @@
 mod making;
 
 pub use making::make;
+
+#[cfg(test)]
+mod tests;

@@ -118,9 +118,9 @@ front_found None f e = absurd cc
 front_found (Some e) f read = (refl, some_same f (front_of e) read)
 
 -- the front of the first entry of a name, and then its tag
-pub first_front : (b c : Contents) (name : List ℕ) (value front : List ℕ) (row : RowView) → row ≡ no_row → length value ≡ 334 → value_at b.rows name ≡ Some value
-    → front ≡ front_bytes 0 1 row 1 → Splices b c name 0 334 front → value_at c.rows name ≡ Some (raw 0 1 no_row 1 [])
-first_front b c name value front row absent long here is first =
+pub first_front : (b c : Contents) (name : List ℕ) (value front : List ℕ) (blank : RowView) → blank ≡ no_row → length value ≡ 334 → value_at b.rows name ≡ Some value
+    → front ≡ front_bytes 0 1 blank 1 → Splices b c name 0 334 front → value_at c.rows name ≡ Some (raw 0 1 no_row 1 [])
+first_front b c name value front blank absent long here is first =
     first value here ∙ ap Some (raw_first value front 334 (sym long)) ∙ ap (λ z. Some (z ++ [])) (is ∙ ap (λ r. front_bytes 0 1 r 1) absent)
 
 pub first_row : (c d : Contents) (name : List ℕ) (t : Tag) (bytes : List ℕ) (start end : ℕ) → value_at c.rows name ≡ Some (raw 0 1 no_row 1 []) → bytes ≡ tag_bytes t → start ≡ 27 → end ≡ start

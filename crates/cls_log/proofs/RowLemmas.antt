@@ -7,9 +7,10 @@ use Rattle.std.specs.Cmp.{nat_cmp_is}
 use Rattle.std.specs.FinMap.Entries.{by_order}
 use Rattle.omap_pages.specs.Rows.{Rows, key_cmp, rows_after, with_row}
 use Rattle.std.proofs.lemmas.List.{length-map, map-append}
+use Rattle.object_pool.specs.Objects.{nothing}
 use Rattle.object_words.specs.declared.log.LogRow.{LogRow}
 use Rattle.object_words.specs.declared.log.LogWhat.{LogWhat}
-use Rattle.object_words.specs.Logs.{first_position, logged, rows_above, trimmed_refusal}
+use Rattle.object_words.specs.Logs.{first_position, logged, no_log, rows_above, trimmed_refusal}
 use Rattle.object_words.specs.Numbers.{next}
 use Rattle.index_entry.specs.LogRows.{log_key, what_bytes}
 use Rattle.index_entry.proofs.KeyOrder.{keys_in_order}
@@ -19,7 +20,7 @@ use Rattle.std.proofs.lemmas.Bool.Decides.{nat_tests}
 use Rattle.object_words.specs.Logs.{Log}
 use Rattle.index_entry.specs.Numbers.{number_bytes}
 use Rattle.index_entry.proofs.PieceLemmas.{length-number_bytes}
-use Rattle.cls_log.specs.LogObjects.{IsFit}
+use Rattle.cls_log.specs.LogObjects.{IsFit, IsLogObject}
 
 -- the key of a row, and what it names
 abbrev pub written : LogRow → List ℕ × List ℕ
@@ -193,3 +194,6 @@ not_before a b h = grind (arith, nat_tests)
 
 pub not_trimmed : (l : Log) (position : ℕ) → first_position l.rows l.last ≤ position + 1 → trimmed_refusal l position ≡ None
 not_trimmed l position kept = rw (not_before (position + 1) (first_position l.rows l.last) kept) refl
+
+pub empty_log : IsLogObject nothing no_log
+empty_log = record { bytes = refl; attrs = refl; rows = refl; is_log = record { rows = tt; rise = refl; last_fits = omega arith } }

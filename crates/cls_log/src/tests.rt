@@ -1,5 +1,9 @@
+ghost use Rattle.object_pool.specs.Places.{object_of};
+ghost use Rattle.object_words.specs.Logs.{Log as LogOf};
+ghost use Rattle.cls_log.specs.LogObjects.{IsLogObject};
+
 use super::{add, after};
-use object_pool::Pool;
+use object_pool::{Place, Pool};
 use object_words::{BucketName, LogPage, LogWhat};
 use rgw_types::{Key, Text};
 use std::alloc::Global;
@@ -26,6 +30,22 @@ fn has_rows(page: &LogPage, positions: &[u64]) -> bool {
         })
 }
 
+/// Whether the log of three rows has these pages: one row, the last rows, and none behind these.
+fn has_pages(alloc: Global, log: &Place<'_>) -> Result<bool, Fail>
+    requires { (l : LogOf) × IsLogObject (object_of log.now) l }
+{
+    let one = after(alloc, log, 1, 1).ok().ok_or("trimmed")?;
+    let last = after(alloc, log, 1, 2).ok().ok_or("trimmed")?;
+    let none = after(alloc, log, u64::MAX, 2).ok().ok_or("trimmed")?;
+    let told = (one.last, one.first, one.tags) == (3, 1, 0);
+    Ok(
+        told && has_rows(&one, &[2])
+            && has_rows(&last, &[2, 3])
+            && has_rows(&none, &[])
+            && (one.end, last.end, none.end) == (false, true, true),
+    )
+}
+
 #[test]
 fn rows_are_added_and_read(rt: HostRuntime) -> Result<(), Fail> {
     let alloc = rt.alloc();
@@ -35,14 +55,6 @@ fn rows_are_added_and_read(rt: HostRuntime) -> Result<(), Fail> {
     assert_eq!(rt; add(alloc, &mut log, &shard(alloc, 2)?)?, 2);
     assert_eq!(rt; add(alloc, &mut log, &shard(alloc, 3)?)?, 3);
 
-    let page = after(alloc, &log, 1, 1).ok().ok_or("trimmed")?;
-    assert!(rt; has_rows(&page, &[2]));
-    assert_eq!(rt; (page.last, page.first, page.tags, page.end), (3, 1, 0, false));
-    let page = after(alloc, &log, 1, 2).ok().ok_or("trimmed")?;
-    assert!(rt; has_rows(&page, &[2, 3]));
-    assert!(rt; page.end);
-    let page = after(alloc, &log, u64::MAX, 2).ok().ok_or("trimmed")?;
-    assert!(rt; has_rows(&page, &[]));
-    assert!(rt; page.end);
+    assert!(rt; has_pages(alloc, &log)?);
     Ok(())
 }

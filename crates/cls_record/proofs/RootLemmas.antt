@@ -1,6 +1,5 @@
 -- What a root has under a name, and what a change of one row leaves of it.
-use Rattle.std.proofs.Common.{◌≡◌, ◌≢◌, ℕ, ◌+◌, ◌^◌, ◌<◌, ◌==◌, ◌&&◌, Bool, true, false, cond, if◌then◌else◌, nat_lt, nat_le, List, [], length, Option, Some, None, IfSome, option_map, is_some, refl, sym, ap, ◌∙◌, subst, arith}
-use Rattle.std.specs.List.{list_all}
+use Rattle.std.proofs.Common.{◌≡◌, ℕ, ◌+◌, ◌^◌, ◌<◌, ◌==◌, ◌&&◌, Bool, true, false, cond, if◌then◌else◌, nat_lt, nat_le, List, [], length, Option, Some, None, IfSome, option_map, refl, sym, ap, ◌∙◌, subst, arith}
 use Rattle.std.specs.Ordering.{eq_by_cmp}
 use Rattle.std.proofs.lemmas.Bool.Decides.{nat_tests}
 use Rattle.omap_pages.specs.Rows.{KeepsOthers, key_cmp, value_at}
@@ -16,7 +15,7 @@ use Rattle.object_words.proofs.NameLemmas.{at-none, at-with_name, at-without_nam
 use Rattle.index_entry.specs.Numbers.{number_bytes}
 use Rattle.index_entry.specs.LogRows.{log_key, what_bytes}
 use Rattle.index_entry.proofs.EntryLemmas.{none_some}
-use Rattle.class_words.specs.LogRows.{log_attrs, logged_at, or_logged}
+use Rattle.class_words.specs.LogRows.{logged_at, or_logged}
 use Rattle.class_words.specs.Shards.{IsObjectName}
 use Rattle.class_words.proofs.LogLemmas.{absent_after, grown_log, grown_others, grown_there, names_apart, next_plain, no_log_row, not_log_key, same_name}
 use Rattle.cls_record.specs.BucketRows.{IsBucket, bucket_bytes}

@@ -7,7 +7,7 @@ use Rattle.object_words.specs.Limits.{shard_limit}
 use Rattle.object_words.specs.Logs.{logged}
 use Rattle.object_words.specs.Names.{at}
 use Rattle.object_words.specs.Refusals.{unless_refused}
-use Rattle.object_words.specs.Roots.{Root, changes_shared, is_logged, kept_shared, shared_after, shares_all, stored, stored_or_none, swap_refusal, swapped, version_of, with_bucket}
+use Rattle.object_words.specs.Roots.{Root, changes_shared, is_logged, shared_after, shares_all, stored, stored_or_none, swap_refusal, swapped, version_of, with_bucket}
 use Rattle.object_words.proofs.KeyLemmas.{number_itself}
 use Rattle.cls_record.specs.BucketRows.{IsBucket, IsShared, bucket_bytes, busy_number, own_then, shared_bytes}
 use Rattle.cls_record.specs.RootObjects.{renewed, same_shared, with_log_row, with_row}

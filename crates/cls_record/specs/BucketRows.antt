@@ -1,6 +1,6 @@
 -- How the row of a container is written: what the bytes are and their layout in two bytes, then what is the zone's own,
 -- then what all zones share. A number is eight bytes with its high byte first, and a text stands after its length.
-use Rattle.std.specs.Prelude.{◌≡◌, ℕ, ◌^◌, ◌<◌, ◌≤◌, true, if◌then◌else◌, List, [], ◌∷◌, ◌++◌, length, Option, Some, None, IfSome}
+use Rattle.std.specs.Prelude.{◌≡◌, ℕ, ◌^◌, ◌<◌, ◌≤◌, true, if◌then◌else◌, List, [], ◌∷◌, ◌++◌, length, Option, Some, None}
 use Rattle.std.specs.List.{AllByRecursion}
 use Rattle.std.specs.Str.{IsUtf8}
 use Rattle.rgw_types.specs.Pairs.{is_risen}

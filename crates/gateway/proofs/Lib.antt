@@ -4,6 +4,5 @@ pub mod Coming
 pub mod Connection
 pub mod Fronts
 pub mod Passing
-pub mod Texts
 pub mod TurnLaws
 pub mod Causes

@@ -1,8 +1,9 @@
 // The answer to a request: its reply is written, and the store is as the request leaves it.
 ghost use Rattle.std.specs.Prelude.{◌≡◌, ◌++◌, [], IfOk, OnOk, OnErr, unwrap_or, option_copied};
 ghost use Rattle.std.specs.Io.KnownBytes.{Appends};
-ghost use Rattle.http_model.specs.Replies.{bad_request_text};
-ghost use Rattle.swift_model.specs.Replies.{map_reply_text};
+ghost use Rattle.http_model.specs.Replies.{bad_request_text, head_text};
+ghost use Rattle.swift_reply.specs.Replies.{reply_head};
+ghost use Rattle.swift_model.specs.Replies.{api_refusal, api_reply, map_reply_text};
 ghost use Rattle.rgw_model.specs.declared.reply.MapReply.TheVariants.{Refused, Stored};
 ghost use Rattle.rgw_model.specs.Answers.{shown_whole, default_kind, content_of};
 ghost use Rattle.rgw_model.specs.Buckets.{slot_at};
@@ -12,7 +13,6 @@ ghost use Rattle.gateway.specs.declared.asked.Asked.TheVariants.{Put, Get};
 ghost use Rattle.gateway.specs.Answering.{AppendsFront, WritesAtFault, IsStored, Answers, AnswersInPart, slot_text};
 
 use crate::asked::{Asked, Upload};
-use crate::reply::{push_bad_request, push_refusal, push_shown_head, push_stored};
 use crate::{PlainStore, ServeFault};
 use gw_io::{Clock, Sink, write_all};
 use http_model::{BadRequest, ReplyForm};
@@ -20,6 +20,7 @@ use md5::{Digest, Md5};
 use rgw_model::{Content, Refusal, Slot, counted_moment};
 use rgw_types::{Bytes, Pairs, Stamp, Text};
 use std::alloc::{AllocError, Global};
+use swift_reply::{SwiftRefusal, push_bad_request, push_refusal, push_shown_head, push_stored};
 
 /// The number of the one zone.
 const ZONE: u8 = 1;
@@ -62,6 +63,18 @@ fn send_stored<K: Sink>(
     send(sink, out.as_slice())
 }
 
+/// The refusal of the Swift API that a refusal is.
+fn api_refusal(refusal: Refusal) -> SwiftRefusal
+    ensures { result ≡ api_refusal refusal }
+{
+    match refusal {
+        Refusal::NotBuilt => SwiftRefusal::NotBuilt,
+        Refusal::Unauthorized => SwiftRefusal::Unauthorized,
+        Refusal::NoContainer => SwiftRefusal::NoContainer,
+        Refusal::NoObject => SwiftRefusal::NoObject,
+    }
+}
+
 /// Writes a refusal.
 pub(crate) fn send_refusal<K: Sink>(
     sink: &mut K,
@@ -74,7 +87,7 @@ pub(crate) fn send_refusal<K: Sink>(
     ensures cause { WritesAtFault (K.faults sink.old) (K.faults sink.new) result }
 {
     out.clear();
-    if push_refusal(out, refusal, form).is_err() {
+    if push_refusal(out, &api_refusal(refusal), form).is_err() {
         return Err(ServeFault::OutOfMemory);
     }
     send(sink, out.as_slice())
@@ -98,8 +111,29 @@ pub(crate) fn send_bad_request<K: Sink>(
     send(sink, out.as_slice())
 }
 
+/// Adds the head of the reply that shows an object whole.
+fn push_content_head(
+    out: &mut Vec<u8>,
+    content: &Content,
+    stamp: Stamp,
+    form: ReplyForm,
+) -> Result<(), AllocError>
+    ensures { OnOk result (out.new.items
+        ≡ out.old.items ++ head_text (reply_head form (api_reply (shown_whole content.now stamp)))) }
+{
+    push_shown_head(
+        out,
+        &content.kind,
+        &content.meta,
+        &content.etag,
+        stamp,
+        content.bytes.len() as u64,
+        form,
+    )
+}
+
 /// Writes the reply that shows an object whole. A large one is written straight from the store.
-#[tactic(auto, unfolding(swift_model::specs::Replies::map_reply_text, http_model::specs::Replies::text_of))]
+#[tactic(auto, unfolding(swift_reply::specs::Replies::reply_text, http_model::specs::Replies::text_of))]
 fn send_shown<K: Sink>(
     sink: &mut K,
     out: &mut Vec<u8>,
@@ -114,7 +148,7 @@ fn send_shown<K: Sink>(
     ensures cause { WritesAtFault (K.faults sink.old) (K.faults sink.new) result }
 {
     out.clear();
-    if push_shown_head(out, content, stamp, form).is_err() {
+    if push_content_head(out, content, stamp, form).is_err() {
         return Err(ServeFault::OutOfMemory);
     }
     if form.bodiless {

@@ -5,7 +5,6 @@ mod answer;
 mod asked;
 mod fault;
 mod incoming;
-mod reply;
 mod serve;
 mod store;
 mod turn;

@@ -8,7 +8,7 @@ ghost use Rattle.rgw_model.specs.declared.reply.Refusal.TheVariants as Why;
 ghost use Rattle.rgw_model.specs.Answers.{Answer, put, get, answer};
 ghost use Rattle.http_model.specs.declared.reply.StreamEnd.TheVariants as End;
 ghost use Rattle.swift_model.specs.Replies.{reply_text, end_text};
-ghost use Rattle.swift_model.specs.Known.{open_form, closing_form, bodiless_form};
+ghost use Rattle.swift_reply.specs.Known.{open_form, closing_form, bodiless_form};
 
 /// The reply to a PUT of `hello` on the 14th of November 2023.
 const STORED: &[u8] =

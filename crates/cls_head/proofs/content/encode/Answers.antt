@@ -1,4 +1,4 @@
-use Rattle.std.proofs.Common.{◌≡◌, ◌++◌, ◌∷◌, [], refl, ap, ◌∙◌, length}
+use Rattle.std.proofs.Common.{◌∷◌, [], refl, ap, ◌∙◌, length}
 use Rattle.manifest.specs.Layouts.{encoding}
 use Rattle.index_entry.specs.Numbers.{number_bytes}
 use Rattle.cls_head.specs.Layouts.{pairs_bytes, text_bytes}

@@ -1,9 +1,7 @@
-use Rattle.std.proofs.Common.{◌≡◌, ◌-◌, ◌++◌, ◌∷◌, ℕ, List, Some, length, take, drop, get_or, sym, ap, ◌∙◌, arith, length-append}
-use Rattle.rgw_types.specs.declared.stamp.Stamp.{Stamp}
+use Rattle.std.proofs.Common.{◌≡◌, ◌-◌, Some, length, take, drop, get_or, sym, ap, ◌∙◌, arith, length-append}
 use Rattle.manifest.specs.Layouts.{encoding}
 use Rattle.object_words.specs.Heads.{Head, etag_of, manifest_of}
-use Rattle.index_entry.specs.Numbers.{number_bytes}
-use Rattle.cls_head.specs.Layouts.{IsWritten, content_bytes, head_bytes, texts_bytes, texts_of}
+use Rattle.cls_head.specs.Layouts.{content_bytes, texts_bytes, texts_of}
 use Rattle.cls_head.proofs.TextLemmas.{number_long}
 use Rattle.cls_head.proofs.HeadLemmas.{IsLive, begun, behind_etag, behind_manifest, behind_one, changed, etag_taken, live, manifest_taken, some_bytes}
 use Rattle.cls_head.proofs.front.read_front.Goals as goal

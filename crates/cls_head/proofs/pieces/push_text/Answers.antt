@@ -1,7 +1,6 @@
 use Rattle.std.proofs.Common.{◌≡◌, ◌++◌, ap, ap₂, ◌∙◌, append_assoc, length}
 use Rattle.std.proofs.lemmas.Result.{IfOk-equal}
 use Rattle.index_entry.specs.Numbers.{number_bytes}
-use Rattle.cls_head.specs.Layouts.{text_bytes}
 use Rattle.cls_head.proofs.pieces.push_text.Goals as goal
 
 pub returns-clause-ok : goal.returns-clause-ok

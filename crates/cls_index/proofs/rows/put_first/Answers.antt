@@ -21,13 +21,13 @@ splice-requires c =
     let value = c.in_ok-value.value in
     let long : length value ≡ 334 = ap length c.in_ok-value.ensures in
     let w = c.write_front-len.ensures in
-    let row = c.absent-absent.result in
-    let front : take c.write_front-len.result c.write_front-len.new.out ≡ front_bytes 0 1 row 1 = ap (take c.write_front-len.result) w.written ∙ take_at _ _ _ (sym w.len) in
-    let size : length (row_bytes row) ≡ 0 = ap (λ r. length (row_bytes r)) c.absent-absent.ensures in
-    let n : c.write_front-len.result ≡ 27 = w.len ∙ omega (arith, length-front_bytes 0 1 row 1, size) in
+    let blank = c.absent-absent.result in
+    let front : take c.write_front-len.result c.write_front-len.new.out ≡ front_bytes 0 1 blank 1 = ap (take c.write_front-len.result) w.written ∙ take_at _ _ _ (sym w.len) in
+    let size : length (row_bytes blank) ≡ 0 = ap (λ r. length (row_bytes r)) c.absent-absent.ensures in
+    let n : c.write_front-len.result ≡ 27 = w.len ∙ omega (arith, length-front_bytes 0 1 blank 1, size) in
     let here = subst (λ k. value_at b.rows k ≡ Some value) c.in_ok-key.ensures c.in_ok-put_row.ensures.at_key in
     let room = subst (λ k. length value ≤ room_at b.rooms k) c.in_ok-key.ensures c.in_ok-put_row.ensures.fits in
-    let m = ap length front ∙ length-front_bytes 0 1 row 1 in
+    let m = ap length front ∙ length-front_bytes 0 1 blank 1 in
     (value, here, omega (arith, long), omega (arith, long, room, m, size))
 
 pub splice-requires-2 : goal.splice-requires-2
@@ -37,13 +37,13 @@ splice-requires-2 c =
     let value = c.in_ok-value.value in
     let long : length value ≡ 334 = ap length c.in_ok-value.ensures in
     let w = c.write_front-len.ensures in
-    let row = c.absent-absent.result in
-    let front : take c.write_front-len.result c.write_front-len.new.out ≡ front_bytes 0 1 row 1 = ap (take c.write_front-len.result) w.written ∙ take_at _ _ _ (sym w.len) in
-    let size : length (row_bytes row) ≡ 0 = ap (λ r. length (row_bytes r)) c.absent-absent.ensures in
-    let n : c.write_front-len.result ≡ 27 = w.len ∙ omega (arith, length-front_bytes 0 1 row 1, size) in
+    let blank = c.absent-absent.result in
+    let front : take c.write_front-len.result c.write_front-len.new.out ≡ front_bytes 0 1 blank 1 = ap (take c.write_front-len.result) w.written ∙ take_at _ _ _ (sym w.len) in
+    let size : length (row_bytes blank) ≡ 0 = ap (λ r. length (row_bytes r)) c.absent-absent.ensures in
+    let n : c.write_front-len.result ≡ 27 = w.len ∙ omega (arith, length-front_bytes 0 1 blank 1, size) in
     let here = subst (λ k. value_at b.rows k ≡ Some value) c.in_ok-key.ensures c.in_ok-put_row.ensures.at_key in
     let room = subst (λ k. length value ≤ room_at b.rooms k) c.in_ok-key.ensures c.in_ok-put_row.ensures.fits in
-    let mid = first_front b (rows_of c.splice.new.shard) name value _ row c.absent-absent.ensures long here front c.splice.ensures.row in
+    let mid = first_front b (rows_of c.splice.new.shard) name value _ blank c.absent-absent.ensures long here front c.splice.ensures.row in
     let m = length-raw 0 1 no_row 1 [] in
     let sixteen : length c.write_tag.result ≡ 16 = ap length c.write_tag.ensures.form ∙ length-tag_bytes c.args.tag.now in
     (raw 0 1 no_row 1 [], mid, omega (arith, n, m), omega (arith, m, sixteen, long, room, c.splice.ensures.room))
@@ -68,14 +68,14 @@ returns-clause-ok c =
     let value = c.in_ok-value.value in
     let long : length value ≡ 334 = ap length c.in_ok-value.ensures in
     let w = c.write_front-len.ensures in
-    let row = c.absent-absent.result in
-    let front : take c.write_front-len.result c.write_front-len.new.out ≡ front_bytes 0 1 row 1 = ap (take c.write_front-len.result) w.written ∙ take_at _ _ _ (sym w.len) in
-    let size : length (row_bytes row) ≡ 0 = ap (λ r. length (row_bytes r)) c.absent-absent.ensures in
-    let n : c.write_front-len.result ≡ 27 = w.len ∙ omega (arith, length-front_bytes 0 1 row 1, size) in
+    let blank = c.absent-absent.result in
+    let front : take c.write_front-len.result c.write_front-len.new.out ≡ front_bytes 0 1 blank 1 = ap (take c.write_front-len.result) w.written ∙ take_at _ _ _ (sym w.len) in
+    let size : length (row_bytes blank) ≡ 0 = ap (λ r. length (row_bytes r)) c.absent-absent.ensures in
+    let n : c.write_front-len.result ≡ 27 = w.len ∙ omega (arith, length-front_bytes 0 1 blank 1, size) in
     let here = subst (λ k. value_at b.rows k ≡ Some value) c.in_ok-key.ensures c.in_ok-put_row.ensures.at_key in
     let room = subst (λ k. length value ≤ room_at b.rooms k) c.in_ok-key.ensures c.in_ok-put_row.ensures.fits in
     let t = c.args.tag.now in
-    let mid = first_front b (rows_of c.splice.new.shard) name value _ row c.absent-absent.ensures long here front c.splice.ensures.row in
+    let mid = first_front b (rows_of c.splice.new.shard) name value _ blank c.absent-absent.ensures long here front c.splice.ensures.row in
     record {
       row = first_row (rows_of c.splice.new.shard) (rows_of c.splice-2.new.shard) name t c.write_tag.result _ _ mid c.write_tag.ensures.form n (omega arith) c.splice-2.ensures.row;
       entry = first_fits t c.write_tag.ensures.fits;

@@ -9,6 +9,8 @@ cancel-requires c = let r = c.requires in (r.0, r.1, small_within c.args.events 
 
 pub returns : goal.returns
 returns c =
-    let r = c.requires in
-    (_, left_by c.cancel.result _ _ (IsShard (object_of c.cancel.new.shard)) _ (c.cancel.ensures.answers r.0 r.1 (small_within c.args.events r.0 r.2 (omega arith))),
-      within_cancelled c.args.events r.0 c.args.name.now c.args.tag r.2)
+    let r = c.requires in (
+      _,
+      left_by c.cancel.result _ _ (IsShard (object_of c.cancel.new.shard)) _ (c.cancel.ensures.answers r.0 r.1 (small_within c.args.events r.0 r.2 (omega arith))),
+      within_cancelled c.args.events r.0 c.args.name.now c.args.tag r.2,
+    )

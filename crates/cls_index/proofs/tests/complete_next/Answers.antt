@@ -9,6 +9,8 @@ complete-requires c = let r = c.requires.stands in (r.0, r.1, small_within c.arg
 
 pub returns : goal.returns
 returns c =
-    let r = c.requires.stands in
-    (_, left_by c.complete.result _ _ (IsShard (object_of c.complete.new.shard)) _ (c.complete.ensures.answers r.0 r.1 (small_within c.args.events r.0 r.2 (omega arith))),
-      within_completed c.args.events r.0 c.args.name.now c.args.tag c.args.version c.args.row.now r.2 c.requires.row)
+    let r = c.requires.stands in (
+      _,
+      left_by c.complete.result _ _ (IsShard (object_of c.complete.new.shard)) _ (c.complete.ensures.answers r.0 r.1 (small_within c.args.events r.0 r.2 (omega arith))),
+      within_completed c.args.events r.0 c.args.name.now c.args.tag c.args.version c.args.row.now r.2 c.requires.row,
+    )

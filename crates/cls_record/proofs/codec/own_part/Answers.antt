@@ -1,7 +1,5 @@
-use Rattle.std.proofs.Common.{◌++◌, ◌∷◌, [], refl}
-use Rattle.index_entry.specs.Numbers.{number_bytes}
+use Rattle.std.proofs.Common.{◌∷◌, [], refl}
 use Rattle.index_entry.proofs.EntryLemmas.{none_some}
-use Rattle.cls_record.specs.BucketRows.{busy_kind, busy_number}
 use Rattle.cls_record.proofs.PieceLemmas.{same_in_some}
 use Rattle.cls_record.proofs.codec.own_part.Goals as goal
 

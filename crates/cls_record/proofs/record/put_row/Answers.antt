@@ -1,4 +1,4 @@
-use Rattle.std.proofs.Common.{◌≡◌, Some, ap, ◌∙◌, sym}
+use Rattle.std.proofs.Common.{Some, ap, ◌∙◌, sym}
 use Rattle.omap_pages.specs.Rows.{value_at}
 use Rattle.object_pool.specs.Objects.{Object}
 use Rattle.object_pool.specs.Places.{object_of, rows_of}

@@ -1,0 +1,11 @@
+pub mod Tables
+pub mod Numbers
+pub mod Rows
+pub mod Tags
+pub mod Changes
+pub mod Agreements
+pub mod Sights
+pub mod Reads
+pub mod Stamps
+pub mod Serving
+pub mod Invariants

@@ -1,0 +1,11 @@
+pub mod Puts
+pub mod Knowing
+pub mod Making
+pub mod Writing
+pub mod Next
+pub mod Keeping
+pub mod Made
+pub mod Storing
+pub mod Getting
+pub mod Resting
+pub mod Staying

@@ -1,0 +1,13 @@
+pub mod Sizes
+pub mod Ids
+pub mod Makers
+pub mod OpenBundles
+pub mod MadeOnce
+pub mod HeadSizes
+pub mod Named
+pub mod Olds
+pub mod Seen
+pub mod Tails
+pub mod Invariant
+pub mod Reading
+pub mod ReplacedMeanwhile

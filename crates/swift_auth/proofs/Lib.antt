@@ -1,0 +1,9 @@
+pub mod Comparing
+pub mod NoColon
+pub mod Reading
+pub mod Finding
+pub mod Differing
+pub mod GrantLemmas
+pub mod OnLiterals
+pub mod KnownUsers
+pub mod KnownLists

@@ -1,0 +1,5 @@
+pub mod Ascii
+pub mod Days
+pub mod Tokens
+pub mod Pieces
+pub mod OnLiterals

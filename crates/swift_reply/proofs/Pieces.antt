@@ -1,0 +1,57 @@
+-- Pieces that were added one after another, as the text of a reply.
+use Rattle.std.proofs.Common.{◌≡◌, ℕ, Bool, true, false, cond, List, [], ◌++◌, refl, ap, ◌∙◌, append_assoc, append-nil}
+use Rattle.http_model.specs.declared.reply.ReplyForm.{ReplyForm}
+use Rattle.http_model.specs.Replies.{written_body}
+
+-- a piece more
+more : (a b o t p : List ℕ) → b ≡ a ++ p → a ≡ o ++ t → b ≡ o ++ (t ++ p)
+more a b o t p e so_far = e ∙ ap (λ l. l ++ p) so_far ∙ append_assoc o t p
+
+-- a status line, four groups of fields, the empty line and no body
+pub stored : (o o₁ o₂ o₃ o₄ o₅ o₆ s a b c d e : List ℕ)
+    → o₁ ≡ o ++ s → o₂ ≡ o₁ ++ a → o₃ ≡ o₂ ++ b → o₄ ≡ o₃ ++ c → o₅ ≡ o₄ ++ d → o₆ ≡ o₅ ++ e
+    → o₆ ≡ o ++ ((s ++ (a ++ (b ++ (c ++ d))) ++ e) ++ [])
+stored o o₁ o₂ o₃ o₄ o₅ o₆ s a b c d e e₁ e₂ e₃ e₄ e₅ e₆ =
+    more o₅ o₆ o ((((s ++ a) ++ b) ++ c) ++ d) e e₆
+    (more o₄ o₅ o (((s ++ a) ++ b) ++ c) d e₅ (more o₃ o₄ o ((s ++ a) ++ b) c e₄ (more o₂ o₃ o (s ++ a) b e₃ (more o₁ o₂ o s a e₂ e₁))))
+    ∙ simp (append_assoc, append-nil)
+
+-- a status line, seven groups of fields and the empty line
+pub shown : (o o₁ o₂ o₃ o₄ o₅ o₆ o₇ o₈ o₉ s a b c d f m g e : List ℕ)
+    → o₁ ≡ o ++ s → o₂ ≡ o₁ ++ a → o₃ ≡ o₂ ++ b → o₄ ≡ o₃ ++ c → o₅ ≡ o₄ ++ d → o₆ ≡ o₅ ++ f → o₇ ≡ o₆ ++ m → o₈ ≡ o₇ ++ g → o₉ ≡ o₈ ++ e
+    → o₉ ≡ o ++ (s ++ (a ++ (b ++ (c ++ (d ++ (f ++ (m ++ g)))))) ++ e)
+shown o o₁ o₂ o₃ o₄ o₅ o₆ o₇ o₈ o₉ s a b c d f m g e e₁ e₂ e₃ e₄ e₅ e₆ e₇ e₈ e₉ =
+    more o₈ o₉ o (((((((s ++ a) ++ b) ++ c) ++ d) ++ f) ++ m) ++ g) e e₉
+    (more o₇ o₈ o ((((((s ++ a) ++ b) ++ c) ++ d) ++ f) ++ m) g e₈
+    (more o₆ o₇ o (((((s ++ a) ++ b) ++ c) ++ d) ++ f) m e₇
+    (more o₅ o₆ o ((((s ++ a) ++ b) ++ c) ++ d) f e₆
+    (more o₄ o₅ o (((s ++ a) ++ b) ++ c) d e₅ (more o₃ o₄ o ((s ++ a) ++ b) c e₄ (more o₂ o₃ o (s ++ a) b e₃ (more o₁ o₂ o s a e₂ e₁)))))))
+    ∙ simp append_assoc
+
+-- a status line, two fields, two groups of fields, the empty line, and a body
+pub refused : (o o₁ o₂ o₃ o₄ o₅ o₆ s a b g k e t : List ℕ)
+    → o₁ ≡ o ++ s → o₂ ≡ o₁ ++ (a ++ b) → o₃ ≡ o₂ ++ g → o₄ ≡ o₃ ++ k → o₅ ≡ o₄ ++ e → o₆ ≡ o₅ ++ t
+    → o₆ ≡ o ++ ((s ++ (a ++ (b ++ (g ++ k))) ++ e) ++ t)
+refused o o₁ o₂ o₃ o₄ o₅ o₆ s a b g k e t e₁ e₂ e₃ e₄ e₅ e₆ =
+    more o₅ o₆ o ((((s ++ (a ++ b)) ++ g) ++ k) ++ e) t e₆
+    (more o₄ o₅ o (((s ++ (a ++ b)) ++ g) ++ k) e e₅ (more o₃ o₄ o ((s ++ (a ++ b)) ++ g) k e₄ (more o₂ o₃ o (s ++ (a ++ b)) g e₃
+    (more o₁ o₂ o s (a ++ b) e₂ e₁))))
+    ∙ simp append_assoc
+
+-- the same without a challenge
+pub broken : (o o₁ o₂ o₃ o₄ o₅ s a b k e t : List ℕ)
+    → o₁ ≡ o ++ s → o₂ ≡ o₁ ++ (a ++ b) → o₃ ≡ o₂ ++ k → o₄ ≡ o₃ ++ e → o₅ ≡ o₄ ++ t
+    → o₅ ≡ o ++ ((s ++ (a ++ (b ++ k)) ++ e) ++ t)
+broken o o₁ o₂ o₃ o₄ o₅ s a b k e t e₁ e₂ e₃ e₄ e₅ =
+    more o₄ o₅ o (((s ++ (a ++ b)) ++ k) ++ e) t e₅
+    (more o₃ o₄ o ((s ++ (a ++ b)) ++ k) e e₄ (more o₂ o₃ o (s ++ (a ++ b)) k e₃
+    (more o₁ o₂ o s (a ++ b) e₂ e₁)))
+    ∙ simp append_assoc
+
+nothing : (bodiless : Bool) (none : List ℕ) → none ≡ [] → cond bodiless [] none ≡ []
+nothing true none e = refl
+nothing false none e = e
+
+-- no body is written as none
+pub written_nothing : (form : ReplyForm) → written_body form [] ≡ []
+written_nothing form = nothing form.bodiless [] refl

@@ -1,0 +1,38 @@
+//! The replies of the Swift API as bytes: heads, and the rows of listings.
+#![tactic(auto)]
+
+mod account;
+mod broken;
+mod fields;
+mod head;
+mod known;
+mod known_refusals;
+mod listing;
+mod moment;
+mod object;
+mod plain;
+mod refusal;
+mod reply;
+mod row;
+
+pub use account::json_accounts;
+pub use broken::push_bad_request;
+pub use head::write_head;
+pub use known::{
+    containers_are_replied_so, listings_are_replied_so, moments_are_written_so,
+    objects_are_replied_so, rows_are_written_so,
+};
+pub use known_refusals::{first_refusals_are_replied_so, later_refusals_are_replied_so};
+pub use listing::json_rows;
+pub use object::{push_shown_head, push_stored};
+pub use plain::{plain_accounts, plain_rows};
+pub use refusal::push_refusal;
+pub use reply::{
+    ContainerCounts, Denial, Invalid, ListingForm, ShownObject, ShownSpan, SwiftRefusal,
+    SwiftReply, TargetKind,
+};
+pub use row::{AccountRow, AccountRows, Row, Rows};
+pub use std::alloc::AllocError as OutOfMemory;
+
+#[cfg(test)]
+mod tests;

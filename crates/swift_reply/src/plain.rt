@@ -1,0 +1,41 @@
+//! Plain listings: each key with a line feed after it.
+ghost use Rattle.std.specs.Prelude.{◌≡◌, IfOk};
+ghost use Rattle.swift_reply.specs.Listings.{key_of, plain_text, plain_account_text};
+
+use crate::{AccountRows, Row, Rows};
+use rgw_types::Bytes;
+use std::alloc::{AllocError, Global};
+
+/// The name of an object, or the front that names have in common.
+fn key_of(row: &Row) -> &[u8]
+    ensures { result.now ≡ key_of row.now }
+{
+    match row {
+        Row::Thing(name, _) => name.as_bytes(),
+        Row::Subdir(key) => key.as_bytes(),
+    }
+}
+
+/// A container's plain listing. No rows have no bytes.
+pub fn plain_rows(alloc: Global, rows: &Rows) -> Result<Bytes, AllocError>
+    ensures { IfOk result (λ text. text ≡ plain_text rows.now) }
+{
+    let mut text = Vec::new(alloc);
+    for row in rows.as_slice() {
+        text.extend_from_slice(key_of(row))?;
+        text.push(b'\n')?;
+    }
+    Ok(Bytes::from_vec(text))
+}
+
+/// An account's plain listing. No rows have no bytes.
+pub fn plain_accounts(alloc: Global, rows: &AccountRows) -> Result<Bytes, AllocError>
+    ensures { IfOk result (λ text. text ≡ plain_account_text rows.now) }
+{
+    let mut text = Vec::new(alloc);
+    for row in rows.as_slice() {
+        text.extend_from_slice(row.name.as_bytes())?;
+        text.push(b'\n')?;
+    }
+    Ok(Bytes::from_vec(text))
+}
