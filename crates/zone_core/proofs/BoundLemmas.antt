@@ -1,5 +1,5 @@
 -- How much one event adds to a shard.
-use Rattle.std.proofs.Common.{◌≡◌, ◌≢◌, ℕ, ◌+◌, ◌*◌, ◌^◌, ◌<◌, ◌≤◌, ◌==◌, ◌||◌, not, Bool, true, false, cond, nat_lt, List, [], ◌∷◌, ◌++◌, length, filter, Option, Some, None, IfSome, refl, sym, ap, ◌∙◌, subst, arith, length-append}
+use Rattle.std.proofs.Common.{◌≡◌, ℕ, ◌+◌, ◌^◌, ◌<◌, ◌≤◌, ◌==◌, ◌||◌, not, Bool, true, false, cond, nat_lt, List, [], ◌∷◌, ◌++◌, length, Option, Some, None, IfSome, refl, sym, ap, subst, arith, length-append}
 use Rattle.std.specs.List.{AllByRecursion}
 use Rattle.std.specs.Ordering.{eq_by_cmp}
 use Rattle.std.proofs.lemmas.Bool.{true≢false}
@@ -7,7 +7,7 @@ use Rattle.std.proofs.lemmas.Bool.Decides.{nat_tests}
 use Rattle.object_words.specs.declared.log.LogWhat.TheVariants.{Name}
 use Rattle.object_words.specs.declared.entry.Tag.{Tag}
 use Rattle.object_words.specs.declared.why.Why.{Why}
-use Rattle.object_words.specs.Entries.{EntryView, entry_of, is_kept, no_entry, stored_if_newer, with_tags}
+use Rattle.object_words.specs.Entries.{EntryView, entry_of, is_kept, stored_if_newer, with_tags}
 use Rattle.object_words.specs.Logs.{Log}
 use Rattle.object_words.specs.Names.{at, entries, name_cmp, none, with_name, without_name}
 use Rattle.object_words.specs.Numbers.{next}

@@ -1,10 +1,10 @@
 -- The pool of a zone once a place in it is given up.
-use Rattle.std.proofs.Common.{◌≡◌, ◌≢◌, ℕ, ◌==◌, ◌&&◌, not, Bool, true, false, cond, List, [], ◌∷◌, length, refl, sym, ap, ◌∙◌, subst, arith}
+use Rattle.std.proofs.Common.{◌≡◌, ℕ, ◌==◌, ◌&&◌, not, Bool, true, false, cond, List, [], ◌∷◌, length, refl, sym, ap, ◌∙◌, subst, arith}
 use Rattle.std.proofs.lemmas.Bool.Decides.{nat_tests}
 use Rattle.rgw_types.specs.declared.pool_key.Key.{Key}
 use Rattle.omap_pages.specs.Rows.{value_at}
 use Rattle.object_pool.specs.declared.place.Place.{Place}
-use Rattle.object_pool.specs.Objects.{KeepsOthers, Object, PoolView, exists, no_rows, nothing, object_at, settled}
+use Rattle.object_pool.specs.Objects.{KeepsOthers, Object, PoolView, exists, nothing, object_at, settled}
 use Rattle.object_pool.specs.Places.{IsPlaceIn, key_of, object_of, pool_of}
 use Rattle.object_words.specs.Logs.{Log}
 use Rattle.object_words.specs.Heads.{Head}

@@ -1,14 +1,14 @@
 -- A call of a class on a head or a tail, as the state sees it.
-use Rattle.std.proofs.Common.{◌≡◌, ℕ, ◌+◌, ◌-◌, true, false, List, Option, Result, refl, sym, ap, ◌∙◌, subst}
+use Rattle.std.proofs.Common.{◌≡◌, ℕ, ◌+◌, ◌-◌, List, Option, Result, refl, sym, ap, ◌∙◌, subst}
 use Rattle.rgw_types.specs.declared.pool_key.Key.{Key}
 use Rattle.rgw_types.specs.declared.pool_key.Key.TheVariants.{Root, Head, Tail, Changes}
 use Rattle.object_pool.specs.declared.place.Place.{Place}
-use Rattle.object_pool.specs.Objects.{KeepsAll, KeepsCounts, PoolView, exists, nothing, object_at}
+use Rattle.object_pool.specs.Objects.{KeepsAll, PoolView, object_at}
 use Rattle.object_pool.specs.Places.{IsPlaceIn, Stays, object_of, pool_of}
 use Rattle.object_words.specs.declared.why.Why.{Why}
 use Rattle.object_words.specs.declared.why.ClassFault.{ClassFault}
 use Rattle.object_words.specs.Answers.{Answers, Replies}
-use Rattle.object_words.specs.Heads.{Head as HeadOf, first_bytes, frames_for, no_head}
+use Rattle.object_words.specs.Heads.{Head as HeadOf, first_bytes, frames_for}
 use Rattle.object_words.specs.Tails.{Tail as TailOf}
 use Rattle.class_words.specs.Works.{WorksWith}
 use Rattle.class_words.specs.Shards.{IsShardOr}
@@ -20,7 +20,7 @@ use Rattle.realm_model.specs.Settings.{SettingsView}
 use Rattle.realm_model.specs.States.{State, at_head, at_tail, free_after, touched}
 use Rattle.realm_model.proofs.TouchLemmas.{head_same, tail_same}
 use Rattle.zone_core.specs.Stands.{Stands}
-use Rattle.zone_core.proofs.Given.{Gave, gave, settled_head, settled_tail}
+use Rattle.zone_core.proofs.Given.{gave, settled_head, settled_tail}
 use Rattle.zone_core.proofs.StandLemmas.{stands_head, stands_tail}
 use Rattle.zone_core.proofs.ShardCallLemmas.{answers_as, replies_as}
 

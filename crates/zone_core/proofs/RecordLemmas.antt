@@ -8,7 +8,6 @@ use Rattle.object_pool.specs.Places.{IsPlaceIn, object_of, pool_of}
 use Rattle.object_words.specs.declared.why.Why.{Why}
 use Rattle.object_words.specs.declared.why.ClassFault.{ClassFault}
 use Rattle.object_words.specs.Answers.{Answers}
-use Rattle.object_words.specs.Keys.{put}
 use Rattle.object_words.specs.Logs.{Log}
 use Rattle.object_words.specs.Roots.{Root as RootOf}
 use Rattle.object_words.proofs.KeyLemmas.{put_same}
@@ -19,7 +18,7 @@ use Rattle.cls_record.specs.RootObjects.{IsRoot}
 use Rattle.realm_model.specs.Settings.{SettingsView}
 use Rattle.realm_model.specs.States.{State, at_changes, at_root, touched}
 use Rattle.zone_core.specs.Stands.{Stands}
-use Rattle.zone_core.proofs.Given.{Gave, gave, settled_changes, settled_root}
+use Rattle.zone_core.proofs.Given.{gave, settled_changes, settled_root}
 use Rattle.zone_core.proofs.ShardCallLemmas.{answers_as}
 use Rattle.zone_core.proofs.StandLemmas.{stands_changes, stands_root}
 

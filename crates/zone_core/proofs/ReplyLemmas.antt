@@ -1,5 +1,5 @@
 -- The reply to a call, as the step has it.
-use Rattle.std.proofs.Common.{◌≡◌, ℕ, Option, Some, None, IfSome, Result, Ok, Err, refl, sym, ap, ◌∙◌, subst}
+use Rattle.std.proofs.Common.{◌≡◌, Option, Some, None, IfSome, Result, Err, sym, ap, ◌∙◌, subst}
 use Rattle.std.specs.Prelude.{MatchResult}
 use Rattle.omap_pages.specs.declared.error.OutOfMemory.{OutOfMemory as OutOf}
 use Rattle.object_words.specs.declared.bucket.Bucket.{Bucket}

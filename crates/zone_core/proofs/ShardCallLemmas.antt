@@ -28,7 +28,7 @@ use Rattle.realm_model.specs.Settings.{SettingsView}
 use Rattle.realm_model.specs.States.{State, at_shard, touched}
 use Rattle.realm_model.specs.Steps.{change_at}
 use Rattle.realm_model.proofs.TouchLemmas.{put_in_same}
-use Rattle.zone_core.specs.Bounds.{AreSmallBy, IsReady, IsSmallBy}
+use Rattle.zone_core.specs.Bounds.{IsReady, IsSmallBy}
 use Rattle.zone_core.specs.Calls.{refusal_at}
 use Rattle.zone_core.specs.Stands.{Stands}
 use Rattle.zone_core.proofs.BoundLemmas.{if_some}

@@ -1,17 +1,16 @@
 -- How much one event adds to the objects of a zone.
-use Rattle.std.proofs.Common.{◌≡◌, ℕ, ◌+◌, ◌<◌, ◌≤◌, ◌^◌, ◌==◌, ◌&&◌, Bool, true, false, cond, List, Option, Some, None, IfSome, refl, sym, ap, subst, arith}
+use Rattle.std.proofs.Common.{ℕ, ◌+◌, ◌≤◌, ◌==◌, ◌&&◌, Bool, true, false, cond, List, Option, Some, None, IfSome, arith}
 use Rattle.rgw_types.specs.declared.pool_key.Key.{Key}
 use Rattle.object_words.specs.declared.bucket.Bucket.{Bucket}
 use Rattle.object_words.specs.declared.why.Why.{Why}
 use Rattle.object_words.specs.declared.log.LogWhat.{LogWhat}
 use Rattle.object_words.specs.Keys.{is_key, put, put_key}
 use Rattle.object_words.specs.Logs.{Log, logged}
-use Rattle.object_words.specs.Numbers.{next}
 use Rattle.object_words.specs.Refusals.{unless_refused}
 use Rattle.object_words.specs.declared.log.LogWhat.TheVariants.{Bucket as bucket_row, Shard as shard_row}
 use Rattle.object_words.specs.Names.{at}
 use Rattle.object_words.specs.Roots.{Root, is_logged, stored_or_none, swap_refusal, swapped, with_bucket}
-use Rattle.object_words.specs.Shards.{Shard, new_shard}
+use Rattle.object_words.specs.Shards.{Shard}
 use Rattle.object_words.specs.ShardCalls.{cancelled, completed, made, prepared, suggested}
 use Rattle.realm_model.specs.Settings.{SettingsView}
 use Rattle.realm_model.specs.States.{State, number_next, put_in, touched}

@@ -2,7 +2,7 @@
 use Rattle.std.proofs.Common.{◌≡◌, ◌≢◌, ℕ, ◌==◌, Bool, true, false, cond, List, Option, refl, sym, ap, ◌∙◌, subst}
 use Rattle.std.proofs.lemmas.Bool.{true≢false}
 use Rattle.rgw_types.specs.declared.pool_key.Key.{Key}
-use Rattle.rgw_types.specs.declared.pool_key.Key.TheVariants.{Root, Shard, Head, Tail, Queue, Changes, Sync}
+use Rattle.rgw_types.specs.declared.pool_key.Key.TheVariants.{Root, Head, Tail, Changes}
 use Rattle.object_pool.specs.Objects.{KeepsOthers, PoolView, object_at}
 use Rattle.object_words.specs.Heads.{Head as HeadOf, first_bytes}
 use Rattle.object_words.specs.Keys.{is_key, is_shard_key, put, put_key}

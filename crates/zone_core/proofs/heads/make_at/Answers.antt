@@ -1,4 +1,4 @@
-use Rattle.std.proofs.Common.{rules, ◌≡◌, Result, Ok, Err, subst, sym}
+use Rattle.std.proofs.Common.{rules, Ok, Err, subst, sym}
 use Rattle.object_pool.specs.Objects.{object_at}
 use Rattle.object_pool.specs.Places.{IsUnchanged}
 use Rattle.object_words.specs.Tails.{tail_made, tail_refusal}

@@ -1,4 +1,4 @@
-use Rattle.std.proofs.Common.{rules, ◌≡◌, subst, sym}
+use Rattle.std.proofs.Common.{rules, subst, sym}
 use Rattle.object_pool.specs.Places.{IsUnchanged}
 use Rattle.cls_log.specs.LogObjects.{IsLogObject}
 use Rattle.zone_core.proofs.HeadCallLemmas.{stands_still}

@@ -1,7 +1,5 @@
-use Rattle.std.proofs.Common.{rules, ◌≡◌, subst, sym}
-use Rattle.rgw_types.specs.declared.pool_key.Key.TheVariants.{Root}
+use Rattle.std.proofs.Common.{rules, subst, sym}
 use Rattle.object_pool.specs.Places.{IsUnchanged}
-use Rattle.object_words.specs.Roots.{swap_refusal, swapped}
 use Rattle.cls_record.specs.RootObjects.{IsRoot}
 use Rattle.zone_core.proofs.HeadCallLemmas.{stands_still}
 use Rattle.zone_core.proofs.RecordLemmas.{root_answers}

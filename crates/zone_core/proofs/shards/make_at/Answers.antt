@@ -1,4 +1,4 @@
-use Rattle.std.proofs.Common.{rules, ◌≡◌, sym, subst}
+use Rattle.std.proofs.Common.{rules, sym, subst}
 use Rattle.object_pool.specs.Places.{IsUnchanged}
 use Rattle.class_words.specs.Shards.{IsShardOr}
 use Rattle.zone_core.proofs.HeadCallLemmas.{stands_stays, stands_still}

@@ -1,4 +1,4 @@
-use Rattle.std.proofs.Common.{rules, Some, sym, subst, refl, ◌∙◌}
+use Rattle.std.proofs.Common.{rules, sym, subst, refl, ◌∙◌}
 use Rattle.object_words.specs.Refusals.{unless_refused}
 use Rattle.object_words.specs.Shards.{entry_at}
 use Rattle.object_words.specs.ShardCalls.{settled, suggest_refusal, suggested, untimely_refusal}

@@ -1,4 +1,4 @@
-use Rattle.std.proofs.Common.{◌^◌, ◌<◌, ap, subst, arith}
+use Rattle.std.proofs.Common.{ap, subst, arith}
 use Rattle.object_words.specs.declared.log.LogWhat.TheVariants.{Shard as shard_row}
 use Rattle.object_words.specs.Logs.{logged}
 use Rattle.realm_model.specs.States.{at_changes, touched}

@@ -1,9 +1,9 @@
-use Rattle.std.proofs.Common.{◌≡◌, ◌==◌, ◌^◌, ◌<◌, Ok, Err, Option, ap, subst, arith}
+use Rattle.std.proofs.Common.{Err, Option, subst, arith}
 use Rattle.object_words.specs.declared.bucket.Bucket.{Bucket}
 use Rattle.object_words.specs.Answers.{Answers}
 use Rattle.object_words.specs.Roots.{swap_refusal, swapped}
 use Rattle.realm_model.specs.States.{at_root, number_next, touched}
-use Rattle.realm_model.specs.Steps.{is_master, reply_or}
+use Rattle.realm_model.specs.Steps.{is_master}
 use Rattle.realm_model.specs.declared.event.Reply.TheVariants.{Done}
 use Rattle.zone_core.specs.Stands.{Stands}
 use Rattle.zone_core.proofs.ReplyLemmas.{call_refused, done, faulted}

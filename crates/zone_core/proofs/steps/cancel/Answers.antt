@@ -1,6 +1,5 @@
 use Rattle.std.proofs.Common.{Ok, refl, subst}
 use Rattle.object_words.specs.ShardCalls.{complete_refusal}
-use Rattle.realm_model.specs.Steps.{suggest_event_refusal}
 use Rattle.realm_model.specs.declared.event.Reply.TheVariants.{Done, No}
 use Rattle.realm_model.specs.declared.op.Op.TheVariants.{Cancel}
 use Rattle.zone_core.specs.Calls.{Performs}

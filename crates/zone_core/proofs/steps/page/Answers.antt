@@ -1,8 +1,6 @@
 use Rattle.std.proofs.Common.{◌≡◌, Ok, IfSome, ap, ◌∙◌, subst}
-use Rattle.object_words.specs.declared.entry.EntryPage.{EntryPage}
 use Rattle.object_words.specs.Refusals.{fate_refusal}
 use Rattle.object_words.specs.ShardCalls.{page_of}
-use Rattle.realm_model.specs.States.{State}
 use Rattle.realm_model.specs.declared.event.Reply.TheVariants.{Entries}
 use Rattle.realm_model.specs.declared.op.Op.TheVariants.{Page}
 use Rattle.zone_core.specs.Calls.{Performs}

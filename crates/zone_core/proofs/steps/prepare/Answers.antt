@@ -1,7 +1,6 @@
-use Rattle.std.proofs.Common.{◌≡◌, Ok, Err, Result, ap, ◌∙◌, subst}
+use Rattle.std.proofs.Common.{◌≡◌, Ok, Err, ap, subst}
 use Rattle.object_words.specs.declared.entry.Guard.{Guard}
 use Rattle.object_words.specs.declared.entry.Tag.{Tag}
-use Rattle.object_words.specs.declared.why.ClassFault.{ClassFault}
 use Rattle.object_words.specs.Answers.{Answers}
 use Rattle.object_words.specs.ShardCalls.{prepare_refusal, prepared}
 use Rattle.object_words.specs.Tags.{guard_of, tag_of}

@@ -1,4 +1,4 @@
-use Rattle.std.proofs.Common.{Ok, refl, subst}
+use Rattle.std.proofs.Common.{refl, subst}
 use Rattle.object_words.specs.ShardCalls.{made}
 use Rattle.realm_model.specs.States.{at_shard, touched}
 use Rattle.zone_core.specs.Stands.{Stands}
