@@ -170,3 +170,34 @@ fn parts_have_their_sizes(rt: HostRuntime) -> Result<(), Fail> {
     }
     Ok(())
 }
+
+/// Whether the parts are the whole of `count` stripes of 4194304 bytes.
+fn are_whole_stripes(parts: &Parts, count: usize) -> bool {
+    let mut next = 0;
+    for part in parts.as_slice() {
+        if part.part != next || part.start != 0 || part.count != 4_194_304 {
+            return false;
+        }
+        next = next.wrapping_add(1);
+    }
+    parts.len() == count
+}
+
+/// 5368709120 bytes are 1280 stripes of 4194304.
+#[test]
+fn the_greatest_object_has_1280_parts(rt: HostRuntime) -> Result<(), Fail> {
+    let manifest = Manifest {
+        write: u64::MAX,
+        stripe: 4_194_304,
+        size: 5_368_709_120,
+    };
+    let whole = manifest.parts(rt.alloc(), 0, 5_368_709_120)?;
+    assert!(rt; are_whole_stripes(&whole, 1280));
+    let last = manifest.parts(rt.alloc(), 5_368_709_119, 1)?;
+    assert_eq!(rt; text_of(rt.alloc(), &last)?.as_str(), "1279:4194303+1 ");
+    assert_eq!(rt;
+        (manifest.part_size(1279), manifest.part_size(1280)),
+        (4_194_304, 0)
+    );
+    Ok(())
+}

@@ -7,6 +7,8 @@ mod pairs;
 mod pool_key;
 mod stamp;
 mod stripes;
+#[cfg(test)]
+mod tests;
 mod text;
 
 pub use items::{Bytes, Items};

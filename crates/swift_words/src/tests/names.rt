@@ -76,3 +76,22 @@ fn a_target_may_have_many_pieces(rt: HostRuntime) -> Result<(), Fail> {
     assert!(rt; asked.prefix.is("A "));
     Ok(())
 }
+
+#[test]
+fn the_longest_names_come_together(rt: HostRuntime) -> Result<(), Fail> {
+    let alloc = rt.alloc();
+    let mut place = repeated(alloc, b"/", b"%2F", 256)?;
+    place.push(b'/')?;
+    let place = repeated(alloc, &place, b"%2F", 1024)?;
+    let (container, object) = read_place(alloc, &place)?;
+    assert_eq!(rt; (container.len(), object.len()), (256, 1024));
+
+    let mut target = Vec::from_slice(alloc, b"/swift/v1/AUTH_acme")?;
+    target.extend_from_slice(&place)?;
+    let target = repeated(alloc, &target, b"?marker=+", 1)?;
+    let target = repeated(alloc, &target, b"%2B", 20_000)?;
+    let (named, asked) = read_target(alloc, &target)?;
+    assert_eq!(rt; last_len(&named), 1024);
+    assert_eq!(rt; asked.marker.len(), 20_001);
+    Ok(())
+}
