@@ -6,5 +6,5 @@ use Rattle.cls_head.proofs.tests.a_head_is_written_and_read.Goals as goal
 pub read-requires : goal.read-requires
 read-requires g c = fresh_head c.in_ok-pool.pool c.in_ok-key.key c.in_ok-head.head (ap (λ (p : PoolView). p.slots) c.in_ok-pool.ensures) c.in_ok-head.ensures.ok.object
 
-pub change-changed-requires-clause-head : goal.change-changed-requires-clause-head
-change-changed-requires-clause-head g c = fresh_head c.in_ok-pool.pool c.in_ok-key.key c.in_ok-head.head (ap (λ (p : PoolView). p.slots) c.in_ok-pool.ensures) c.in_ok-head.ensures.ok.object
+pub change-changed-requires : goal.change-changed-requires
+change-changed-requires g c = fresh_head c.in_ok-pool.pool c.in_ok-key.key c.in_ok-head.head (ap (λ (p : PoolView). p.slots) c.in_ok-pool.ensures) c.in_ok-head.ensures.ok.object
