@@ -7,4 +7,4 @@ pub read-requires : goal.read-requires
 read-requires g c = fresh_head c.in_ok-pool.pool c.in_ok-key.key c.in_ok-head.head (ap (λ (p : PoolView). p.slots) c.in_ok-pool.ensures) c.in_ok-head.ensures.ok.object
 
 pub change-changed-requires : goal.change-changed-requires
-change-changed-requires g c = fresh_head c.in_ok-pool.pool c.in_ok-key.key c.in_ok-head.head (ap (λ (p : PoolView). p.slots) c.in_ok-pool.ensures) c.in_ok-head.ensures.ok.object
+change-changed-requires g c = record { head = fresh_head c.in_ok-pool.pool c.in_ok-key.key c.in_ok-head.head (ap (λ (p : PoolView). p.slots) c.in_ok-pool.ensures) c.in_ok-head.ensures.ok.object }
