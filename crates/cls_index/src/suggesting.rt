@@ -57,7 +57,11 @@ pub fn untimely(shard: &Place<'_>, name: &ObjectName, revision: u64, seen: u64) 
 {
     let text = bytes_of(name);
     let Some(front) = front_at(shard, text) else {
-        return if revision == 0 { Some(Why::Stale { revision }) } else { None };
+        return if revision == 0 {
+            Some(Why::Stale { revision })
+        } else {
+            None
+        };
     };
     if front.revision != revision || has_due(shard, text, front.tags, seen) {
         return None;
