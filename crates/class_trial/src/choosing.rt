@@ -12,26 +12,26 @@ pub fn next_choice(dice: &mut Dice, plain: &Plain, number: u64, clock: u64) -> C
         0 => Choice::Make {
             shard: dice.index(SHARDS - 1),
         },
-        1..=4 => Choice::Prepare { shard, name },
-        5..=7 => Choice::Complete {
+        1..=6 => Choice::Prepare { shard, name },
+        7..=9 => Choice::Complete {
             shard,
             name,
             tag: tag_of(dice, plain, shard, name),
             version: number_near(dice, number),
             row: row(dice),
         },
-        8 => Choice::Cancel {
+        10 => Choice::Cancel {
             shard,
             name,
             tag: tag_of(dice, plain, shard, name),
         },
-        9..=10 => suggestion(dice, plain, shard, name, number, clock),
-        11 => Choice::Page {
+        11..=12 => suggestion(dice, plain, shard, name, number, clock),
+        13 => Choice::Page {
             shard,
             after: dice.index(MARKS),
             limit: limit(dice),
         },
-        12 => Choice::Stats { shard },
+        14 => Choice::Stats { shard },
         _ => other_choice(dice, plain, number, clock),
     }
 }

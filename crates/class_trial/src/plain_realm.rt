@@ -11,7 +11,7 @@ pub const SHARDS: usize = 3;
 pub const TAILS: usize = 6;
 
 /// How many frames of 16 bytes there are.
-pub const FRAMES: u64 = 40;
+pub const FRAMES: u64 = 60;
 
 /// A head: the number of its last change, and what it keeps with its stamp.
 #[derive(Clone, Copy, Debug, PartialEq, Eq)]

@@ -1,154 +1,135 @@
-//! One operation on the zone and on the plain one, and the comparison of both.
-ghost use Rattle.std.specs.Prelude.{◌≡◌, ◌+◌, ℕ, OnOk};
-ghost use Rattle.realm_model.specs.Settings.{SettingsView};
-ghost use Rattle.class_trial.specs.Runs.{Runs};
-
+//! Operations by chance, beside the plain zone.
 use crate::agreeing::{is_answer, is_log_page, shows};
-use crate::ops::{ZONE, op_of, shard_key};
-use crate::plain::{Answer, Choice};
-use crate::plain_realm::Plain;
+use crate::choosing::{limit, next_choice};
+use crate::dice::Dice;
+use crate::ops::{op_of, shard_key};
+use crate::plain::Choice;
+use crate::plain_realm::{Plain, SHARDS};
 use crate::raw::{is_root, is_shard};
-use crate::stage::{perform_next, read_log, whole_object};
-use object_pool::{Key, OutOfMemory, Pool};
-use realm_model::{Reply, Settings};
+use crate::tally::Tally;
+use class_stage::{Ask, Script, Shown};
+use object_pool::{Bytes, Key, Page};
+use realm_model::{Op, Reply};
 use std::alloc::{AllocError, Global};
 
-/// Why a step is the last one.
-#[derive(Debug, Drop)]
-pub enum Fault {
-    OutOfMemory,
-    /// The zone and the plain one differ in this.
-    Differs(&'static str),
-}
+/// How long a tag lives in these.
+pub const LIFE: u64 = 1_000_000;
 
-impl From<AllocError> for Fault {
-    fn from(_: AllocError) -> Fault {
-        Fault::OutOfMemory
-    }
-}
-
-impl From<OutOfMemory> for Fault {
-    fn from(_: OutOfMemory) -> Fault {
-        Fault::OutOfMemory
-    }
-}
-
-/// The answer in which both agree; none for a list. And whether the operation was refused.
-#[derive(Clone, Copy, Debug, PartialEq, Eq)]
-pub struct Agreed {
-    pub answer: Option<Answer>,
-    pub refused: bool,
-}
-
-/// Makes an operation and compares the answers.
-pub fn make_step(
-    alloc: Global,
-    pool: &mut Pool,
-    settings: &Settings,
-    plain: &mut Plain,
-    choice: &Choice,
-    count: u64,
-    clock: u64,
-) -> Result<Agreed, Fault>
-    requires { Runs settings.now pool.old count }
-    ensures { OnOk result (Runs settings.now pool.new (count + 1)) }
-{
-    let Some(op) = op_of(alloc, choice)? else {
-        return Err(Fault::Differs("limits"));
-    };
-    if op.zone() != ZONE || count >= 1 << 40 {
-        return Err(Fault::Differs("zone"));
-    }
-    let reply = perform_next(alloc, pool, settings, count, clock, &op)?;
-    let refused = matches!(&reply, Reply::No(_));
-    let answer = plain.answer(choice, count + 1, clock)?;
-    if is_agreed(&reply, plain, choice, answer, count + 1, clock) {
-        Ok(Agreed { answer, refused })
-    } else {
-        Err(Fault::Differs("answer"))
-    }
-}
-
-// Whether the reply is the answer, or shows the list that is there.
-fn is_agreed(
-    reply: &Reply,
-    plain: &Plain,
-    choice: &Choice,
-    answer: Option<Answer>,
+/// The plain zone and what it is compared by.
+#[derive(Drop)]
+pub struct Trial {
+    pub tally: Tally,
+    /// The operation under way.
+    pub choice: Choice,
+    plain: Plain,
+    dice: Dice,
+    steps: u64,
     number: u64,
     clock: u64,
-) -> bool {
-    match answer {
-        Some(answer) => is_answer(reply, &answer),
-        None => shows(reply, choice, plain, number, clock),
-    }
-}
-
-/// Compares a page of the log of the zone's data.
-pub fn compare_log(
-    alloc: Global,
-    pool: &mut Pool,
-    plain: &Plain,
-    position: u64,
-    limit: u32,
-) -> Result<(), Fault>
-    requires { (settings : SettingsView) × (count : ℕ) × Runs settings pool.old count }
-    ensures { pool.new ≡ pool.old }
-{
-    let same = match read_log(alloc, pool, position, limit) {
-        Ok(Some(page)) => is_log_page(&page, &plain.changes, position, limit),
-        Ok(None) => plain.changes.is_empty(),
-        Err(_) => return Err(Fault::OutOfMemory),
-    };
-    if same {
-        Ok(())
-    } else {
-        Err(Fault::Differs("log of data"))
-    }
-}
-
-/// Compares all bytes of a shard's object.
-pub fn compare_shard(
-    alloc: Global,
-    pool: &mut Pool,
-    plain: &Plain,
+    // What was asked for: a page of the log, or a shard.
+    page: (u64, u32),
     shard: usize,
-) -> Result<(), Fault>
-    ensures { pool.new ≡ pool.old }
-{
-    let found = whole_object(alloc, pool, &shard_key(shard).to_key())?;
-    let same = match (plain.shards.get(shard), found) {
-        (Some(shard), Some((attrs, page))) => {
-            shard.made && is_shard(alloc, attrs.as_slice(), page.rows.as_slice(), shard)?
+}
+
+impl Trial {
+    /// So many operations.
+    pub fn new(alloc: Global, steps: u64) -> Result<Trial, AllocError> {
+        Ok(Trial {
+            tally: Tally::new(alloc)?,
+            choice: Choice::Stats { shard: 0 },
+            plain: Plain::new(alloc, LIFE)?,
+            dice: Dice::new(),
+            steps,
+            number: 0,
+            clock: 1_000_000,
+            page: (0, 0),
+            shard: 0,
+        })
+    }
+
+    fn has_shard(&self, alloc: Global, found: Option<(Bytes, Page)>) -> Result<bool, AllocError> {
+        let Some(shard) = self.plain.shards.get(self.shard) else {
+            return Ok(true);
+        };
+        match found {
+            Some((attrs, page)) => {
+                Ok(shard.made && is_shard(alloc, attrs.as_slice(), page.rows.as_slice(), shard)?)
+            }
+            None => Ok(!shard.made),
         }
-        (Some(shard), None) => !shard.made,
-        (None, _) => true,
-    };
-    if same {
-        Ok(())
-    } else {
-        Err(Fault::Differs("shard"))
+    }
+
+    fn has_root(&self, alloc: Global, found: Option<(Bytes, Page)>) -> Result<bool, AllocError> {
+        let records = self
+            .plain
+            .records
+            .iter()
+            .filter(|kept| kept.is_some())
+            .count();
+        let log = &self.plain.record_log;
+        match found {
+            Some((attrs, page)) => is_root(
+                alloc,
+                attrs.as_slice(),
+                page.rows.as_slice(),
+                log,
+                records,
+            ),
+            None => Ok(log.is_empty() && records == 0),
+        }
     }
 }
 
-/// Compares the rows of the root's object.
-pub fn compare_root(alloc: Global, pool: &mut Pool, plain: &Plain) -> Result<(), Fault>
-    ensures { pool.new ≡ pool.old }
-{
-    let records = plain.records.iter().filter(|kept| kept.is_some()).count();
-    let same = match whole_object(alloc, pool, &Key::Root)? {
-        Some((attrs, page)) => is_root(
-            alloc,
-            attrs.as_slice(),
-            page.rows.as_slice(),
-            &plain.record_log,
-            records,
-        )?,
-        None => plain.record_log.is_empty() && records == 0,
-    };
-    if same {
-        Ok(())
-    } else {
-        Err(Fault::Differs("root"))
+impl Script for Trial {
+    fn next(&mut self, alloc: Global, number: u64) -> Result<Option<(Op, u64)>, AllocError> {
+        if number > self.steps {
+            return Ok(None);
+        }
+        self.number = number;
+        self.clock = self.clock.wrapping_add(self.dice.below(100_000));
+        self.choice = next_choice(&mut self.dice, &self.plain, number, self.clock);
+        let op = op_of(alloc, &self.choice)?;
+        Ok(op.map(|op| (op, self.clock)))
+    }
+
+    fn told(&mut self, _alloc: Global, reply: Reply) -> Result<bool, AllocError> {
+        let choice = self.choice;
+        self.tally.note(&choice, matches!(&reply, Reply::No(_)));
+        Ok(match self.plain.answer(&choice, self.number, self.clock)? {
+            Some(answer) => is_answer(&reply, &answer),
+            None => shows(&reply, &choice, &self.plain, self.number, self.clock),
+        })
+    }
+
+    // By turns a page of the log, a shard and the root.
+    fn asks(&mut self) -> Ask {
+        match self.dice.below(8) {
+            0..=2 => {
+                self.page = (self.dice.below(600), limit(&mut self.dice));
+                Ask::Log(self.page.0, self.page.1)
+            }
+            3..=4 => {
+                self.shard = self.dice.index(SHARDS);
+                Ask::Object(shard_key(self.shard).to_key())
+            }
+            5 => {
+                self.shard = SHARDS;
+                Ask::Object(Key::Root)
+            }
+            _ => Ask::Nothing,
+        }
+    }
+
+    fn shown(&mut self, alloc: Global, shown: Shown) -> Result<bool, AllocError> {
+        match shown {
+            Shown::Log(Some(page)) => {
+                let (position, limit) = self.page;
+                Ok(is_log_page(&page, &self.plain.changes, position, limit))
+            }
+            Shown::Log(None) => Ok(self.plain.changes.is_empty()),
+            Shown::Object(found) if self.shard < SHARDS => self.has_shard(alloc, found),
+            Shown::Object(found) => self.has_root(alloc, found),
+            Shown::Refused => Ok(false),
+        }
     }
 }

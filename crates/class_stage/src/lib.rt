@@ -1,0 +1,9 @@
+//! A zone that a script works on: the trial and the bench of the class calls drive it, each by operations
+//! of its own. What the calls need of the zone is kept here, so that a script needs no contract.
+#![tactic(auto)]
+
+mod driving;
+mod looking;
+mod zone;
+
+pub use driving::{Ask, Script, Shown, Stop, drive};
