@@ -1,0 +1,49 @@
+-- The zone of a script before an operation and after it.
+use Rattle.std.proofs.Common.{◌≡◌, ℕ, ◌+◌, ◌^◌, ◌<◌, refl, sym, subst, arith}
+use Rattle.object_pool.specs.Objects.{PoolView}
+use Rattle.realm_model.specs.Settings.{SettingsView}
+use Rattle.realm_model.specs.Ops.{zone_of}
+use Rattle.realm_model.specs.States.{State, touched}
+use Rattle.realm_model.specs.Steps.{touch_of}
+use Rattle.realm_model.specs.declared.op.Op.{Op}
+use Rattle.zone_core.specs.Bounds.{AreSmallBy, FitsOp, IsReady}
+use Rattle.zone_core.specs.Stands.{Stands}
+use Rattle.zone_core.proofs.SmallLemmas.{small_after}
+use Rattle.class_stage.specs.Runs.{Runs}
+
+-- the same objects, when so many events were made and the clock is this
+abbrev pub at_event : ℕ → ℕ → State → State
+at_event count clock st = record st { count = count; clock = clock }
+
+small_at : (count clock zone : ℕ) (st : State) → AreSmallBy count zone st → AreSmallBy count zone (at_event count clock st)
+small_at count clock zone st small = record { root = small.root; changes = small.changes; shards = small.shards }
+
+stands_at : (settings : SettingsView) (count clock zone : ℕ) (p : PoolView) (st : State) → Stands settings zone p st → Stands settings zone p (at_event count clock st)
+stands_at settings count clock zone p st stands = record {
+  root = stands.root;
+  shards = stands.shards;
+  heads = stands.heads;
+  tails = stands.tails;
+  changes = stands.changes;
+  frame = stands.frame;
+  free = stands.free;
+}
+
+module _ (settings : SettingsView) (p : PoolView) (count clock : ℕ) (op : Op) (runs : Runs settings p count) where
+  -- the state before the operation
+  abbrev pub state : State
+  state = at_event count clock runs.0
+
+  pub ready : count < 2 ^ 40 → zone_of op ≡ 1 → IsReady settings (zone_of op) p state
+  ready few zone = record {
+    stands = subst (λ z. Stands settings z p state) (sym zone) (stands_at settings count clock 1 p runs.0 runs.1);
+    small = small_at count clock (zone_of op) runs.0 (runs.2 (zone_of op));
+    few = omega (arith, few);
+  }
+
+  pub runs_on : (f : PoolView) → FitsOp op → zone_of op ≡ 1 → Stands settings (zone_of op) f (touched settings state (touch_of settings state op)) → Runs settings f (count + 1)
+  runs_on f fits zone stands = (
+    touched settings state (touch_of settings state op),
+    subst (λ z. Stands settings z f (touched settings state (touch_of settings state op))) zone stands,
+    λ z. small_after settings state op z fits (λ y. small_at count clock y runs.0 (runs.2 y)),
+  )
