@@ -17,7 +17,7 @@ pub fn next_choice(dice: &mut Dice, plain: &Plain, number: u64, clock: u64) -> C
             shard,
             name,
             tag: tag_of(dice, plain, shard, name),
-            version: number_near(dice, number),
+            version: version(dice, plain, shard, name, number),
             row: row(dice),
         },
         10 => Choice::Cancel {
@@ -54,7 +54,7 @@ fn other_choice(dice: &mut Dice, plain: &Plain, number: u64, clock: u64) -> Choi
         0 => Choice::HeadRead { name },
         1..=3 => Choice::HeadWrite {
             name,
-            deadline: clock.wrapping_add(dice.below(1000)),
+            deadline: deadline(dice, clock),
             content: content(dice),
             matches: rule(dice),
             none: rule(dice),
@@ -94,9 +94,31 @@ fn tag_of(dice: &mut Dice, plain: &Plain, shard: usize, name: usize) -> u64 {
     entry.tags.get(place).map_or(some, |mark| mark.tag)
 }
 
-// A number like those of the events that were made.
-fn number_near(dice: &mut Dice, number: u64) -> u64 {
-    number.saturating_sub(dice.below(200))
+// The version of the entry, one more, or a number like those of the last events.
+fn version(dice: &mut Dice, plain: &Plain, shard: usize, name: usize, number: u64) -> u64 {
+    let kept = entry_of(plain, shard, name).map_or(0, |entry| entry.version);
+    match dice.below(8) {
+        0 => kept,
+        1 => kept.saturating_add(1),
+        _ => number.saturating_sub(dice.below(200)),
+    }
+}
+
+// The deadline of a tag of the entry, or the moment before it; else a moment some time ago.
+fn seen(dice: &mut Dice, plain: &Plain, shard: usize, name: usize, clock: u64) -> u64 {
+    let before = dice.below(4);
+    let ago = clock.saturating_sub(dice.below(1_500_000));
+    let Some(entry) = entry_of(plain, shard, name) else {
+        return ago;
+    };
+    if before > 1 || entry.tags.is_empty() {
+        return ago;
+    }
+    let place = dice.index(entry.tags.len());
+    entry
+        .tags
+        .get(place)
+        .map_or(ago, |mark| mark.deadline.saturating_sub(before))
 }
 
 fn suggestion(
@@ -113,8 +135,8 @@ fn suggestion(
         shard,
         name,
         revision,
-        seen: clock.saturating_sub(dice.below(1_500_000)),
-        version: number_near(dice, number),
+        seen: seen(dice, plain, shard, name, clock),
+        version: version(dice, plain, shard, name, number),
         row: row(dice),
     }
 }
@@ -139,7 +161,17 @@ pub fn limit(dice: &mut Dice) -> u32 {
     if dice.one_in(4) {
         1000
     } else {
-        dice.below(6) as u32
+        dice.below(14) as u32
+    }
+}
+
+// A moment at the clock, one beside it, or one later.
+fn deadline(dice: &mut Dice, clock: u64) -> u64 {
+    match dice.below(8) {
+        0 => clock,
+        1 => clock.saturating_sub(1),
+        2 => clock.saturating_add(1),
+        _ => clock.saturating_add(1000),
     }
 }
 

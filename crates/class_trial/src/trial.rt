@@ -105,7 +105,8 @@ impl Script for Trial {
     fn asks(&mut self) -> Ask {
         match self.dice.below(8) {
             0..=2 => {
-                self.page = (self.dice.below(600), limit(&mut self.dice));
+                let positions = (self.plain.changes.len() as u64).saturating_add(3);
+                self.page = (self.dice.below(positions), limit(&mut self.dice));
                 Ask::Log(self.page.0, self.page.1)
             }
             3..=4 => {
