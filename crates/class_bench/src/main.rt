@@ -49,7 +49,11 @@ fn show<R: Clock + Print>(rt: &R, alloc: Global) -> anyhow::Result<()> {
 }
 
 fn measure<R: Clock + Print>(rt: &R, alloc: Global, entries: u64) -> anyhow::Result<()> {
-    let calls = entries.clamp(1, CALLS);
+    let calls = match entries {
+        0 => 1,
+        1..CALLS => entries,
+        _ => CALLS,
+    };
     let batches = run(rt, alloc, entries, calls, ROUNDS)?;
     println!(rt; "{entries} entries; nanoseconds of a call")?;
     for (batch, best) in batches.best.iter().enumerate() {

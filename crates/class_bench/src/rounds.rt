@@ -123,13 +123,18 @@ impl<'a, R: Clock> Rounds<'a, R> {
         }
     }
 
-    // The operations of the next batch, on entries that stand far from each other.
+    // The entry of a call: those of one batch stand far from each other.
+    fn place(&self, call: u64) -> u64 {
+        let calls = if self.calls == 0 { 1 } else { self.calls };
+        call.wrapping_mul(self.entries / calls)
+    }
+
+    // The operations of the next batch.
     fn begin_batch(&mut self, alloc: Global) -> Result<(), AllocError> {
         let kind = batch_kind(self.batch);
-        let stride = (self.entries / self.calls.max(1)).max(1);
         for call in 0..self.calls {
             let tag = self.tags.pop().unwrap_or(0);
-            if let Some(op) = self.op(alloc, kind, call.wrapping_mul(stride), tag)? {
+            if let Some(op) = self.op(alloc, kind, self.place(call), tag)? {
                 self.ops.push(op)?;
             }
         }

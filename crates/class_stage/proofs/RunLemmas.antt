@@ -1,12 +1,24 @@
 -- The zone of a script before an operation and after it.
-use Rattle.std.proofs.Common.{◌≡◌, ℕ, ◌+◌, ◌^◌, ◌<◌, refl, sym, subst, arith}
-use Rattle.object_pool.specs.Objects.{PoolView}
+use Rattle.std.proofs.Common.{◌≡◌, ℕ, ◌+◌, ◌^◌, ◌<◌, [], Result, Ok, Err, refl, sym, subst, arith}
+use Rattle.std.specs.Prelude.{OnOk}
+use Rattle.omap_pages.specs.declared.error.OutOfMemory.{OutOfMemory as OutOf}
+use Rattle.object_pool.specs.Objects.{PoolView, nothing}
+use Rattle.object_words.specs.Heads.{no_head}
+use Rattle.object_words.specs.Logs.{no_log}
+use Rattle.object_words.specs.Roots.{no_root}
+use Rattle.object_words.specs.Tails.{no_tail}
+use Rattle.cls_head.specs.Heads.{IsHead}
+use Rattle.cls_head.specs.Tails.{IsTail}
+use Rattle.cls_log.specs.LogObjects.{IsLogObject}
+use Rattle.cls_record.specs.RootObjects.{IsRoot}
 use Rattle.realm_model.specs.Settings.{SettingsView}
 use Rattle.realm_model.specs.Ops.{zone_of}
-use Rattle.realm_model.specs.States.{State, touched}
+use Rattle.realm_model.specs.States.{State, opening, touched}
 use Rattle.realm_model.specs.Steps.{touch_of}
 use Rattle.realm_model.specs.declared.op.Op.{Op}
+use Rattle.realm_model.specs.declared.event.Reply.{Reply}
 use Rattle.zone_core.specs.Bounds.{AreSmallBy, FitsOp, IsReady}
+use Rattle.zone_core.specs.Calls.{Performs}
 use Rattle.zone_core.specs.Stands.{Stands}
 use Rattle.zone_core.proofs.SmallLemmas.{small_after}
 use Rattle.class_stage.specs.Runs.{Runs}
@@ -47,3 +59,24 @@ module _ (settings : SettingsView) (p : PoolView) (count clock : ℕ) (op : Op) 
     subst (λ z. Stands settings z f (touched settings state (touch_of settings state op))) zone stands,
     λ z. small_after settings state op z fits (λ y. small_at count clock y runs.0 (runs.2 y)),
   )
+
+  pub performed : (f : PoolView) (result : Result Reply OutOf) → FitsOp op → zone_of op ≡ 1 → Performs settings (zone_of op) state op result f → OnOk result (Runs settings f (count + 1))
+  performed f (Ok reply) fits zone told = runs_on f fits zone told.1
+  performed f (Err fault) fits zone told = tt
+
+-- a pool without objects, before the first operation
+pub fresh : (settings : SettingsView) → IsHead nothing no_head → IsTail nothing no_tail → IsRoot nothing no_root → IsLogObject nothing no_log
+    → Runs settings (record { frame = settings.frame; frames = settings.frames; free = settings.frames; slots = [] }) 0
+fresh settings head tail root log = (
+  opening settings,
+  record {
+    root = root;
+    shards = λ key is. refl;
+    heads = λ container name. head;
+    tails = λ write part. tail;
+    changes = log;
+    frame = refl;
+    free = refl;
+  },
+  λ zone. record { root = omega arith; changes = omega arith; shards = λ key. tt },
+)

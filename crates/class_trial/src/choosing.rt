@@ -1,4 +1,6 @@
 //! The next operation, by chance and by what is there.
+ghost use Rattle.std.specs.Prelude.{◌≤◌};
+
 use crate::dice::Dice;
 use crate::plain::{Choice, Content, Record, Row, Rule, Run};
 use crate::plain_realm::{Plain, SHARDS, TAILS};
@@ -87,10 +89,11 @@ fn tag_of(dice: &mut Dice, plain: &Plain, shard: usize, name: usize) -> u64 {
     let Some(entry) = entry_of(plain, shard, name) else {
         return some;
     };
-    if some < 3 || entry.tags.is_empty() {
+    let count = entry.tags.len();
+    if some < 3 || count == 0 {
         return some;
     }
-    let place = dice.index(entry.tags.len());
+    let place = dice.index(count);
     entry.tags.get(place).map_or(some, |mark| mark.tag)
 }
 
@@ -111,10 +114,11 @@ fn seen(dice: &mut Dice, plain: &Plain, shard: usize, name: usize, clock: u64) -
     let Some(entry) = entry_of(plain, shard, name) else {
         return ago;
     };
-    if before > 1 || entry.tags.is_empty() {
+    let count = entry.tags.len();
+    if before > 1 || count == 0 {
         return ago;
     }
-    let place = dice.index(entry.tags.len());
+    let place = dice.index(count);
     entry
         .tags
         .get(place)
@@ -205,7 +209,7 @@ fn rule(dice: &mut Dice) -> Option<Rule> {
 fn swap(dice: &mut Dice, plain: &Plain, bucket: usize, number: u64) -> Choice {
     let kept = plain.kept(bucket);
     let expected = if dice.one_in(5) {
-        dice.below(number.max(1))
+        dice.below(some_numbers(number))
     } else {
         kept.map_or(0, |record| record.version)
     };
@@ -229,6 +233,13 @@ fn swap(dice: &mut Dice, plain: &Plain, bucket: usize, number: u64) -> Choice {
     }
 }
 
+// The number, or 1 for none.
+fn some_numbers(number: u64) -> u64
+    ensures { 1 ≤ result }
+{
+    if number == 0 { 1 } else { number }
+}
+
 fn record(dice: &mut Dice, number: u64) -> Record {
     let busy = if dice.one_in(3) {
         Some((dice.below(9), dice.one_in(2)))
@@ -238,8 +249,8 @@ fn record(dice: &mut Dice, number: u64) -> Record {
     Record {
         id: dice.below(3),
         owner: dice.index(WORDS),
-        version: dice.below(number.max(1)),
-        shared: dice.below(number.max(1)),
+        version: dice.below(some_numbers(number)),
+        shared: dice.below(some_numbers(number)),
         number: dice.below(9),
         busy,
         instance: dice.below(1000),

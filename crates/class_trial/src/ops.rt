@@ -38,7 +38,7 @@ pub fn shard_key(shard: usize) -> ShardKey {
     ShardKey {
         container: CONTAINER,
         instance: INSTANCE,
-        shard: shard as u32,
+        shard: (shard % 1000) as u32,
     }
 }
 
@@ -310,7 +310,7 @@ fn record_op(alloc: Global, choice: &Choice) -> Result<Option<Op>, AllocError> {
                 zone: ZONE,
                 container: CONTAINER,
                 instance: INSTANCE,
-                shard: shard as u32,
+                shard: (shard % 1000) as u32,
                 bucket,
             }))
         }

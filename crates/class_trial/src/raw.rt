@@ -109,7 +109,7 @@ fn header(alloc: Global, shard: &Shard) -> Result<Bytes, AllocError> {
     }
     let mut out = Bytes::from_slice(alloc, &[237, 1])?;
     put(&mut out, objects)?;
-    put(&mut out, (bytes >> 64) as u64)?;
+    put(&mut out, (bytes / (1 << 64)) as u64)?;
     put(&mut out, (bytes % (1 << 64)) as u64)?;
     put(&mut out, tags)?;
     put(&mut out, shard.log.len() as u64)?;

@@ -105,7 +105,7 @@ impl Script for Trial {
     fn asks(&mut self) -> Ask {
         match self.dice.below(8) {
             0..=2 => {
-                let positions = (self.plain.changes.len() as u64).saturating_add(3);
+                let positions = self.plain.changes.len() as u64 % 10_000 + 3;
                 self.page = (self.dice.below(positions), limit(&mut self.dice));
                 Ask::Log(self.page.0, self.page.1)
             }
