@@ -1,6 +1,6 @@
 -- The zone of a script before an operation and after it.
 use Rattle.std.proofs.Common.{◌≡◌, ℕ, ◌+◌, ◌^◌, ◌<◌, [], Result, Ok, Err, refl, sym, subst, arith}
-use Rattle.std.specs.Prelude.{OnOk}
+use Rattle.std.specs.Prelude.{IfOk, OnOk}
 use Rattle.omap_pages.specs.declared.error.OutOfMemory.{OutOfMemory as OutOf}
 use Rattle.object_pool.specs.Objects.{PoolView, nothing}
 use Rattle.object_words.specs.Heads.{no_head}
@@ -44,32 +44,32 @@ stands_at settings count clock zone p st stands = record {
 module _ (settings : SettingsView) (p : PoolView) (count clock : ℕ) (op : Op) (runs : Runs settings p count) where
   -- the state before the operation
   abbrev pub state : State
-  state = at_event count clock runs.0
+  state = at_event count clock runs.state
 
   pub ready : count < 2 ^ 40 → zone_of op ≡ 1 → IsReady settings (zone_of op) p state
   ready few zone = record {
-    stands = subst (λ z. Stands settings z p state) (sym zone) (stands_at settings count clock 1 p runs.0 runs.1);
-    small = small_at count clock (zone_of op) runs.0 (runs.2 (zone_of op));
+    stands = subst (λ z. Stands settings z p state) (sym zone) (stands_at settings count clock 1 p runs.state runs.stands);
+    small = small_at count clock (zone_of op) runs.state (runs.small (zone_of op));
     few = omega (arith, few);
   }
 
   pub runs_on : (f : PoolView) → FitsOp op → zone_of op ≡ 1 → Stands settings (zone_of op) f (touched settings state (touch_of settings state op)) → Runs settings f (count + 1)
-  runs_on f fits zone stands = (
-    touched settings state (touch_of settings state op),
-    subst (λ z. Stands settings z f (touched settings state (touch_of settings state op))) zone stands,
-    λ z. small_after settings state op z fits (λ y. small_at count clock y runs.0 (runs.2 y)),
-  )
+  runs_on f fits zone stands = record {
+    state = touched settings state (touch_of settings state op);
+    stands = subst (λ z. Stands settings z f (touched settings state (touch_of settings state op))) zone stands;
+    small = λ z. small_after settings state op z fits (λ y. small_at count clock y runs.state (runs.small y));
+  }
 
   pub performed : (f : PoolView) (result : Result Reply OutOf) → FitsOp op → zone_of op ≡ 1 → Performs settings (zone_of op) state op result f → OnOk result (Runs settings f (count + 1))
   performed f (Ok reply) fits zone told = runs_on f fits zone told.1
   performed f (Err fault) fits zone told = tt
 
 -- a pool without objects, before the first operation
-pub fresh : (settings : SettingsView) → IsHead nothing no_head → IsTail nothing no_tail → IsRoot nothing no_root → IsLogObject nothing no_log
+fresh : (settings : SettingsView) → IsHead nothing no_head → IsTail nothing no_tail → IsRoot nothing no_root → IsLogObject nothing no_log
     → Runs settings (record { frame = settings.frame; frames = settings.frames; free = settings.frames; slots = [] }) 0
-fresh settings head tail root log = (
-  opening settings,
-  record {
+fresh settings head tail root log = record {
+  state = opening settings;
+  stands = record {
     root = root;
     shards = λ key is. refl;
     heads = λ container name. head;
@@ -77,6 +77,11 @@ fresh settings head tail root log = (
     changes = log;
     frame = refl;
     free = refl;
-  },
-  λ zone. record { root = omega arith; changes = omega arith; shards = λ key. tt },
-)
+  };
+  small = λ zone. record { root = omega arith; changes = omega arith; shards = λ key. tt };
+}
+
+pub started : (settings : SettingsView) → IsHead nothing no_head → IsTail nothing no_tail → IsRoot nothing no_root → IsLogObject nothing no_log → (result : Result PoolView OutOf)
+    → IfOk result (λ pool. pool ≡ record { frame = settings.frame; frames = settings.frames; free = settings.frames; slots = [] }) → IfOk result (λ pool. Runs settings pool 0)
+started settings head tail root log (Ok pool) is = subst (λ p. Runs settings p 0) (sym is) (fresh settings head tail root log)
+started settings head tail root log (Err fault) is = tt

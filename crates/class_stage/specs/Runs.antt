@@ -7,5 +7,7 @@ use Rattle.zone_core.specs.Bounds.{AreSmallBy}
 use Rattle.zone_core.specs.Stands.{Stands}
 
 -- the pool has the objects of zone 1 of some state, which are no larger than so many events make them
-abbrev pub Runs : SettingsView → PoolView → ℕ → Type 0
-Runs settings pool count = (st : State) × Stands settings 1 pool st × ((zone : ℕ) → AreSmallBy count zone st)
+pub record Runs (settings : SettingsView) (pool : PoolView) (count : ℕ) : Type 0 where
+  pub state : State
+  pub stands : Stands settings 1 pool state
+  pub small : (zone : ℕ) → AreSmallBy count zone state

@@ -100,12 +100,13 @@ fn step<S: Script>(
         return Err(Stop::At(count));
     }
     let reply = perform_next(alloc, pool, settings, count, clock, op)?;
-    let goes_on = script.told(alloc, reply)? && show(alloc, pool, script)?;
-    if goes_on {
-        Ok(())
-    } else {
-        Err(Stop::At(count + 1))
+    if !script.told(alloc, reply)? {
+        return Err(Stop::At(count + 1));
     }
+    if !show(alloc, pool, script)? {
+        return Err(Stop::At(count + 1));
+    }
+    Ok(())
 }
 
 // Shows a script what it asks for, and says whether it goes on.

@@ -5,6 +5,7 @@ ghost use Rattle.zone_core.specs.Bounds.{FitsOp};
 ghost use Rattle.class_stage.specs.Runs.{Runs};
 
 use object_pool::{OutOfMemory, Pool};
+use object_words::EntryRow;
 use realm_model::{Op, Reply, Settings};
 use std::alloc::Global;
 use zone_core::perform;
@@ -42,9 +43,20 @@ fn read_size(op: &Op)
     ensures { FitsOp op.now }
 {
     match op {
-        Op::Complete { row, .. } | Op::Suggest { row, .. } => {
-            let _size = row.size;
+        Op::Complete { row, .. } => {
+            let _size = size_of(row);
+        }
+        Op::Suggest { row, .. } => {
+            let _size = size_of(row);
         }
         _ => {}
     }
+}
+
+// The size of a row.
+fn size_of(row: &EntryRow) -> u64
+    ensures same { result ≡ row.now.size }
+    ensures fits { result < 2 ^ 64 }
+{
+    row.size
 }

@@ -4,5 +4,5 @@ use Rattle.class_stage.proofs.looking.read_log.Goals as goal
 
 pub after-requires : goal.after-requires
 after-requires c =
-    let runs = c.requires.2 in
-    (runs.0.changes 1, subst (λ o. IsLogObject o (runs.0.changes 1)) (sym c.in-Some.ensures.some.object) runs.1.changes)
+    let changes = c.requires.2.state.changes 1 in
+    (changes, subst (λ o. IsLogObject o changes) (sym c.in-Some.ensures.some.object) c.requires.2.stands.changes)
