@@ -1,0 +1,169 @@
+-- What the shards of a row count together is what the map of its container counts.
+use Rattle.std.proofs.Common.{◌≡◌, ⊎_elim, ℕ, ◌+◌, ◌≤◌, ◌<◌, ◌==◌, ◌%◌, ◌^◌, true, false, cond, List, [], ◌∷◌, length, Option, Some, None, refl, sym, ◌∙◌, ap, subst, arith}
+use Rattle.std.specs.Prelude.{sum_by, unwrap_or, min}
+use Rattle.std.specs.List.{range_with_len}
+use Rattle.std.proofs.Math.Nat.{mod-lt}
+use Rattle.std.proofs.lemmas.List.Sums.{sum_by-cons, get_or-le-sum_by}
+use Rattle.std.proofs.lemmas.List.FromFn.{length-range_with_len, get_or-range_with_len}
+use Rattle.object_words.specs.declared.bucket.Bucket.{Bucket}
+use Rattle.object_words.specs.declared.head.SeenSlot.{SeenSlot}
+use Rattle.object_words.specs.declared.head.SeenSlot.TheVariants.{Nothing}
+use Rattle.object_words.specs.Names.{Named, none, at, where_name, entries}
+use Rattle.object_words.specs.Numbers.{greatest}
+use Rattle.object_words.specs.Keys.{shard_key, number_of}
+use Rattle.object_words.specs.Hashes.{hash_of, mixed, shard_of}
+use Rattle.object_words.specs.Entries.{EntryView, no_entry}
+use Rattle.object_words.specs.Shards.{Shard, total, sum_over, object_count, byte_count, tag_count, stats_of}
+use Rattle.object_words.proofs.NameLemmas.{at-none}
+use Rattle.object_words.proofs.KeyLemmas.{number_itself}
+use Rattle.object_words.proofs.Sums.{count_of}
+use Rattle.realm_model.specs.Settings.{SettingsView, IsSettings}
+use Rattle.realm_model.specs.Containers.{row_in, entry_in, key_of_name, entry_of_name, is_settled}
+use Rattle.realm_model.specs.Counts.{live_count, live_bytes, counts_of}
+use Rattle.realm_model.specs.Histories.{world_of, state_of, Legal}
+use Rattle.realm_model.specs.Maps.{slot_at, heads}
+use Rattle.realm_model.specs.States.{State}
+use Rattle.realm_model.specs.Worlds.{World}
+use Rattle.realm_model.specs.declared.event.Event.{Event}
+use Rattle.realm_model.proofs.ObjectLemmas.{number_same}
+use Rattle.index_law.specs.Tables.{IsPlaced}
+use Rattle.index_law.proofs.Keeping.{holds}
+use Rattle.index_law.proofs.Consequences.{row_is_of, counted, sized}
+use Rattle.realm_law.specs.Totals.{counted_in, over_shards}
+use Rattle.realm_law.proofs.MapSums.{at-where_name, Alike, alike_totals, count-le-total, sum_same, parts_of_map}
+
+-- ---- a shard's entries as a map
+
+-- the entries of a shard; one that was never made has none
+abbrev entries_in : Option Shard → Named EntryView
+entries_in None = none
+entries_in (Some s) = s.entries
+
+none_total : (f : EntryView → ℕ) → total f (entries (none {X = EntryView})) ≡ 0
+unfolding none entries
+none_total f = refl
+
+total_in : (f : EntryView → ℕ) (o : Option Shard) → counted_in (sum_over f) o ≡ total f (entries (entries_in o))
+total_in f None = sym (none_total f)
+total_in f (Some s) = refl
+
+count_found : (f : EntryView → ℕ) → f no_entry ≡ 0 → (found : Option EntryView) → count_of f found ≡ f (unwrap_or found no_entry)
+count_found f empty None = sym empty
+count_found f empty (Some e) = refl
+
+-- an entry counts as it is found; an absent one counts nothing
+count_in : (f : EntryView → ℕ) → f no_entry ≡ 0 → (o : Option Shard) (q : List ℕ) → count_of f (at (entries_in o) q) ≡ f (entry_in o q)
+count_in f empty None q = ap (count_of f) (at-none q) ∙ sym empty
+count_in f empty (Some s) q = count_found f empty (at s.entries q)
+
+slot_counts : (g : SeenSlot → ℕ) → g Nothing ≡ 0 → (map : Named SeenSlot) (q : List ℕ) → g (slot_at map q) ≡ count_of g (at map q)
+slot_counts g empty map q = found (at map q) where
+  found : (o : Option SeenSlot) → g (unwrap_or o Nothing) ≡ count_of g o
+  found None = empty
+  found (Some slot) = refl
+
+within : (row : Bucket) → 1 ≤ row.shards → (q : List ℕ) → shard_of q row.shards < row.shards
+within row some q = mod-lt (mixed (hash_of q % 2 ^ 32) % 7877) (omega (arith, some))
+
+-- ---- over all shards of a row
+
+module _ (settings : SettingsView) (history : List Event) (zone container : ℕ) (row : Bucket) (good : IsSettings settings) (legal : Legal settings history)
+    (is : row_in (world_of settings history).rows (state_of settings history) zone container ≡ Some row) (some : 1 ≤ row.shards)
+    (settled : (name : List ℕ) → is_settled (entry_of_name (state_of settings history) zone row name) ≡ true) where
+  abbrev w : World
+  w = world_of settings history
+
+  abbrev shard : ℕ → Option Shard
+  shard n = w.state.shards zone (shard_key row.id row.instance n)
+
+  -- a name has an entry in the shard of its hash alone
+  placed_there : (n : ℕ) (q : List ℕ) → IsPlaced w.rows.instances zone (shard_key row.id row.instance n) q → shard_of q row.shards ≡ n
+  placed_there n q p =
+      let j = holds settings history good legal in
+      let r = row_is_of w zone container row is in
+      let named = (j.rows_stand.kept zone (r.home).name row r.kept).named in
+      let same : Some p.instance ≡ Some named.instance = sym p.placed ∙ named.placed in
+      let one : p.instance ≡ named.instance = cc in
+      sym (ap number_of p.key_is ∙ ap (λ i. shard_of q i.shards) one ∙ ap (shard_of q) named.shards_are)
+
+  elsewhere : (f : EntryView → ℕ) → f no_entry ≡ 0 → (n : ℕ) (q : List ℕ) → (shard_of q row.shards == n) ≡ false → f (entry_in (shard n) q) ≡ 0
+  elsewhere f empty n q other =
+      ⊎_elim (λ absent. ap f absent ∙ empty)
+      (λ placed. let itself = subst (λ k. (shard_of q row.shards == k) ≡ true) (placed_there n q placed) (number_itself (shard_of q row.shards)) in absurd (let bad : true ≡ false = sym itself ∙ other in cc))
+      ((holds settings history good legal).tags_of_prepare.held zone (shard_key row.id row.instance n) q)
+
+  module _ (f : EntryView → ℕ) (g : SeenSlot → ℕ) (f_empty : f no_entry ≡ 0) (g_empty : g Nothing ≡ 0)
+      (shown : (q : List ℕ) → f (entry_of_name w.state zone row q) ≡ g (slot_at (heads history zone container) q)) where
+    abbrev map : Named SeenSlot
+    map = heads history zone container
+
+    alike : (n : ℕ) → Alike f g (entries_in (shard n)) (where_name (λ q. shard_of q row.shards == n) map)
+    alike n q =
+        count_in f f_empty (shard n) q
+        ∙ elim (shard_of q row.shards == n) as (λ b. (shard_of q row.shards == n) ≡ b → f (entry_in (shard n) q) ≡ count_of g (cond b (at map q) None)) [
+          | true ↦ λ here.
+              ap (λ k. f (entry_in (shard k) q)) (sym (number_same (shard_of q row.shards) n here)) ∙ shown q ∙ slot_counts g g_empty map q
+          | false ↦ elsewhere f f_empty n q
+        ] refl
+        ∙ sym (ap (count_of g) (at-where_name (λ q. shard_of q row.shards == n) map q))
+
+    shards_count : over_shards (sum_over f) w.state zone row ≡ total g (entries map)
+    shards_count =
+        sum_same (λ n. counted_in (sum_over f) (shard n)) (λ n. total g (entries (where_name (λ q. shard_of q row.shards == n) map)))
+        (λ n. total_in f (shard n) ∙ alike_totals f g (entries_in (shard n)) (where_name (λ q. shard_of q row.shards == n) map) (alike n))
+        (range_with_len 0 row.shards)
+        ∙ parts_of_map g (λ q. shard_of q row.shards) row.shards (within row some) map
+
+  header_objects : (o : Option Shard) → counted_in (λ s. (stats_of s).objects) o ≡ counted_in (sum_over object_count) o
+  header_objects None = refl
+  header_objects (Some s) = refl
+
+  pub objects_counted : over_shards (λ s. (stats_of s).objects) w.state zone row ≡ (counts_of (heads history zone container)).objects
+  objects_counted =
+      sum_same (λ n. counted_in (λ s. (stats_of s).objects) (shard n)) (λ n. counted_in (sum_over object_count) (shard n)) (λ n. header_objects (shard n)) (range_with_len 0 row.shards)
+      ∙ shards_count object_count live_count refl refl (λ q. counted settings history zone container q row good legal is (settled q))
+
+  pub bytes_counted : over_shards (sum_over byte_count) w.state zone row ≡ (counts_of (heads history zone container)).bytes
+  bytes_counted = shards_count byte_count live_bytes refl refl (λ q. sized settings history zone container q row good legal is (settled q))
+
+  header_bytes : (o : Option Shard) → counted_in (λ s. (stats_of s).bytes) o ≡ min (counted_in (sum_over byte_count) o) greatest
+  header_bytes None = omega arith
+  header_bytes (Some s) = refl
+
+  capped : (most : ℕ) (F : ℕ → ℕ) (ns : List ℕ) → min (sum_by (λ n. min (F n) most) ns) most ≡ min (sum_by F ns) most
+  capped most F [] = refl
+  capped most F (n ∷ ns) =
+      let rest = capped most F ns in
+      let all = sum_by-cons F n ns in
+      let cut = sum_by-cons (λ n. min (F n) most) n ns in
+      omega (arith, rest, all, cut)
+
+  pub bytes_shown : min (over_shards (λ s. (stats_of s).bytes) w.state zone row) greatest ≡ min (counts_of (heads history zone container)).bytes greatest
+  bytes_shown =
+      ap (λ sum. min sum greatest)
+      (sum_same (λ n. counted_in (λ s. (stats_of s).bytes) (shard n)) (λ n. min (counted_in (sum_over byte_count) (shard n)) greatest) (λ n. header_bytes (shard n)) (range_with_len 0 row.shards))
+      ∙ capped greatest (λ n. counted_in (sum_over byte_count) (shard n)) (range_with_len 0 row.shards)
+      ∙ ap (λ sum. min sum greatest) bytes_counted
+
+-- ---- headers without tags
+
+untagged_in : (o : Option Shard) (q : List ℕ) → counted_in (λ s. (stats_of s).tags) o ≡ 0 → is_settled (entry_in o q) ≡ true
+untagged_in None q empty = refl
+untagged_in (Some s) q empty =
+    let least = count-le-total tag_count s.entries q in
+    let found = count_found tag_count refl (at s.entries q) in
+    let zero : length (entry_in (Some s) q).tags ≡ 0 = omega (arith, least, found, empty) in
+    ap (λ k. k == 0) zero
+
+pub settled_without : (st : State) (zone : ℕ) (row : Bucket) (name : List ℕ) → 1 ≤ row.shards → over_shards (λ s. (stats_of s).tags) st zone row ≡ 0 → is_settled (entry_of_name st zone row name) ≡ true
+settled_without st zone row name some empty =
+    let ns = range_with_len 0 row.shards in
+    let i = shard_of name row.shards in
+    let F : ℕ → ℕ = λ n. counted_in (λ s. (stats_of s).tags) (st.shards zone (shard_key row.id row.instance n)) in
+    let low = within row some name in
+    let len = length-range_with_len 0 row.shards in
+    let least = get_or-le-sum_by F ns i 0 (omega (arith, low, len)) in
+    let from_zero : 0 + i ≡ i = omega arith in
+    let here = ap F (get_or-range_with_len 0 row.shards i 0 low ∙ from_zero) in
+    let zero : F i ≡ 0 = omega (arith, least, empty, here) in
+    untagged_in (st.shards zone (key_of_name row name)) name zero
