@@ -18,9 +18,9 @@ use Rattle.object_words.proofs.NameLemmas.{at-none}
 use Rattle.object_words.proofs.KeyLemmas.{number_itself}
 use Rattle.object_words.proofs.Sums.{count_of}
 use Rattle.realm_model.specs.Settings.{SettingsView, IsSettings}
-use Rattle.realm_model.specs.Containers.{row_in, entry_in, key_of_name, entry_of_name, is_settled}
+use Rattle.realm_model.specs.Containers.{entry_in, key_of_name, entry_of_name, is_settled}
 use Rattle.realm_model.specs.Counts.{live_count, live_bytes, counts_of}
-use Rattle.realm_model.specs.Histories.{world_of, state_of, Legal}
+use Rattle.realm_model.specs.Histories.{world_of, Legal}
 use Rattle.realm_model.specs.Maps.{slot_at, heads}
 use Rattle.realm_model.specs.States.{State}
 use Rattle.realm_model.specs.Worlds.{World}
@@ -29,7 +29,7 @@ use Rattle.realm_model.proofs.ObjectLemmas.{number_same}
 use Rattle.index_law.specs.Tables.{IsPlaced}
 use Rattle.index_law.proofs.Keeping.{holds}
 use Rattle.index_law.proofs.Consequences.{row_is_of, counted, sized}
-use Rattle.realm_law.specs.Totals.{counted_in, over_shards}
+use Rattle.realm_law.specs.Totals.{counted_in, over_shards, IsAtRest}
 use Rattle.realm_law.proofs.MapSums.{at-where_name, Alike, alike_totals, count-le-total, sum_same, parts_of_map}
 
 -- ---- a shard's entries as a map
@@ -68,8 +68,7 @@ within row some q = mod-lt (mixed (hash_of q % 2 ^ 32) % 7877) (omega (arith, so
 -- ---- over all shards of a row
 
 module _ (settings : SettingsView) (history : List Event) (zone container : ℕ) (row : Bucket) (good : IsSettings settings) (legal : Legal settings history)
-    (is : row_in (world_of settings history).rows (state_of settings history) zone container ≡ Some row) (some : 1 ≤ row.shards)
-    (settled : (name : List ℕ) → is_settled (entry_of_name (state_of settings history) zone row name) ≡ true) where
+    (rests : IsAtRest (world_of settings history) zone container row) where
   abbrev w : World
   w = world_of settings history
 
@@ -80,7 +79,7 @@ module _ (settings : SettingsView) (history : List Event) (zone container : ℕ)
   placed_there : (n : ℕ) (q : List ℕ) → IsPlaced w.rows.instances zone (shard_key row.id row.instance n) q → shard_of q row.shards ≡ n
   placed_there n q p =
       let j = holds settings history good legal in
-      let r = row_is_of w zone container row is in
+      let r = row_is_of w zone container row rests.row_is in
       let named = (j.rows_stand.kept zone (r.home).name row r.kept).named in
       let same : Some p.instance ≡ Some named.instance = sym p.placed ∙ named.placed in
       let one : p.instance ≡ named.instance = cc in
@@ -112,7 +111,7 @@ module _ (settings : SettingsView) (history : List Event) (zone container : ℕ)
         sum_same (λ n. counted_in (sum_over f) (shard n)) (λ n. total g (entries (where_name (λ q. shard_of q row.shards == n) map)))
         (λ n. total_in f (shard n) ∙ alike_totals f g (entries_in (shard n)) (where_name (λ q. shard_of q row.shards == n) map) (alike n))
         (range_with_len 0 row.shards)
-        ∙ parts_of_map g (λ q. shard_of q row.shards) row.shards (within row some) map
+        ∙ parts_of_map g (λ q. shard_of q row.shards) row.shards (within row rests.some) map
 
   header_objects : (o : Option Shard) → counted_in (λ s. (stats_of s).objects) o ≡ counted_in (sum_over object_count) o
   header_objects None = refl
@@ -121,10 +120,10 @@ module _ (settings : SettingsView) (history : List Event) (zone container : ℕ)
   pub objects_counted : over_shards (λ s. (stats_of s).objects) w.state zone row ≡ (counts_of (heads history zone container)).objects
   objects_counted =
       sum_same (λ n. counted_in (λ s. (stats_of s).objects) (shard n)) (λ n. counted_in (sum_over object_count) (shard n)) (λ n. header_objects (shard n)) (range_with_len 0 row.shards)
-      ∙ shards_count object_count live_count refl refl (λ q. counted settings history zone container q row good legal is (settled q))
+      ∙ shards_count object_count live_count refl refl (λ q. counted settings history zone container q row good legal rests.row_is (rests.settled q))
 
   pub bytes_counted : over_shards (sum_over byte_count) w.state zone row ≡ (counts_of (heads history zone container)).bytes
-  bytes_counted = shards_count byte_count live_bytes refl refl (λ q. sized settings history zone container q row good legal is (settled q))
+  bytes_counted = shards_count byte_count live_bytes refl refl (λ q. sized settings history zone container q row good legal rests.row_is (rests.settled q))
 
   header_bytes : (o : Option Shard) → counted_in (λ s. (stats_of s).bytes) o ≡ min (counted_in (sum_over byte_count) o) greatest
   header_bytes None = omega arith

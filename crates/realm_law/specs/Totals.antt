@@ -1,10 +1,12 @@
 -- Sums over all shards of a container's row.
-use Rattle.std.specs.Prelude.{ℕ, Option, Some, None, sum_by}
+use Rattle.std.specs.Prelude.{◌≡◌, ℕ, ◌≤◌, true, List, Option, Some, None, sum_by}
 use Rattle.std.specs.List.{range_with_len}
 use Rattle.object_words.specs.declared.bucket.Bucket.{Bucket}
 use Rattle.object_words.specs.Keys.{shard_key}
 use Rattle.object_words.specs.Shards.{Shard}
+use Rattle.realm_model.specs.Containers.{row_in, entry_of_name, is_settled}
 use Rattle.realm_model.specs.States.{State}
+use Rattle.realm_model.specs.Worlds.{World}
 
 -- what a shard counts; one that was never made counts nothing
 abbrev pub counted_in : (Shard → ℕ) → Option Shard → ℕ
@@ -15,3 +17,9 @@ counted_in f (Some s) = f s
 abbrev pub over_shards : (Shard → ℕ) → State → ℕ → Bucket → ℕ
 over_shards f st zone row =
     sum_by (λ number. counted_in f (st.shards zone (shard_key row.id row.instance number))) (range_with_len 0 row.shards)
+
+-- the container has this row in the zone, with a shard at least, and no change of its names is under way
+pub record IsAtRest (w : World) (zone container : ℕ) (row : Bucket) : Type 0 where
+  pub row_is : row_in w.rows w.state zone container ≡ Some row
+  pub some : 1 ≤ row.shards
+  pub settled : (name : List ℕ) → is_settled (entry_of_name w.state zone row name) ≡ true

@@ -1,9 +1,9 @@
 //! Laws of the definitions: the functions here do nothing.
-ghost use Rattle.std.specs.Prelude.{◌≡◌, ◌≤◌, ◌++◌, ℕ, List, true, min, Some};
+ghost use Rattle.std.specs.Prelude.{◌≡◌, ◌≤◌, ◌++◌, ℕ, List, true, min};
 ghost use Rattle.object_words.specs.declared.bucket.Bucket.{Bucket as BucketOf};
 ghost use Rattle.object_words.specs.Numbers.{greatest};
 ghost use Rattle.object_words.specs.Shards.{sum_over, byte_count, stats_of};
-ghost use Rattle.realm_model.specs.Containers.{row_in, entry_of_name, is_settled};
+ghost use Rattle.realm_model.specs.Containers.{entry_of_name, is_settled};
 ghost use Rattle.realm_model.specs.Counts.{counts_of};
 ghost use Rattle.realm_model.specs.Maps.{heads};
 ghost use Rattle.realm_model.specs.Settings.{SettingsView, IsSettings};
@@ -12,7 +12,7 @@ ghost use Rattle.realm_model.specs.Worlds.{World, start, happens};
 ghost use Rattle.realm_model.specs.Histories.{world_of, state_of, IsNext, Legal};
 ghost use Rattle.realm_model.specs.declared.event.Event.{Event as EventOf};
 ghost use Rattle.realm_law.specs.Invariant.{RealmHolds};
-ghost use Rattle.realm_law.specs.Totals.{over_shards};
+ghost use Rattle.realm_law.specs.Totals.{over_shards, IsAtRest};
 
 /// In every legal history every part of the invariant holds after every event.
 pub fn the_realm_holds()
@@ -31,28 +31,22 @@ pub fn each_event_keeps_the_realm()
 {}
 
 /// Where no name of a container has a tag, the headers of the shards of its row count together what is
-/// in its bucket map: the live names, and the sum of their sizes. A header's bytes stop at the end of 64
-/// bits; so does their sum.
+/// in its bucket map: the live names, and the sum of their sizes. What a header shows of bytes stops at
+/// the end of 64 bits, and with such headers so does their sum.
 pub fn settled_containers_count_their_maps()
     ensures objects { (settings : SettingsView) (history : List EventOf) (zone container : ℕ) (row : BucketOf)
         → IsSettings settings → Legal settings history
-        → row_in (world_of settings history).rows (state_of settings history) zone container ≡ Some row
-        → 1 ≤ row.shards
-        → ((name : List ℕ) → is_settled (entry_of_name (state_of settings history) zone row name) ≡ true)
+        → IsAtRest (world_of settings history) zone container row
         → over_shards (λ s. (stats_of s).objects) (state_of settings history) zone row
         ≡ (counts_of (heads history zone container)).objects }
     ensures bytes { (settings : SettingsView) (history : List EventOf) (zone container : ℕ) (row : BucketOf)
         → IsSettings settings → Legal settings history
-        → row_in (world_of settings history).rows (state_of settings history) zone container ≡ Some row
-        → 1 ≤ row.shards
-        → ((name : List ℕ) → is_settled (entry_of_name (state_of settings history) zone row name) ≡ true)
+        → IsAtRest (world_of settings history) zone container row
         → over_shards (sum_over byte_count) (state_of settings history) zone row
         ≡ (counts_of (heads history zone container)).bytes }
     ensures shown { (settings : SettingsView) (history : List EventOf) (zone container : ℕ) (row : BucketOf)
         → IsSettings settings → Legal settings history
-        → row_in (world_of settings history).rows (state_of settings history) zone container ≡ Some row
-        → 1 ≤ row.shards
-        → ((name : List ℕ) → is_settled (entry_of_name (state_of settings history) zone row name) ≡ true)
+        → IsAtRest (world_of settings history) zone container row
         → min (over_shards (λ s. (stats_of s).bytes) (state_of settings history) zone row) greatest
         ≡ min (counts_of (heads history zone container)).bytes greatest }
 {}
