@@ -1,9 +1,10 @@
 //! Laws of the definitions: the functions here do nothing.
-ghost use Rattle.std.specs.Prelude.{◌≡◌, ◌≤◌, ◌++◌, ℕ, List, true, min};
+ghost use Rattle.std.specs.Prelude.{◌≡◌, ◌≤◌, ◌++◌, ℕ, List, true, min, Some};
 ghost use Rattle.object_words.specs.declared.bucket.Bucket.{Bucket as BucketOf};
+ghost use Rattle.object_words.specs.Keys.{shard_key};
 ghost use Rattle.object_words.specs.Numbers.{greatest};
-ghost use Rattle.object_words.specs.Shards.{sum_over, byte_count, stats_of};
-ghost use Rattle.realm_model.specs.Containers.{entry_of_name, is_settled};
+ghost use Rattle.object_words.specs.Shards.{Shard as ShardOf, sum_over, byte_count, stats_of};
+ghost use Rattle.realm_model.specs.Containers.{row_in, entry_of_name, is_settled};
 ghost use Rattle.realm_model.specs.Counts.{counts_of};
 ghost use Rattle.realm_model.specs.Maps.{heads};
 ghost use Rattle.realm_model.specs.Settings.{SettingsView, IsSettings};
@@ -12,7 +13,7 @@ ghost use Rattle.realm_model.specs.Worlds.{World, start, happens};
 ghost use Rattle.realm_model.specs.Histories.{world_of, state_of, IsNext, Legal};
 ghost use Rattle.realm_model.specs.declared.event.Event.{Event as EventOf};
 ghost use Rattle.realm_law.specs.Invariant.{RealmHolds};
-ghost use Rattle.realm_law.specs.Totals.{over_shards, IsAtRest};
+ghost use Rattle.realm_law.specs.Totals.{over_shards, names_of_shard, IsAtRest};
 
 /// In every legal history every part of the invariant holds after every event.
 pub fn the_realm_holds()
@@ -28,6 +29,25 @@ pub fn each_event_keeps_the_realm()
     ensures events { (settings : SettingsView) (w : World) (e : EventOf)
         → IsSettings settings → RealmHolds settings w → IsNext settings w e
         → RealmHolds settings (happens settings w e) }
+{}
+
+/// A shard of a container whose header counts no tag counts what is in the bucket map under its names:
+/// the live ones, and the sum of their sizes, which stops at the end of 64 bits.
+pub fn untagged_shards_count_their_names()
+    ensures objects { (settings : SettingsView) (history : List EventOf) (zone container number : ℕ)
+        → (row : BucketOf) (shard : ShardOf) → IsSettings settings → Legal settings history
+        → row_in (world_of settings history).rows (state_of settings history) zone container ≡ Some row
+        → (state_of settings history).shards zone (shard_key row.id row.instance number) ≡ Some shard
+        → (stats_of shard).tags ≡ 0
+        → (stats_of shard).objects
+        ≡ (counts_of (names_of_shard row number (heads history zone container))).objects }
+    ensures bytes { (settings : SettingsView) (history : List EventOf) (zone container number : ℕ)
+        → (row : BucketOf) (shard : ShardOf) → IsSettings settings → Legal settings history
+        → row_in (world_of settings history).rows (state_of settings history) zone container ≡ Some row
+        → (state_of settings history).shards zone (shard_key row.id row.instance number) ≡ Some shard
+        → (stats_of shard).tags ≡ 0
+        → (stats_of shard).bytes
+        ≡ min (counts_of (names_of_shard row number (heads history zone container))).bytes greatest }
 {}
 
 /// Where no name of a container has a tag, the headers of the shards of its row count together what is

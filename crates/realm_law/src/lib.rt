@@ -6,5 +6,5 @@ mod laws;
 
 pub use laws::{
     counts_without_tags_are_of_settled_names, each_event_keeps_the_realm,
-    settled_containers_count_their_maps, the_realm_holds,
+    settled_containers_count_their_maps, the_realm_holds, untagged_shards_count_their_names,
 };
