@@ -15,8 +15,11 @@ use Rattle.task_words.specs.declared.command.GetCommand.{GetCommand}
 use Rattle.task_words.specs.declared.command.PutCommand.{PutCommand}
 use Rattle.task_words.specs.declared.reply.MapReply.{MapReply}
 use Rattle.task_words.specs.declared.reply.MapReply.TheVariants.{Shown}
+use Rattle.task_words.specs.declared.command.BodyEnd.TheVariants.{Whole}
 use Rattle.task_words.specs.declared.span.Span.{Span}
+use Rattle.task_words.specs.declared.span.Span.TheVariants.{Between}
 use Rattle.task_words.specs.Answers.{Answer}
+use Rattle.task_words.specs.Outcomes.{Body}
 
 -- the ETag of the letters a to z (RFC 1321, appendix 5)
 abbrev pub etag_text : List ℕ
@@ -75,3 +78,17 @@ own_row = bucket 3 3 1
 -- a row that another account owns
 abbrev pub other_row : Bucket
 other_row = record own_row { owner = codes "beta" }
+
+-- ---- ends of tasks in known histories
+
+-- a GET of the object k in zone 1
+abbrev pub gets_letters : GetCommand
+gets_letters = asks true always (Some (Between 19 22))
+
+-- a PUT of an object in zone 1 that was read whole
+abbrev pub put_whole : List ℕ → Body
+put_whole bytes = record { bytes = bytes; end = Some Whole }
+
+-- a PUT of which the first bytes came
+abbrev pub put_so_far : List ℕ → Body
+put_so_far bytes = record { bytes = bytes; end = None }

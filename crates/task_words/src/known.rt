@@ -12,7 +12,14 @@ ghost use Rattle.task_words.specs.declared.span.Span.TheVariants.{Between, From,
 ghost use Rattle.task_words.specs.Answers.{answered, get_answer, put_answer, is_other_etag};
 ghost use Rattle.task_words.specs.Rows.{row_refusal};
 ghost use Rattle.task_words.specs.Spans.{is_partial};
+ghost use Rattle.task_words.specs.Outcomes.{IsGetOutcome, IsPutOutcome};
 ghost use Rattle.task_words.specs.KnownAnswers as known;
+ghost use Rattle.task_words.specs.declared.outcome.Outcome.TheVariants.{Done, Busy, MovedOften, LateTag, NoSpace};
+ghost use Rattle.realm_model.specs.Histories.{account_of};
+ghost use Rattle.realm_model.specs.KnownWords as words;
+ghost use Rattle.realm_model.specs.TailsAreRead as tails;
+ghost use Rattle.realm_model.specs.NoSpace as no_space;
+ghost use Rattle.realm_model.specs.ExpiredTagIsPreparedAgain as expired;
 
 /// Ranges of the letters a to z, and of an object without bytes.
 pub fn ranges_are_answered_so()
@@ -94,4 +101,25 @@ pub fn rows_are_refused_so()
     ensures denied_read { row_refusal (known.asker (Some known.bob)) (Some known.own_row) ReadThing ≡ Some (refusals.Denied Read) }
     ensures absent_first { row_refusal (known.asker (Some known.bob)) None ChangeThing ≡ Some refusals.NoContainer }
     ensures public { row_refusal (known.asker None) (Some (record known.own_row { readers = codes ".r:*" })) ReadThing ≡ None }
+{}
+
+/// What known histories make of their actors: one read a range of the letters a to z, one met another
+/// object where it wanted none, and one found no frame for the head of its object.
+#[tactic(auto, unfolding(object_words::specs::Names::at, object_words::specs::Names::none, object_words::specs::Names::with_name))]
+pub fn known_actors_ended_so()
+    ensures shown { IsGetOutcome 1 (known.asker (Some standard_user)) known.gets_letters
+        (Done (Shown words.plain [] known.etag (words.stamp 0) 26 19 4))
+        (account_of (words.small 16) tails.history (words.actor 3)) }
+    ensures not_met { IsPutOutcome 1 (known.asker (Some standard_user)) (known.stores (record known.always { none = Some Any }))
+        (known.put_whole known.letters.bytes) (Done (Refused refusals.NotMet))
+        (account_of (words.small 16) tails.history (words.actor 4)) }
+    ensures no_space { IsPutOutcome 1 (known.asker (Some standard_user)) (known.stores known.always)
+        (known.put_whole known.letters.bytes) (NoSpace 0 1)
+        (account_of (words.small 1) no_space.at_the_head (words.actor 2)) }
+    ensures not_busy { (id : ℕ) → ¬ (IsPutOutcome 1 (known.asker (Some standard_user)) (known.stores known.always)
+        (known.put_whole known.letters.bytes) (Busy id)
+        (account_of (words.small 1) no_space.at_the_head (words.actor 2))) }
+    ensures late_once { ¬ (IsPutOutcome 1 (known.asker (Some standard_user)) (known.stores known.always)
+        (known.put_whole (codes "hello")) LateTag
+        (account_of words.usual expired.history (words.actor 2))) }
 {}
