@@ -1,10 +1,11 @@
 -- What the end of a task means: it says which of the actor's own events, and which answers to them, it rests on. A reply on
 -- an object is the answer of the bucket map at the event that decides; every other end has its cause. Each end reads the
--- account of the task's actor alone.
-use Rattle.std.specs.Prelude.{◌≡◌, ◌≤◌, ◌⊎◌, ℕ, true, false, List, Option, Some, None}
+-- account of the task's actor, and the list of its own events, alone.
+use Rattle.std.specs.Prelude.{◌≡◌, ◌≤◌, ◌⊎◌, ℕ, true, false, List, length, filter, Option, Some, None}
 use Rattle.rgw_model.specs.declared.slot.Slot.{Slot}
 use Rattle.object_words.specs.declared.bucket.Bucket.{Bucket}
-use Rattle.realm_model.specs.Accounts.{Looked, Decided, HoldMet, SpaceWanted, Account}
+use Rattle.realm_model.specs.Accounts.{Looked, Decided, HoldMet, SpaceWanted, Account, is_left}
+use Rattle.realm_model.specs.Owns.{OwnEvent}
 use Rattle.swift_auth.specs.declared.policy.Deed.{Deed}
 use Rattle.swift_auth.specs.declared.policy.Deed.TheVariants.{ChangeThing}
 use Rattle.task_words.specs.declared.asker.Asker.{Asker}
@@ -130,36 +131,41 @@ pub record IsOther (c : PutCommand) (body : Body) : Type 0 where
   pub whole : body.end ≡ Some Whole
   pub wrong : is_other_etag c.etag body.bytes ≡ true
 
+-- how many own events were answered Moved or Closed, on whichever shard; the account counts those alone whose shard an own
+-- read had named since the one before
+abbrev pub left_count : List OwnEvent → ℕ
+left_count events = length (filter (λ e. is_left e.reply) events)
+
 -- the one own change of a head was made, and then completed, or so many events were answered Moved or Closed
-pub record IsChanged (y : Account) : Type 0 where
+pub record IsChanged (y : Account) (events : List OwnEvent) : Type 0 where
   pub changed : y.changes ≡ 1
-  pub completed : (1 ≤ y.completes) ⊎ (y.moved.count ≡ most_moved)
+  pub completed : (1 ≤ y.completes) ⊎ (left_count events ≡ most_moved)
 
 -- the last own bucket read grants the PUT, and no head was changed
 abbrev pub IsUnchanged : ℕ → Asker → PutCommand → Account → Type 0
 IsUnchanged zone asker c y = Granted zone asker c.container ChangeThing y
 
 -- what a reply to a PUT rests on
-abbrev pub IsPutReply : ℕ → Asker → PutCommand → Body → MapReply → Account → Type 0
-IsPutReply zone asker c body (Stored etag stamp) y =
-    IsTaken c body × ByMap zone asker (put c body.bytes) (Stored etag stamp) y.decided × IsChanged y
-IsPutReply zone asker c body (Refused NotMet) y =
+abbrev pub IsPutReply : ℕ → Asker → PutCommand → Body → MapReply → Account → List OwnEvent → Type 0
+IsPutReply zone asker c body (Stored etag stamp) y events =
+    IsTaken c body × ByMap zone asker (put c body.bytes) (Stored etag stamp) y.decided × IsChanged y events
+IsPutReply zone asker c body (Refused NotMet) y events =
     IsTaken c body × ByMap zone asker (put c body.bytes) (Refused NotMet) y.decided × (y.changes ≡ 0)
-IsPutReply zone asker c body (Refused OtherEtag) y =
+IsPutReply zone asker c body (Refused OtherEtag) y events =
     IsOther c body × IsUnchanged zone asker c y × (y.decided ≡ None)
-IsPutReply zone asker c body (Refused Unauthorized) y = ByRow zone asker c.container ChangeThing Unauthorized y
-IsPutReply zone asker c body (Refused (Denied rule)) y = ByRow zone asker c.container ChangeThing (Denied rule) y
-IsPutReply zone asker c body (Refused NoContainer) y = ByRow zone asker c.container ChangeThing NoContainer y
-IsPutReply zone asker c body reply y = ⊥
+IsPutReply zone asker c body (Refused Unauthorized) y events = ByRow zone asker c.container ChangeThing Unauthorized y
+IsPutReply zone asker c body (Refused (Denied rule)) y events = ByRow zone asker c.container ChangeThing (Denied rule) y
+IsPutReply zone asker c body (Refused NoContainer) y events = ByRow zone asker c.container ChangeThing NoContainer y
+IsPutReply zone asker c body reply y events = ⊥
 
 -- the end of the task of a PUT
-abbrev pub IsPutOutcome : ℕ → Asker → PutCommand → Body → Outcome → Account → Type 0
-IsPutOutcome zone asker c body (Done reply) y = IsPutReply zone asker c body reply y
-IsPutOutcome zone asker c body BodyFailed y =
+abbrev pub IsPutOutcome : ℕ → Asker → PutCommand → Body → Outcome → Account → List OwnEvent → Type 0
+IsPutOutcome zone asker c body (Done reply) y events = IsPutReply zone asker c body reply y events
+IsPutOutcome zone asker c body BodyFailed y events =
     (body.end ≡ Some Failed) × IsUnchanged zone asker c y × (y.decided ≡ None)
-IsPutOutcome zone asker c body (Busy id) y = IsUnchanged zone asker c y × MetHold id y.held
-IsPutOutcome zone asker c body MovedOften y = IsUnchanged zone asker c y × (y.moved.count ≡ most_moved)
-IsPutOutcome zone asker c body LateTag y = IsUnchanged zone asker c y × (y.expired.count ≡ most_expired)
-IsPutOutcome zone asker c body (NoSpace free needed) y =
+IsPutOutcome zone asker c body (Busy id) y events = IsUnchanged zone asker c y × MetHold id y.held
+IsPutOutcome zone asker c body MovedOften y events = IsUnchanged zone asker c y × (y.moved.count ≡ most_moved)
+IsPutOutcome zone asker c body LateTag y events = IsUnchanged zone asker c y × (y.expired.count ≡ most_expired)
+IsPutOutcome zone asker c body (NoSpace free needed) y events =
     IsUnchanged zone asker c y × WantedSpace free needed y.wanted
-IsPutOutcome zone asker c body outcome y = ⊥
+IsPutOutcome zone asker c body outcome y events = ⊥

@@ -16,6 +16,7 @@ ghost use Rattle.task_words.specs.Outcomes.{IsGetOutcome, IsPutOutcome};
 ghost use Rattle.task_words.specs.KnownAnswers as known;
 ghost use Rattle.task_words.specs.declared.outcome.Outcome.TheVariants.{Done, Busy, MovedOften, LateTag, NoSpace};
 ghost use Rattle.realm_model.specs.Histories.{account_of};
+ghost use Rattle.realm_model.specs.Owns.{own_events};
 ghost use Rattle.realm_model.specs.KnownWords as words;
 ghost use Rattle.realm_model.specs.TailsAreRead as tails;
 ghost use Rattle.realm_model.specs.NoSpace as no_space;
@@ -112,14 +113,14 @@ pub fn known_actors_ended_so()
         (account_of (words.small 16) tails.history (words.actor 3)) }
     ensures not_met { IsPutOutcome 1 (known.asker (Some standard_user)) (known.stores (record known.always { none = Some Any }))
         (known.put_whole known.letters.bytes) (Done (Refused refusals.NotMet))
-        (account_of (words.small 16) tails.history (words.actor 4)) }
+        (account_of (words.small 16) tails.history (words.actor 4)) (own_events tails.history (words.actor 4)) }
     ensures no_space { IsPutOutcome 1 (known.asker (Some standard_user)) (known.stores known.always)
         (known.put_whole known.letters.bytes) (NoSpace 0 1)
-        (account_of (words.small 1) no_space.at_the_head (words.actor 2)) }
+        (account_of (words.small 1) no_space.at_the_head (words.actor 2)) (own_events no_space.at_the_head (words.actor 2)) }
     ensures not_busy { (id : ℕ) → ¬ (IsPutOutcome 1 (known.asker (Some standard_user)) (known.stores known.always)
         (known.put_whole known.letters.bytes) (Busy id)
-        (account_of (words.small 1) no_space.at_the_head (words.actor 2))) }
+        (account_of (words.small 1) no_space.at_the_head (words.actor 2)) (own_events no_space.at_the_head (words.actor 2))) }
     ensures late_once { ¬ (IsPutOutcome 1 (known.asker (Some standard_user)) (known.stores known.always)
         (known.put_whole (codes "hello")) LateTag
-        (account_of words.usual expired.history (words.actor 2))) }
+        (account_of words.usual expired.history (words.actor 2)) (own_events expired.history (words.actor 2))) }
 {}

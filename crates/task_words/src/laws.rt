@@ -3,7 +3,7 @@ ghost use Rattle.std.specs.Prelude.{ℕ, List, ◌++◌};
 ghost use Rattle.realm_model.specs.Settings.{SettingsView};
 ghost use Rattle.realm_model.specs.Phases.{ActorId};
 ghost use Rattle.realm_model.specs.Histories.{account_of};
-ghost use Rattle.realm_model.specs.Owns.{NoneBy};
+ghost use Rattle.realm_model.specs.Owns.{own_events, NoneBy};
 ghost use Rattle.realm_model.specs.declared.event.Event.{Event as EventOf};
 ghost use Rattle.task_words.specs.declared.asker.Asker.{Asker as AskerOf};
 ghost use Rattle.task_words.specs.declared.command.GetCommand.{GetCommand as GetCommandOf};
@@ -19,6 +19,6 @@ pub fn outcomes_stay()
         → IsGetOutcome zone asker c outcome (account_of settings (history ++ between) actor) }
     ensures put { (settings : SettingsView) (history between : List EventOf) (actor : ActorId)
         → NoneBy actor between → (zone : ℕ) (asker : AskerOf) (c : PutCommandOf) (body : Body) (outcome : OutcomeOf)
-        → IsPutOutcome zone asker c body outcome (account_of settings history actor)
-        → IsPutOutcome zone asker c body outcome (account_of settings (history ++ between) actor) }
+        → IsPutOutcome zone asker c body outcome (account_of settings history actor) (own_events history actor)
+        → IsPutOutcome zone asker c body outcome (account_of settings (history ++ between) actor) (own_events (history ++ between) actor) }
 {}
