@@ -1,0 +1,3 @@
+pub mod Realms
+pub mod Answers
+pub mod Minding
