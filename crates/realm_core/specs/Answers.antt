@@ -1,5 +1,5 @@
 -- What a realm answers, and the event that it notes.
-use Rattle.std.specs.Prelude.{◌≡◌, ℕ, ◌^◌, ◌<◌, Bool, true, List, length, Option, Some, None, Result, MatchResult, if◌then◌else◌}
+use Rattle.std.specs.Prelude.{◌≡◌, ℕ, ◌^◌, ◌<◌, Bool, true, List, length, Result, MatchResult, if◌then◌else◌}
 use Rattle.object_pool.specs.Objects.{PoolView}
 use Rattle.omap_pages.specs.declared.error.OutOfMemory.{OutOfMemory as OutOf}
 use Rattle.object_words.specs.declared.why.Why.TheVariants.{Absent}
@@ -17,7 +17,8 @@ use Rattle.realm_model.specs.declared.event.Reply.{Reply}
 use Rattle.realm_model.specs.declared.event.Reply.TheVariants.{No}
 use Rattle.realm_model.specs.declared.op.Op.{Op}
 use Rattle.realm_core.specs.Realms.{HasZones}
-use Rattle.realm_core.specs.declared.answered.Answered.{Answered}
+use Rattle.realm_door.specs.Steps.{back_of}
+use Rattle.realm_door.specs.declared.door.Answered.{Answered}
 use Rattle.zone_core.specs.Bounds.{AreSmallBy}
 
 -- the zone is one of the realm's
@@ -52,11 +53,6 @@ event_of actor op moment reply = record { pass = actor.pass; count = actor.count
 -- who that is
 abbrev pub id_of : Actor → ActorId
 id_of actor = record { pass = actor.pass; count = actor.count }
-
--- the operation, where it was refused
-abbrev pub back_of : Op → Reply → Option Op
-back_of op (No why) = Some op
-back_of op reply = None
 
 -- an answer tells the number of its event, which is the last of the history, and the clock at it; it hands the operation back
 -- where that was refused; and from then on the actor has made an event

@@ -1,14 +1,14 @@
 //! A realm: the objects of its zones, with the one history of all that was done to them.
 #![tactic(auto)]
 
-mod answered;
 mod machine;
 mod realm;
+mod solo;
 mod zones;
 
-pub use answered::Answered;
 pub use object_pool::OutOfMemory;
 pub use realm::Realm;
+pub use solo::SoloDoor;
 
 #[cfg(test)]
 mod tests;

@@ -1,6 +1,9 @@
-use crate::answered::{Answered, hand_back};
+ghost use Rattle.std.specs.Prelude.{◌≡◌};
+ghost use Rattle.realm_door.specs.Steps.{back_of};
+
 use crate::realm::Realm;
-use realm_model::{Actor, Event, Op, Settings};
+use realm_door::Answered;
+use realm_model::{Actor, Event, Op, Reply, Settings};
 use std::alloc::Global;
 use turn_cell::{DoorFault, Machine, Stopped};
 
@@ -71,4 +74,14 @@ impl Machine for Realm {
     ghost by_actor = { λ a op moment answer. refl };
 
     ghost others = { λ settings log between a op. others_change_nothing settings log between a op };
+}
+
+// The operation, where it was refused.
+fn hand_back(op: Op, reply: &Reply) -> Option<Op>
+    ensures { result ≡ back_of op reply.now }
+{
+    match reply {
+        Reply::No(_why) => Some(op),
+        _ => None,
+    }
 }

@@ -1,16 +1,17 @@
 ghost use Rattle.std.specs.Prelude.{◌≤◌};
 
-use crate::{Answered, Realm};
+use crate::Realm;
 use object_words::{
     Bucket, BucketName, Changed, Conditions, Guard, MediaType, NewHead, ObjectName, ShardCount,
-    ShardKey, ShardStats, Why,
+    ShardKey, Why,
 };
+use realm_door::Answered;
 use realm_model::{Actor, Op, Reply, Settings};
 use rgw_types::{Bytes, Manifest, Pairs, Text};
 use std::alloc::Global;
 use std::process::Abort;
 use std::test::Fail;
-use turn_cell::{DoorFault, Machine};
+use turn_cell::Machine;
 
 /// MD5 of "hello", and of no bytes (RFC 1321).
 const HELLO: [u8; 16] = [
@@ -149,7 +150,7 @@ fn prepared<R: Abort>(
 {
     let reply = step(rt, alloc, realm, writer, reads(alloc)?, number)?;
     let Reply::Row(row) = reply else {
-        return Err(Fail::from("no row"));
+        return Err("no row".into());
     };
     assert_eq!(rt; (row.id, row.version, row.shared), (1, 3, 3));
     let prepare = Op::Prepare {
@@ -159,7 +160,7 @@ fn prepared<R: Abort>(
     };
     match step(rt, alloc, realm, writer, prepare, number + 1)? {
         Reply::Prepared(guard) => Ok(guard),
-        _ => Err(Fail::from("no tag")),
+        _ => Err("no tag".into()),
     }
 }
 
@@ -185,7 +186,7 @@ fn changed<R: Abort>(
     };
     let reply = step(rt, alloc, realm, writer, announce, number)?;
     let Reply::Position(told) = reply else {
-        return Err(Fail::from("no position"));
+        return Err("no position".into());
     };
     assert_eq!(rt; told, position);
     let write = Op::HeadWrite {
@@ -203,7 +204,7 @@ fn changed<R: Abort>(
     };
     match step(rt, alloc, realm, writer, write, number + 1)? {
         Reply::Changed(changed) => Ok(changed),
-        _ => Err(Fail::from("no change")),
+        _ => Err("no change".into()),
     }
 }
 
@@ -266,7 +267,7 @@ fn the_older_completion_loses(rt: HostRuntime) -> Result<(), Fail> {
     };
     let reply = step(&rt, alloc, &mut realm, &mut reader, stats, 15)?;
     let Reply::Stats(told) = reply else {
-        return Err(Fail::from("no header"));
+        return Err("no header".into());
     };
     assert_eq!(rt; (told.objects, told.bytes, told.tags, told.fence), (1, 0, 0, 0));
     Ok(())
