@@ -51,6 +51,10 @@ IsUnused settings d none = (count : ℕ) → next_count d ≤ count → doings_o
 abbrev pub event_at : DoorView → Op → ℕ → Reply → Event
 event_at d op moment reply = record { pass = d.pass; count = d.count; op = op; moment = moment; reply = reply }
 
+-- the present actor made events, and the history is this one
+abbrev pub view_after : DoorView → List Event → DoorView
+view_after d history = record { pass = d.pass; count = d.count; used = true; seen = history }
+
 -- an operation that was refused comes back
 abbrev pub back_of : Op → Reply → Option Op
 back_of op (No why) = Some op

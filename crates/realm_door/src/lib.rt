@@ -3,7 +3,11 @@
 #![tactic(auto)]
 
 mod door;
+mod laws;
 mod task;
 
 pub use door::{Answered, Door};
+pub use laws::{
+    actors_stay_counted, growth_adds_up, others_change_no_doings, own_events_extend_what_is_told,
+};
 pub use task::{Task, TaskTurn};
