@@ -35,6 +35,8 @@ impl<'a> Door for SoloDoor<'a> {
 
     ghost tells = { Unit {0} };
 
+    ghost alone = { Unit {0} };
+
     ghost told = { λ d. door_of d.realm.now d.actor.now };
 
     ghost found = { λ d. d.realm.now.history };
