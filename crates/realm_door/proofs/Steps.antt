@@ -8,18 +8,22 @@ use Rattle.realm_model.specs.Steps.{reply_of, touch_of}
 use Rattle.realm_model.specs.Maps.{Maps, slot_at, heads}
 use Rattle.realm_model.specs.Worlds.{start, actor_of}
 use Rattle.realm_model.specs.Histories.{Doings, world_of, state_of, doings_of, done, answer_after, Legal}
-use Rattle.realm_model.specs.Doors.{DoorView, mine, NoneByPass}
+use Rattle.realm_model.specs.Owns.{clock_after, own_events}
+use Rattle.realm_model.specs.Doors.{DoorView, actor_at, mine, NoneByPass}
 use Rattle.realm_model.specs.declared.op.Op.{Op}
 use Rattle.realm_model.specs.declared.op.Op.TheVariants.{HeadRead}
 use Rattle.realm_model.specs.declared.event.Reply.{Reply}
 use Rattle.realm_model.specs.declared.event.Event.{Event}
-use Rattle.realm_model.proofs.Runs.{last_is_next, legal_front, count_from, state-next, touched-clock}
+use Rattle.realm_model.proofs.Runs.{last_is_next, legal_front, count_from, clock_from, state-next, touched-clock}
 use Rattle.realm_model.proofs.Agreeing.{heads_agree}
 use Rattle.realm_model.proofs.Doing.{doings-next}
 use Rattle.realm_model.proofs.Minding.{mine-next}
 use Rattle.realm_door.specs.declared.door.Answered.{Answered}
-use Rattle.realm_door.specs.Steps.{doings_at, actor_of_pass, next_count, IsCounted, begun, event_at, Shows, view_after, IsLater, Grows, Extends}
-use Rattle.realm_door.proofs.Others.{doings-other_pass, doings-other_count}
+use Rattle.realm_door.specs.Steps.{doings_at, actor_of_pass, next_count, IsCounted, begun, event_at, Shows, view_after, own_event, IsSame, IsLater, Grows, Extends}
+use Rattle.realm_door.specs.Turns.{Turned}
+use Rattle.realm_door.specs.declared.task.TaskTurn.{TaskTurn}
+use Rattle.realm_door.specs.declared.task.TaskTurn.TheVariants.{More, Wants, Gives, Done}
+use Rattle.realm_door.proofs.Others.{same_both, same_other_pass, same_other_count, events-next}
 
 -- a read of a head shows what the bucket map has, which is what the head has
 shows : (st : State) (settings : SettingsView) (maps : Maps) (op : Op) → ((zone container : ℕ) (name : List ℕ) → slot_at (maps zone container) name ≡ (st.heads zone (head_key container name)).slot) → Shows maps op (reply_of settings st op)
@@ -63,8 +67,9 @@ grows_by settings d between op moment reply others room =
       more = between ++ e ∷ [];
       grows = append_assoc d.seen between (e ∷ []);
       rest = λ count apart.
-          doings-other_count settings (d.seen ++ between) e d.pass count refl apart
-          ∙ doings-other_pass settings d.seen between d.pass count others;
+          same_both settings d.seen (d.seen ++ between) ((d.seen ++ between) ++ e ∷ []) (actor_of_pass d.pass count)
+          (same_other_pass settings d.seen between d.pass count others)
+          (same_other_count settings (d.seen ++ between) e d.pass count refl apart);
     }
 
 extends_at : (settings : SettingsView) (d : DoorView) (between : List Event) (op : Op) (moment : ℕ) (a : Answered) → NoneByPass d.pass between → Legal settings ((d.seen ++ between) ++ event_at d op moment a.reply ∷ []) → a.number ≡ length ((d.seen ++ between) ++ event_at d op moment a.reply ∷ []) → a.clock ≡ (state_of settings ((d.seen ++ between) ++ event_at d op moment a.reply ∷ [])).clock → a.number ≤ 2 ^ 62
@@ -76,6 +81,9 @@ extends_at settings d between op moment a others legal is_number is_clock room =
     let front : Legal settings found = legal_front settings (start settings) found (e ∷ []) legal in
     let agree : Shows (heads found) op (answer_after settings found op moment) =
     shows (at_moment (state_of settings found) moment) settings (heads found) op (heads_agree settings found front) in
+    let same = same_other_pass settings d.seen between d.pass d.count others in
+    let timed : clock_at (clock_after 0 found) moment ≡ a.clock =
+    ap (λ c. clock_at c moment) (sym (clock_from settings (start settings) found)) ∙ clock settings found e ∙ sym is_clock in
     let counted : a.number ≡ length found + 1 = is_number ∙ length-append found (e ∷ []) in
     record {
       between = between;
@@ -86,7 +94,11 @@ extends_at settings d between op moment a others legal is_number is_clock room =
       clock = is_clock;
       legal = legal;
       grows = grows_by settings d between op moment a.reply others (subst (λ n. n ≤ 2 ^ 62) is_number room);
-      own = own settings found e (doings_at settings d) a.number a.clock (doings-other_pass settings d.seen between d.pass d.count others) is_number is_clock;
+      events = events-next found e
+          ∙ ap (λ es. es ++ own_event op (record a { number = length found + 1; clock = clock_at (clock_after 0 found) moment }) ∷ []) same.events
+          ∙ ap (λ n. own_events d.seen (actor_at d) ++ own_event op (record a { number = n; clock = clock_at (clock_after 0 found) moment }) ∷ []) (sym counted)
+          ∙ ap (λ c. own_events d.seen (actor_at d) ++ own_event op (record a { clock = c }) ∷ []) timed;
+      own = own settings found e (doings_at settings d) a.number a.clock same.doings is_number is_clock;
       numbers = mine-next d.pass d.seen between e others refl ∙ ap (λ n. mine d.pass d.seen ++ n ∷ []) (sym counted);
       shows = subst (λ r. Shows (heads found) op r) (sym answer) agree;
     }
@@ -103,7 +115,7 @@ extends settings d between log op moment a others ends legal is_number is_clock 
 -- ---- several steps
 
 pub grows_none : (settings : SettingsView) (d : DoorView) → Grows settings d d
-grows_none settings d = record { pass = refl; count = refl; later = inr refl; more = []; grows = sym (append-nil d.seen); rest = λ count apart. refl }
+grows_none settings d = record { pass = refl; count = refl; later = inr refl; more = []; grows = sym (append-nil d.seen); rest = λ count apart. record { events = refl; doings = refl } }
 
 later_both : (d e f : DoorView) → IsLater d e ⊎ (e ≡ d) → IsLater e f ⊎ (f ≡ e) → IsLater d f ⊎ (f ≡ d)
 later_both d e f one two =
@@ -124,8 +136,9 @@ grows_both settings d e f a b = record {
   more = a.more ++ b.more;
   grows = b.grows ∙ (ap (λ l. l ++ b.more) a.grows ∙ append_assoc d.seen a.more b.more);
   rest = λ count apart.
-      let Same : ℕ → Type 0 = λ pass. doings_of settings f.seen (actor_of_pass pass count) ≡ doings_of settings e.seen (actor_of_pass pass count) in
-      subst Same a.pass (b.rest count (λ same. apart (same ∙ a.count))) ∙ a.rest count apart;
+      let Same : ℕ → Type 0 = λ pass. IsSame settings e.seen f.seen (actor_of_pass pass count) in
+      same_both settings d.seen e.seen f.seen (actor_of_pass d.pass count) (a.rest count apart)
+      (subst Same a.pass (b.rest count (λ same. apart (same ∙ a.count))));
 }
 
 -- ---- the count of actors
@@ -149,3 +162,17 @@ counted_grown settings d e g counted =
     let next : next_count e ≡ e.count + 1 = rw later.used refl in
     record { few = omega (arith, few, longer', least, same, next); room = later.room })
     (λ same. subst IsCounted (sym same) counted) g.later
+
+-- ---- turns
+
+pub turned_grows : (settings : SettingsView) (turn : TaskTurn) (moment : ℕ) (d e : DoorView) → Turned settings turn moment d e → Grows settings d e
+turned_grows settings More moment d e made = made.extends.grows
+turned_grows settings Gives moment d e made = made.extends.grows
+turned_grows settings Wants moment d e same = subst (λ x. Grows settings d x) (sym same) (grows_none settings d)
+turned_grows settings Done moment d e same = subst (λ x. Grows settings d x) (sym same) (grows_none settings d)
+
+-- a turn more, at settings that are the same
+pub grows_by_turn : (settings now : SettingsView) (turn : TaskTurn) (moment : ℕ) (d e f : DoorView) → now ≡ settings → Grows settings d e → Turned now turn moment e f → Grows settings d f
+grows_by_turn settings now turn moment d e f same grown turned =
+    let last : Turned settings turn moment e f = subst (λ s. Turned s turn moment e f) same turned in
+    grows_both settings d e f grown (turned_grows settings turn moment e f last)

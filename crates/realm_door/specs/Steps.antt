@@ -6,6 +6,7 @@ use Rattle.realm_model.specs.Phases.{ActorId}
 use Rattle.realm_model.specs.Allowed.{allowed}
 use Rattle.realm_model.specs.Maps.{Maps, Made, slot_at, heads}
 use Rattle.realm_model.specs.Histories.{Doings, world_of, state_of, phase_of, doings_of, done, answer_after, Legal}
+use Rattle.realm_model.specs.Owns.{OwnEvent, own_events}
 use Rattle.realm_model.specs.Doors.{DoorView, actor_at, mine, NoneByPass}
 use Rattle.realm_model.specs.declared.op.Op.{Op}
 use Rattle.realm_model.specs.declared.op.Op.TheVariants.{HeadRead}
@@ -42,8 +43,8 @@ pub record IsCounted (d : DoorView) : Type 0 where
   pub room : length d.seen ≤ 2 ^ 62
 
 -- neither the next actor of the pass nor a later one made an event
-abbrev pub IsUnused : SettingsView → DoorView → Doings → Type 0
-IsUnused settings d none = (count : ℕ) → next_count d ≤ count → doings_of settings d.seen (actor_of_pass d.pass count) ≡ none
+abbrev pub IsUnused : DoorView → Type 0
+IsUnused d = (count : ℕ) → next_count d ≤ count → own_events d.seen (actor_of_pass d.pass count) ≡ []
 
 -- ---- steps
 
@@ -54,6 +55,10 @@ event_at d op moment reply = record { pass = d.pass; count = d.count; op = op; m
 -- the present actor made events, and the history is this one
 abbrev pub view_after : DoorView → List Event → DoorView
 view_after d history = record { pass = d.pass; count = d.count; used = true; seen = history }
+
+-- the event, as its actor's own
+abbrev pub own_event : Op → Answered → OwnEvent
+own_event op a = record { op = op; reply = a.reply; number = a.number; clock = a.clock }
 
 -- an operation that was refused comes back
 abbrev pub back_of : Op → Reply → Option Op
@@ -71,6 +76,11 @@ pub record IsLater (d e : DoorView) : Type 0 where
   pub longer : length d.seen < length e.seen
   pub room : length e.seen ≤ 2 ^ 62
 
+-- what both histories say of the actor is the same: the events that it made, and what they came to
+pub record IsSame (settings : SettingsView) (history later : List Event) (actor : ActorId) : Type 0 where
+  pub events : own_events later actor ≡ own_events history actor
+  pub doings : doings_of settings later actor ≡ doings_of settings history actor
+
 -- the same actor, whose history grew; what the other actors of the pass did is as it was
 pub record Grows (settings : SettingsView) (d e : DoorView) : Type 0 where
   pub pass : e.pass ≡ d.pass
@@ -78,7 +88,7 @@ pub record Grows (settings : SettingsView) (d e : DoorView) : Type 0 where
   pub later : IsLater d e ⊎ (e ≡ d)
   pub more : List Event
   pub grows : e.seen ≡ d.seen ++ more
-  pub rest : (count : ℕ) → count ≢ d.count → doings_of settings e.seen (actor_of_pass d.pass count) ≡ doings_of settings d.seen (actor_of_pass d.pass count)
+  pub rest : (count : ℕ) → count ≢ d.count → IsSame settings d.seen e.seen (actor_of_pass d.pass count)
 
 -- events of others may come, none by the pass, and then the present actor's event with the step's answer, which ends the
 -- history. Its number is the history's length
@@ -91,6 +101,7 @@ pub record Extends (settings : SettingsView) (d : DoorView) (op : Op) (moment : 
   pub clock : a.clock ≡ (state_of settings e.seen).clock
   pub legal : Legal settings e.seen
   pub grows : Grows settings d e
+  pub events : own_events e.seen (actor_at d) ≡ own_events d.seen (actor_at d) ++ own_event op a ∷ []
   pub own : doings_at settings e ≡ done (doings_at settings d) (heads (d.seen ++ between)) (world_of settings (d.seen ++ between)).stripes.made op a.reply a.number a.clock
   pub numbers : mine d.pass e.seen ≡ mine d.pass d.seen ++ a.number ∷ []
   pub shows : Shows (heads (d.seen ++ between)) op a.reply

@@ -2,13 +2,13 @@
 ghost use Rattle.std.specs.Prelude.{◌≡◌, ℕ, ◌≤◌, ◌^◌, List, ◌++◌, ◌∷◌, [], length};
 ghost use Rattle.realm_model.specs.Settings.{SettingsView};
 ghost use Rattle.realm_model.specs.Phases.{ActorId};
-ghost use Rattle.realm_model.specs.Histories.{doings_of, state_of, Legal};
+ghost use Rattle.realm_model.specs.Histories.{state_of, Legal};
 ghost use Rattle.realm_model.specs.Owns.{NoneBy};
 ghost use Rattle.realm_model.specs.Doors.{DoorView, NoneByPass};
 ghost use Rattle.realm_model.specs.declared.event.Event.{Event as EventOf};
 ghost use Rattle.realm_model.specs.declared.op.Op.{Op as OpOf};
 ghost use Rattle.realm_door.specs.declared.door.Answered.{Answered as AnsweredOf};
-ghost use Rattle.realm_door.specs.Steps.{IsCounted, begun, event_at, view_after, Grows, Extends};
+ghost use Rattle.realm_door.specs.Steps.{IsCounted, begun, event_at, view_after, IsSame, Grows, Extends};
 
 /// An own event that ends a legal history extends what is told, whatever the door.
 pub fn own_events_extend_what_is_told()
@@ -20,11 +20,11 @@ pub fn own_events_extend_what_is_told()
         → Extends settings d op moment a (view_after d log) }
 {}
 
-/// What an actor's own events came to stays as it is when others make events.
+/// An actor's own events, and what they came to, stay as they are when others make events.
 pub fn others_change_no_doings()
     ensures { (settings : SettingsView) (history between : List EventOf) (actor : ActorId)
         → NoneBy actor between
-        → doings_of settings (history ++ between) actor ≡ doings_of settings history actor }
+        → IsSame settings history (history ++ between) actor }
 {}
 
 /// What a door told grows with each call: it is the same actor with a longer history, and the other

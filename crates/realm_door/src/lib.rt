@@ -4,10 +4,15 @@
 
 mod door;
 mod laws;
+mod running;
 mod task;
 
 pub use door::{Answered, Door};
 pub use laws::{
     actors_stay_counted, growth_adds_up, others_change_no_doings, own_events_extend_what_is_told,
 };
+pub use running::run;
 pub use task::{Task, TaskTurn};
+
+#[cfg(test)]
+mod tests;

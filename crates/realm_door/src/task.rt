@@ -23,8 +23,8 @@ pub trait Task {
     ghost use Rattle.turn_cell.specs.declared.machine.DoorFault.{DoorFault};
     ghost use Rattle.turn_cell.specs.declared.machine.DoorFault.TheVariants.{Worn};
     ghost use Rattle.realm_model.specs.Settings.{SettingsView};
-    ghost use Rattle.realm_model.specs.Histories.{Doings, Legal};
-    ghost use Rattle.realm_door.specs.Steps.{doings_at};
+    ghost use Rattle.realm_model.specs.Histories.{Legal};
+    ghost use Rattle.realm_model.specs.Doors.{DoorView};
     ghost use Rattle.realm_door.specs.Turns.{Turned, Counts};
     ghost use Rattle.realm_door.specs.declared.task.TaskTurn.TheVariants.{Done};
 
@@ -36,11 +36,12 @@ pub trait Task {
 
     ghost command: { Self → Self.Command };
 
-    /// Whether the task stands where its actor's own events in a realm of these settings bring it.
-    ghost fits: { Self → SettingsView → Doings → Type 0 };
+    /// Whether the task stands where the events of the door's actor, in a realm of these settings, bring
+    /// it. It looks at these alone of what the door tells.
+    ghost fits: { Self → SettingsView → DoorView → Type 0 };
 
-    /// What an outcome says of the actor's own events.
-    ghost means: { Self.Command → Self.Outcome → Doings → Type 0 };
+    /// What an outcome says of the events of the door's actor.
+    ghost means: { Self.Command → Self.Outcome → SettingsView → DoorView → Type 0 };
 
     /// Whether the outcome is there.
     ghost is_ended: { Self → Type 0 };
@@ -58,10 +59,10 @@ pub trait Task {
     ) -> Result<TaskTurn, DoorFault>
         requires { D.tells →
             Legal (D.settings door.old) (D.told door.old).seen
-            × fits self.old (D.settings door.old) (doings_at (D.settings door.old) (D.told door.old)) }
+            × fits self.old (D.settings door.old) (D.told door.old) }
         ensures kept { D.tells →
             Legal (D.settings door.old) (D.told door.new).seen
-            × fits self.new (D.settings door.old) (doings_at (D.settings door.old) (D.told door.new)) }
+            × fits self.new (D.settings door.old) (D.told door.new) }
         ensures turned { IfOk result (λ turn.
             D.tells → Turned (D.settings door.old) turn moment (D.told door.old) (D.told door.new)) }
         ensures counts { IfOk result (λ turn. Counts turn (D.last door.old) (D.last door.new)) }
@@ -73,8 +74,8 @@ pub trait Task {
         ensures stopped { OnErr result ((D.tells → D.told door.new ≡ D.told door.old) × (D.last door.new ≡ D.last door.old)) }
         ensures faulted { IfErr result (λ f. fault self.new ≡ Some f) }
         ensures again { IfSome (fault self.old) (λ f. (result ≡ Err f) × (self.new ≡ self.old) × (door.new ≡ door.old)) }
-        ensures worn { IfErr result (λ f. fault self.old ≡ None → D.tells →
-            (f ≡ Worn) ↔ (length (D.found door.new) ≡ 2 ^ 62)) }
+        ensures worn { IfErr result (λ f. fault self.old ≡ None → D.tells → f ≡ Worn
+            → length (D.found door.new) ≡ 2 ^ 62) }
 
         ensures settings { D.settings door.new ≡ D.settings door.old }
         ensures home { D.home door.new ≡ D.home door.old };
@@ -82,6 +83,6 @@ pub trait Task {
     /// The outcome, from the turn of the last event on.
     fn outcome(&self) -> Option<&Self::Outcome>
         ensures there { IsSome result ↔ is_ended self.now }
-        ensures right { IfSome result (λ outcome. (settings : SettingsView) (d : Doings)
-            → fits self.now settings d → means (command self.now) outcome.now d) };
+        ensures right { IfSome result (λ outcome. (settings : SettingsView) (d : DoorView)
+            → fits self.now settings d → means (command self.now) outcome.now settings d) };
 }
