@@ -6,7 +6,7 @@ use crate::realm::Realm;
 use realm_door::{Answered, Door};
 use realm_model::{Actor, Op};
 use std::alloc::Global;
-use turn_cell::{Machine, Stopped};
+use turn_cell::Stopped;
 
 /// A door to a realm that nobody else has: the realm, and the actor that acts now. Each step is one event
 /// of the realm, and none of another comes between.
@@ -55,7 +55,7 @@ impl<'a> Door for SoloDoor<'a> {
     }
 
     fn step(&mut self, alloc: Global, op: Op, moment: u64) -> Result<Answered, Stopped<Op>> {
-        let answered = self.realm.apply(alloc, self.actor, op, moment)?;
+        let answered = self.realm.act(alloc, self.actor, op, moment)?;
         Ok(answered)
     }
 }

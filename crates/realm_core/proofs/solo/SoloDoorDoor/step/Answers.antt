@@ -5,12 +5,12 @@ use Rattle.realm_core.proofs.solo.SoloDoorDoor.step.Goals as goal
 pub returns-clause-made : goal.returns-clause-made
 returns-clause-made c =
     let h = c.in_ok-answered.ensures in
-    solo_extends c.args.self.now.realm.now c.apply.new.self c.args.self.now.actor.now c.apply.new.actor c.args.op c.args.moment c.in_ok-answered.answered h.made h.legal h.tells h.room c.requires
+    solo_extends c.args.self.now.realm.now c.act.new.self c.args.self.now.actor.now c.act.new.actor c.args.op c.args.moment c.in_ok-answered.answered h.made h.legal h.tells h.room c.requires
 
 pub returns-clause-suits : goal.returns-clause-suits
 returns-clause-suits c =
     let h = c.in_ok-answered.ensures in
     let realm = c.args.self.now.realm.now in
     let actor = c.args.self.now.actor.now in
-    let extends = solo_extends realm c.apply.new.self actor c.apply.new.actor c.args.op c.args.moment c.in_ok-answered.answered h.made h.legal h.tells h.room c.requires in
-    solo_suits realm (door_of realm actor) (door_of c.apply.new.self c.apply.new.actor) c.args.op c.args.moment c.in_ok-answered.answered extends
+    let extends = solo_extends realm c.act.new.self actor c.act.new.actor c.args.op c.args.moment c.in_ok-answered.answered h.made h.legal h.tells h.room c.requires in
+    solo_suits realm (door_of realm actor) (door_of c.act.new.self c.act.new.actor) c.args.op c.args.moment c.in_ok-answered.answered extends
