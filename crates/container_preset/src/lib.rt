@@ -4,3 +4,6 @@
 mod preset;
 
 pub use preset::preset_bucket;
+
+#[cfg(test)]
+mod tests;

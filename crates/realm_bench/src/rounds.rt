@@ -1,5 +1,7 @@
 //! Rounds of events of one kind, and the time that they took.
 
+ghost use Rattle.std.specs.Prelude.{◌≡◌, ◌*◌, ◌/◌, max};
+
 use crate::kinds::{Kind, SHARD, bucket_name};
 use anyhow::Context;
 use object_words::{Bucket, ShardCount};
@@ -22,12 +24,14 @@ const STRIDE: u64 = 7919;
 pub struct Round {
     pub events: u64,
     pub refused: u64,
-    nanos: u128,
+    pub nanos: u128,
 }
 
 impl Round {
     /// Events a second.
-    pub fn rate(&self) -> u128 {
+    pub fn rate(&self) -> u128
+        ensures { result ≡ self.now.events * 1000000000 / max self.now.nanos 1 }
+    {
         u128::from(self.events) * 1_000_000_000 / self.nanos.max(1)
     }
 }
