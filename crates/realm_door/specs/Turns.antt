@@ -1,5 +1,5 @@
 -- What a turn of a task makes.
-use Rattle.std.specs.Prelude.{◌≡◌, ℕ, ◌^◌, ◌<◌, ◌≤◌}
+use Rattle.std.specs.Prelude.{◌≡◌, ℕ, ◌+◌, ◌^◌, ◌<◌, ◌≤◌, List, length}
 use Rattle.realm_model.specs.Settings.{SettingsView}
 use Rattle.realm_model.specs.Doors.{DoorView}
 use Rattle.realm_model.specs.declared.op.Op.{Op}
@@ -27,3 +27,8 @@ Counts More last next = (last < next) × (next ≤ 2 ^ 62)
 Counts Gives last next = (last < next) × (next ≤ 2 ^ 62)
 Counts Wants last next = next ≡ last
 Counts Done last next = next ≡ last
+
+-- a turn that gives bytes has at least one, and they follow those given before
+abbrev pub Given : TaskTurn → ℕ → List ℕ → ℕ → Type 0
+Given Gives before piece after = (1 ≤ length piece) × (after ≡ before + length piece)
+Given turn before piece after = after ≡ before

@@ -1,5 +1,5 @@
 //! Tasks.
-ghost use Rattle.std.specs.Prelude.{◌≡◌, ℕ, ◌↔◌, Option, Some, None, IsSome, IfSome, IfOk, Ok, Err, IfErr, OnErr, length, ◌^◌};
+ghost use Rattle.std.specs.Prelude.{◌≡◌, ℕ, List, ◌↔◌, Option, Some, None, IsSome, IfSome, IfOk, Ok, Err, IfErr, OnErr, length, ◌^◌};
 
 use crate::Door;
 use std::alloc::Global;
@@ -25,7 +25,7 @@ pub trait Task {
     ghost use Rattle.realm_model.specs.Settings.{SettingsView};
     ghost use Rattle.realm_model.specs.Histories.{Legal};
     ghost use Rattle.realm_model.specs.Doors.{DoorView};
-    ghost use Rattle.realm_door.specs.Turns.{Turned, Counts};
+    ghost use Rattle.realm_door.specs.Turns.{Turned, Counts, Given};
     ghost use Rattle.realm_door.specs.declared.task.TaskTurn.TheVariants.{Done};
 
     /// What is asked. No value of it is made.
@@ -49,6 +49,12 @@ pub trait Task {
     /// The fault with which a step stopped.
     ghost fault: { Self → Option DoorFault };
 
+    /// The bytes that the last turn gives.
+    ghost piece: { Self → List ℕ };
+
+    /// How many bytes all turns so far have given.
+    ghost given: { Self → ℕ };
+
     /// Goes on by at most one event. After a fault it only answers that fault again, and once the outcome
     /// is there it makes no event.
     fn turn<D: Door>(
@@ -66,6 +72,7 @@ pub trait Task {
         ensures turned { IfOk result (λ turn.
             D.tells → Turned (D.settings door.old) turn moment (D.told door.old) (D.told door.new)) }
         ensures counts { IfOk result (λ turn. Counts turn (D.last door.old) (D.last door.new)) }
+        ensures given { IfOk result (λ turn. Given turn (given self.old) (piece self.new) (given self.new)) }
         ensures command { command self.new ≡ command self.old }
 
         ensures done { IfOk result (λ turn. turn ≡ Done → is_ended self.new) }

@@ -1,5 +1,5 @@
 //! A door that tells nothing, and a task over it.
-ghost use Rattle.std.specs.Prelude.{◌≤◌, false, []};
+ghost use Rattle.std.specs.Prelude.{◌≡◌, ◌≤◌, false, [], None, IsSome};
 ghost use Rattle.realm_model.specs.Settings.{settings_of, second};
 ghost use Rattle.realm_model.specs.Suits.{Suits};
 
@@ -11,6 +11,7 @@ use std::test::Fail;
 use turn_cell::{DoorFault, Stopped};
 
 /// Tells nothing. It refuses what it can, and takes `room` events.
+#[derive(Drop)]
 struct SilentDoor {
     number: u64,
     room: u64,
@@ -68,16 +69,107 @@ impl Door for SilentDoor {
         }
         self.number += 1;
         let reply = answer_to(&op, self.number);
-        let back = if let Reply::No(_) = reply {
-            Some(op)
-        } else {
-            None
-        };
         Ok(Answered {
             number: self.number,
             clock: self.number,
+            back: handed_back(op, &reply),
             reply,
-            back,
         })
     }
+}
+
+/// Asks for the counts of a shard until it is told them or that it is closed.
+#[derive(Drop)]
+struct CountTask {
+    zone: u8,
+    key: ShardKey,
+    objects: Option<u64>,
+    fault: Option<DoorFault>,
+}
+
+impl Task for CountTask {
+    type Command = ShardKey;
+
+    type Outcome = u64;
+
+    ghost command = { λ t. t.key };
+
+    ghost fits = { λ t settings d. (1 ≤ t.zone) × (t.zone ≤ settings.zones) };
+
+    ghost means = { λ key objects settings d. Unit {0} };
+
+    ghost is_ended = { λ t. IsSome t.objects × (t.fault ≡ None) };
+
+    ghost fault = { λ t. t.fault };
+
+    ghost piece = { λ t. [] };
+
+    ghost given = { λ t. 0 };
+
+    fn turn<D: Door>(
+        &mut self,
+        alloc: Global,
+        door: &mut D,
+        moment: u64,
+    ) -> Result<TaskTurn, DoorFault> {
+        if let Some(fault) = self.fault {
+            return Err(fault);
+        }
+        if self.objects.is_some() {
+            return Ok(TaskTurn::Done);
+        }
+        let op = Op::Stats {
+            zone: self.zone,
+            key: self.key,
+        };
+        match door.step(alloc, op, moment) {
+            Ok(answered) => {
+                self.objects = match answered.reply {
+                    Reply::Stats(stats) => Some(stats.objects),
+                    _ => Some(0),
+                };
+                Ok(TaskTurn::More)
+            }
+            Err(stopped) => {
+                self.fault = Some(stopped.fault);
+                Err(stopped.fault)
+            }
+        }
+    }
+
+    fn outcome(&self) -> Option<&u64> {
+        match self.fault {
+            None => self.objects.as_ref(),
+            Some(_) => None,
+        }
+    }
+}
+
+fn count_task() -> CountTask {
+    CountTask {
+        zone: 1,
+        key: ShardKey {
+            container: 1,
+            instance: 1,
+            shard: 0,
+        },
+        objects: None,
+        fault: None,
+    }
+}
+
+#[test]
+fn a_task_ends_over_a_door_that_tells_nothing(rt: HostRuntime) -> Result<(), Fail> {
+    let mut door = SilentDoor { number: 0, room: 1 };
+    let mut task = count_task();
+    door.begin();
+    assert!(rt; task.outcome().is_none());
+    assert_eq!(rt; run(rt.alloc(), &mut door, &mut task, 7)?, TaskTurn::Done);
+    assert_eq!(rt; task.outcome().copied(), Some(0));
+    assert_eq!(rt; door.number, 1);
+    let mut next = count_task();
+    let stopped = run(rt.alloc(), &mut door, &mut next, 7);
+    assert_eq!(rt; stopped, Err(DoorFault::Worn));
+    assert!(rt; next.outcome().is_none());
+    Ok(())
 }
