@@ -1,3 +1,3 @@
-pub mod Zones
+pub mod PoolLemmas
 pub mod Histories
 pub mod SoloSteps

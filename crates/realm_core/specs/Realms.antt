@@ -23,9 +23,9 @@ HasZones settings pools st = (index : ℕ) → index < length pools → Stands s
 
 -- there is a pool for each zone, with what the history leaves of it; the clock is that of the history, and the objects are no
 -- larger than so many events can make them
-pub record HasHistory (settings : SettingsView) (pools : List PoolView) (history : List Event) (clock : ℕ) : Type 0 where
+pub record HasHistory (settings : SettingsView) (pools : List PoolView) (history : List Event) (now : ℕ) : Type 0 where
   pub zones : length pools ≡ settings.zones
   pub stands : HasZones settings pools (state_of settings history)
   pub small : (zone : ℕ) → AreSmallBy (length history) zone (state_of settings history)
-  pub clock : clock ≡ (state_of settings history).clock
+  pub clock : now ≡ (state_of settings history).clock
   pub few : length history ≤ 2 ^ 62

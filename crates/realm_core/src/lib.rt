@@ -3,6 +3,7 @@
 
 mod machine;
 mod realm;
+mod sizes;
 mod solo;
 mod zones;
 

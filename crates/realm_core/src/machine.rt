@@ -1,13 +1,12 @@
 ghost use Rattle.std.specs.Prelude.{◌≡◌, ◌↔◌, ◌++◌, ◌∷◌, ◌<◌, ◌^◌, [], length, Some, IfErr, IfOk, OnErr, OnOk};
 ghost use Rattle.realm_core.specs.Answers.{Tells, event_of, reply_after};
 ghost use Rattle.realm_core.specs.Minding.{MayDo};
-ghost use Rattle.realm_door.specs.Steps.{back_of};
 ghost use Rattle.realm_model.specs.Histories.{Legal};
 ghost use Rattle.turn_cell.specs.declared.machine.DoorFault.TheVariants.{Worn};
 
 use crate::realm::Realm;
-use realm_door::Answered;
-use realm_model::{Actor, Event, Op, Reply, Settings};
+use realm_door::{Answered, handed_back};
+use realm_model::{Actor, Event, Op, Settings};
 use std::alloc::Global;
 use turn_cell::{DoorFault, Machine, Stopped};
 
@@ -52,23 +51,13 @@ impl Realm {
             });
         };
         actor.used = true;
-        let back = hand_back(op, &reply);
+        let back = handed_back(op, &reply);
         Ok(Answered {
             number: self.events(),
             clock: self.clock(),
             reply,
             back,
         })
-    }
-}
-
-// The operation, where it was refused.
-fn hand_back(op: Op, reply: &Reply) -> Option<Op>
-    ensures { result ≡ back_of op reply.now }
-{
-    match reply {
-        Reply::No(_why) => Some(op),
-        _ => None,
     }
 }
 

@@ -3,6 +3,7 @@ ghost use Rattle.realm_core.specs.Answers.{event_of, reply_after};
 ghost use Rattle.realm_core.specs.Realms.{new_realm};
 ghost use Rattle.realm_model.specs.Histories.{state_of};
 
+use crate::sizes::sizes_fit;
 use crate::zones::{new_zones, perform_in};
 use event_scroll::{Noted, Scroll};
 use object_pool::{OutOfMemory, Pool};
@@ -83,6 +84,7 @@ impl Realm {
         ensures settings { self.new.settings ≡ self.old.settings }
         ensures stopped { OnErr result (self.new ≡ self.old) }
     {
+        sizes_fit(op);
         let settings = self.settings;
         let number = self.scroll.len() + 1;
         let clock = clock_at(self.clock, moment);

@@ -15,7 +15,7 @@ pub(crate) fn new_zones(alloc: Global, settings: &Settings) -> Result<Vec<Pool>,
     ensures { IfOk result (λ zones. zones.items ≡ replicate settings.now.zones (new_pool settings.now)) }
 {
     let mut zones = Vec::new(alloc);
-    for _zone in 0..settings.zones {
+    for zone in 0..settings.zones {
         zones.push(Pool::new(alloc, settings.frames, settings.frame)?)?;
     }
     Ok(zones)
@@ -35,8 +35,9 @@ pub(crate) fn perform_in(
         → Changes settings.now st op.now result zones.new.items }
     ensures length { length zones.new.items ≡ length zones.old.items }
 {
+    let most = usize::from(settings.zones);
     let zone = usize::from(op.zone());
-    if zone == 0 || zone > zones.len() {
+    if zone == 0 || zone > most {
         return Ok(Reply::No(Why::Absent));
     }
     perform(alloc, &mut zones[zone - 1], settings, number, clock, op)

@@ -3,5 +3,5 @@ use Rattle.zone_core.specs.Stands.{new_pool}
 use Rattle.realm_core.proofs.zones.new_zones.Given as goal
 
 -- a pool for each zone so far
-abbrev pub invariant-loop-_zone : goal.invariant-loop-_zone
-invariant-loop-_zone l = l.zones.items ≡ replicate l._zone (new_pool l.settings)
+abbrev pub invariant-loop-zone : goal.invariant-loop-zone
+invariant-loop-zone l = l.zones.items ≡ replicate l.zone (new_pool l.settings)

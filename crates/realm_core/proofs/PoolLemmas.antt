@@ -14,11 +14,13 @@ use Rattle.realm_model.specs.Steps.{reply_of, touch_of}
 use Rattle.realm_model.specs.declared.event.Reply.{Reply}
 use Rattle.realm_model.specs.declared.event.Reply.TheVariants.{No}
 use Rattle.realm_model.specs.declared.op.Op.{Op}
+use Rattle.std.proofs.lemmas.Option.{get_or_from_slice_get, slice_get_read}
+use Rattle.zone_core.specs.Bounds.{IsReady}
 use Rattle.zone_core.specs.Calls.{Performs}
 use Rattle.zone_core.specs.Stands.{Stands, new_pool}
 use Rattle.zone_core.proofs.Apart.{at_other_clock, other_zone}
 use Rattle.zone_core.proofs.Opening.{new_stands}
-use Rattle.realm_core.specs.Answers.{Changes, is_zone, reply_in}
+use Rattle.realm_core.specs.Answers.{AreReady, Changes, is_zone, reply_in}
 use Rattle.realm_core.specs.Realms.{HasZones}
 
 pub new_have : (settings : SettingsView) (n : ℕ) → HasZones settings (replicate n (new_pool settings)) (opening settings)
@@ -49,6 +51,16 @@ one_has settings pools st op index p zone within have here q below =
           subst (λ x. Stands settings (q + 1) x after) (sym (get_or-set_other pools index q p (new_pool settings) differs))
           (other_zone settings (q + 1) (get_or pools q (new_pool settings)) st op apart (have q below'))
     ]
+
+-- the pool of one zone is ready
+pub one_ready : (settings : SettingsView) (pools : List PoolView) (st : State) (index zone : ℕ) (p : PoolView) → zone ≡ index + 1 → index < length pools → p ≡ get_or pools index p → AreReady settings pools st → IsReady settings zone p st
+one_ready settings pools st index zone p is within value ready =
+    let same : get_or pools index (new_pool settings) ≡ p = get_or_from_slice_get pools index p (new_pool settings) (slice_get_read pools (length pools) index p refl within value) in
+    record {
+      stands = subst (λ z. Stands settings z p st) (sym is) (subst (λ x. Stands settings (index + 1) x st) same (ready.stands index within));
+      small = ready.small zone;
+      few = ready.few;
+    }
 
 pub changes_there : (settings : SettingsView) (pools : List PoolView) (st : State) (op : Op) (index : ℕ) (p : PoolView) (result : Result Reply OutOf) → zone_of op ≡ index + 1 → index < length pools → length pools ≡ settings.zones
     → HasZones settings pools st → Performs settings (zone_of op) st op result p → Changes settings st op result (set pools index p)
