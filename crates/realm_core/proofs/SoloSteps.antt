@@ -1,5 +1,5 @@
 -- A step through a door to a realm that nobody else has.
-use Rattle.std.proofs.Common.{◌≡◌, ℕ, ◌+◌, ◌^◌, ◌<◌, ◌≤◌, true, List, [], ◌∷◌, ◌++◌, length, refl, sym, ap, ◌∙◌, subst, arith, length-append}
+use Rattle.std.proofs.Common.{◌≡◌, ℕ, ◌+◌, ◌^◌, ◌<◌, ◌≤◌, Bool, true, false, cond, List, [], ◌∷◌, ◌++◌, length, refl, sym, ap, ◌∙◌, subst, arith, length-append}
 use Rattle.std.proofs.lemmas.List.{append-nil}
 use Rattle.realm_model.specs.Doors.{DoorView}
 use Rattle.realm_model.specs.Histories.{Legal}
@@ -10,7 +10,7 @@ use Rattle.realm_model.specs.declared.actor.Actor.{Actor}
 use Rattle.realm_model.specs.declared.event.Event.{Event}
 use Rattle.realm_model.specs.declared.op.Op.{Op}
 use Rattle.realm_model.proofs.SuitsLemmas.{reply_suits}
-use Rattle.realm_door.specs.Steps.{Extends, MayStep, view_after}
+use Rattle.realm_door.specs.Steps.{Extends, IsCounted, MayStep}
 use Rattle.realm_door.specs.declared.door.Answered.{Answered}
 use Rattle.realm_door.proofs.Steps.{extends}
 use Rattle.realm_core.specs.Answers.{Tells, event_of}
@@ -34,3 +34,10 @@ solo_extends realm realm' actor actor' op moment a made legal tells room may =
 
 pub solo_suits : (realm : RealmView) (d e : DoorView) (op : Op) (moment : ℕ) (a : Answered) → Extends realm.settings d op moment a e → Suits op a.reply
 solo_suits realm d e op moment a extends = subst (Suits op) (sym extends.answer) (reply_suits realm.settings (at_moment (state_of realm.settings (d.seen ++ extends.between)) moment) op)
+
+-- an actor that may enter is counted
+pub solo_counted : (realm : RealmView) (actor : Actor) → actor.count ≤ length realm.history → length realm.history ≤ 2 ^ 62 → IsCounted (door_of realm actor)
+solo_counted realm actor few room = record { few = of actor.used; room = room } where
+  of : (used : Bool) → cond used (actor.count + 1) actor.count ≤ length realm.history + 1
+  of true = omega (arith, few)
+  of false = omega (arith, few)

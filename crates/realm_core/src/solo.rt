@@ -25,6 +25,8 @@ impl<'a> SoloDoor<'a> {
         ensures actor { (result.actor.now ≡ actor.entry.now) × (result.actor.ghost_name ≡ actor.entry.ghost_name) }
         ensures counted { IsCounted (door_of realm.entry.now actor.entry.now) }
     {
+        // It has at most 2^62 events.
+        let _events = realm.events();
         SoloDoor { realm, actor }
     }
 }
