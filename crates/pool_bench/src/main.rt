@@ -61,7 +61,10 @@ fn measure_objects<R: Clock + Print>(rt: &R, alloc: Global, count: u64) -> anyho
         objects.change_picked()?;
         change = start.elapsed(rt)?.as_nanos().min(change);
     }
-    println!(rt; "{:>8} find and seven calls of the place", change / u128::from(CALLS))?;
+    println!(rt;
+        "{:>8} find and seven calls of the place",
+        change / u128::from(CALLS)
+    )?;
     Ok(())
 }
 

@@ -77,7 +77,9 @@ impl SampleRows {
     /// Takes a page of 100 rows from a place by chance.
     pub fn page(&mut self) -> Result<usize, OutOfMemory> {
         self.picked = self.picked.wrapping_add(1);
-        let page = self.omap.page(self.alloc, &key_of(mixed(self.picked)), 100)?;
+        let page = self
+            .omap
+            .page(self.alloc, &key_of(mixed(self.picked)), 100)?;
         Ok(page.rows.len())
     }
 }
