@@ -160,31 +160,40 @@ fn shows_page(
     }
 }
 
-// Whether the rows of a page are the first kept entries behind a text, and `end` says whether they are all.
+// Whether a page has the first kept entries behind a text, and `end` says whether they are all.
 fn is_page(page: &EntryPage, entries: &[PlainEntry], after: &str, limit: u32) -> bool {
-    let mut rows = page.rows.as_slice().iter();
-    let mut left = limit;
-    let mut more = false;
-    for name in 0..NAMES {
-        let Some(entry) = entries.get(name) else {
-            return false;
-        };
-        if !entry.is_kept() || name_text(name).as_bytes() <= after.as_bytes() {
-            continue;
-        }
-        if left == 0 {
-            more = true;
-            break;
-        }
-        left -= 1;
-        if !rows
-            .next()
-            .is_some_and(|row| is_entry(row, name_text(name), entry))
-        {
-            return false;
-        }
+    let rows = page.rows.as_slice();
+    let all = listed_below(entries, after, NAMES) as u64;
+    let most = u64::from(limit);
+    rows.len() as u64 == all.min(most)
+        && page.end == (all <= most)
+        && (0..NAMES).all(|name| has_row(rows, entries, after, name))
+}
+
+// Whether the row of a name is in its place, where the page goes so far.
+fn has_row(rows: &[Entry], entries: &[PlainEntry], after: &str, name: usize) -> bool {
+    if !is_listed(entries, after, name) {
+        return true;
     }
-    rows.next().is_none() && page.end == !more
+    match (
+        rows.get(listed_below(entries, after, name)),
+        entries.get(name),
+    ) {
+        (Some(row), Some(entry)) => is_entry(row, name_text(name), entry),
+        _ => true,
+    }
+}
+
+// How many of the first names are listed.
+fn listed_below(entries: &[PlainEntry], after: &str, names: usize) -> usize {
+    (0..names)
+        .filter(|name| is_listed(entries, after, *name))
+        .count()
+}
+
+fn is_listed(entries: &[PlainEntry], after: &str, name: usize) -> bool {
+    let behind = name_text(name).as_bytes() > after.as_bytes();
+    behind && entries.get(name).is_some_and(|entry| entry.is_kept())
 }
 
 fn is_entry(seen: &Entry, name: &str, entry: &PlainEntry) -> bool {
@@ -245,28 +254,17 @@ fn shows_tail(reply: &Reply, tail: Run, start: u64, count: u64, clock: u64) -> b
 
 /// Whether a page of the log of data is that of the plain zone, whose positions start at 1.
 pub fn is_log_page(page: &LogPage, changes: &[(usize, usize)], position: u64, limit: u32) -> bool {
-    let mut rows = page.rows.as_slice().iter();
-    let mut left = limit;
-    let mut more = false;
-    let mut at: u64 = 0;
-    for (shard, bucket) in changes {
-        at = at.wrapping_add(1);
-        if at <= position {
-            continue;
-        }
-        if left == 0 {
-            more = true;
-            break;
-        }
-        left -= 1;
-        if !rows.next().is_some_and(|row| row.position == at
-            && names_shard(&row.what, *shard, *bucket))
-        {
-            return false;
-        }
-    }
+    let rows = page.rows.as_slice();
+    let rest = changes.get(position as usize..).unwrap_or(&[]);
+    let all = rest.len() as u64;
+    let most = u64::from(limit);
     let told = page.last == changes.len() as u64 && page.first == 1 && page.tags == 0;
-    rows.next().is_none() && page.end == !more && told
+    told && rows.len() as u64 == all.min(most)
+        && page.end == (all <= most)
+        && rows.iter().zip(rest).enumerate().all(|(place, (row, (shard, bucket)))| {
+            let above = (place as u64).wrapping_add(1);
+            row.position == position.wrapping_add(above) && names_shard(&row.what, *shard, *bucket)
+        })
 }
 
 fn names_shard(what: &LogWhat, number: usize, name: usize) -> bool {
