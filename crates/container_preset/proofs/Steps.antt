@@ -37,7 +37,7 @@ maker_after settings alone d e name moment a why is x reply = record {
   legal = x.legal;
   maker = subst (λ (p : Phase). IsMaker p name a.number 0) (sym (phase_after settings d e (BucketRead 1 name) moment a x))
       (subst (λ (p : Phase). IsMaker (learnt p (BucketRead 1 name) a.reply a.number a.clock) name a.number 0) (sym is.phase)
-        (subst (λ (r : Reply). IsMaker (learnt fresh (BucketRead 1 name) r a.number a.clock) name a.number 0) (sym reply) (found_none name why a.number a.clock)));
+      (subst (λ (r : Reply). IsMaker (learnt fresh (BucketRead 1 name) r a.number a.clock) name a.number 0) (sym reply) (found_none name why a.number a.clock)));
   grows = grows_none settings e;
   events = λ alone. sym (append-nil e.seen);
 }
@@ -57,11 +57,11 @@ made_after settings alone d e f name id moment made a has x reply only =
       grows = grows_both settings d e f has.grows x.grows;
       events = λ al.
           let one : event_at e op moment a.reply ≡ event_at d op moment Done =
-              ap (event_at e op moment) reply ∙ same_event d e op moment Done has.grows.pass has.grows.count in
+          ap (event_at e op moment) reply ∙ same_event d e op moment Done has.grows.pass has.grows.count in
           let here : f.seen ≡ d.seen ++ makes d id moment (suc made) =
-              only al
-              ∙ (ap (λ (v : Event). e.seen ++ v ∷ []) one
-              ∙ (ap (λ (l : List Event). l ++ event_at d op moment Done ∷ []) (has.events al)
-              ∙ append_assoc d.seen (makes d id moment made) (event_at d op moment Done ∷ []))) in
+          only al
+          ∙ (ap (λ (v : Event). e.seen ++ v ∷ []) one
+          ∙ (ap (λ (l : List Event). l ++ event_at d op moment Done ∷ []) (has.events al)
+          ∙ append_assoc d.seen (makes d id moment made) (event_at d op moment Done ∷ []))) in
           here ∙ ap (λ n. d.seen ++ makes d id moment n) (sym (add-one made));
     }

@@ -39,7 +39,15 @@ pub fn preset_bucket<D: Door>(
     match door.step(alloc, Op::BucketRead { zone: 1, name }, moment) {
         Ok(read) => match read.reply {
             Reply::Row(_row) => Ok(()),
-            Reply::No(_why) => make_container(alloc, settings, door, bucket, owner, read.number, moment),
+            Reply::No(_why) => make_container(
+                alloc,
+                settings,
+                door,
+                bucket,
+                owner,
+                read.number,
+                moment,
+            ),
             _ => unreachable!(),
         },
         Err(stopped) => Err(stopped.fault),

@@ -32,7 +32,15 @@ fn realm_with(
 fn a_container_is_made_by_nine_events(rt: HostRuntime) -> Result<(), Fail> {
     let alloc = rt.alloc();
     let settings = Settings::new(
-        1, 4_194_304, 4096, 64, 7, 120_000_000, 7_200_000_000, 5_368_709_120, 100_000,
+        1,
+        4_194_304,
+        4096,
+        64,
+        7,
+        120_000_000,
+        7_200_000_000,
+        5_368_709_120,
+        100_000,
     );
     let settings = settings.ok_or("no settings")?;
     let text = Text::from_str(alloc, "box")?;

@@ -19,7 +19,12 @@ fn show<R: Clock + Print>(rt: &R, alloc: Global) -> anyhow::Result<()> {
     let mut bench = Bench::new(alloc, 10)?;
     for kind in Kind::ALL {
         let round = bench.run(rt, alloc, kind, 10)?;
-        println!(rt; "{}: {} events, {} refused", kind.name(), round.events, round.refused)?;
+        println!(rt;
+            "{}: {} events, {} refused",
+            kind.name(),
+            round.events,
+            round.refused
+        )?;
     }
     Ok(())
 }
@@ -30,7 +35,12 @@ fn measure<R: Clock + Print>(rt: &R, alloc: Global, heads: u32) -> anyhow::Resul
     for kind in Kind::ALL {
         let count = if kind.reads() { READS } else { heads };
         let round = bench.run(rt, alloc, kind, count)?;
-        println!(rt; "{:>12}  {:>7}  {}", round.rate(), round.refused, kind.name())?;
+        println!(rt;
+            "{:>12}  {:>7}  {}",
+            round.rate(),
+            round.refused,
+            kind.name()
+        )?;
     }
     Ok(())
 }

@@ -51,7 +51,15 @@ impl Bench {
     pub fn new(alloc: Global, heads: u32) -> anyhow::Result<Bench> {
         let frames = heads.clamp(1, 4_194_304);
         let settings = Settings::new(
-            1, 4_194_304, 16, frames, 1, 120_000_000, 7_200_000_000, 5_368_709_120, 100_000,
+            1,
+            4_194_304,
+            16,
+            frames,
+            1,
+            120_000_000,
+            7_200_000_000,
+            5_368_709_120,
+            100_000,
         );
         let settings = settings.context("the settings")?;
         let mut bench = Bench {

@@ -30,7 +30,15 @@ const SHARD: ShardKey = ShardKey {
 
 fn settings() -> Result<Settings, Fail> {
     let settings = Settings::new(
-        1, 4_194_304, 4096, 64, 1, 120_000_000, 7_200_000_000, 5_368_709_120, 100_000,
+        1,
+        4_194_304,
+        4096,
+        64,
+        1,
+        120_000_000,
+        7_200_000_000,
+        5_368_709_120,
+        100_000,
     );
     Ok(settings.ok_or("no settings")?)
 }
@@ -244,16 +252,28 @@ fn the_older_completion_loses(rt: HostRuntime) -> Result<(), Fail> {
     assert_eq!(rt; (hello.tag, hello.deadline), (5, 120_000_000));
     let new = content(alloc, 4, b"hello", HELLO)?;
     let change = changed(&rt, alloc, &mut realm, &mut first, hello, new, 6, 1)?;
-    assert_eq!(rt; (change.version, change.stamp.micros, change.stamp.zone), (7, 0, 1));
-    assert_eq!(rt; (change.row.exists, change.row.size, change.row.etag), (true, 5, HELLO));
+    assert_eq!(rt;
+        (change.version, change.stamp.micros, change.stamp.zone),
+        (7, 0, 1)
+    );
+    assert_eq!(rt;
+        (change.row.exists, change.row.size, change.row.etag),
+        (true, 5, HELLO)
+    );
     assert!(rt; change.old.is_none());
 
     let empty = prepared(&rt, alloc, &mut realm, &mut second, 8)?;
     assert_eq!(rt; (empty.tag, empty.deadline), (9, 120_000_000));
     let new = content(alloc, 8, b"", EMPTY)?;
     let later = changed(&rt, alloc, &mut realm, &mut second, empty, new, 10, 2)?;
-    assert_eq!(rt; (later.version, later.stamp.micros, later.stamp.zone), (11, 1, 1));
-    assert_eq!(rt; (later.row.exists, later.row.size, later.row.etag), (true, 0, EMPTY));
+    assert_eq!(rt;
+        (later.version, later.stamp.micros, later.stamp.zone),
+        (11, 1, 1)
+    );
+    assert_eq!(rt;
+        (later.row.exists, later.row.size, later.row.etag),
+        (true, 0, EMPTY)
+    );
 
     complete(&rt, alloc, &mut realm, &mut second, empty, later, 12)?;
     complete(&rt, alloc, &mut realm, &mut first, hello, change, 13)?;
@@ -269,7 +289,10 @@ fn the_older_completion_loses(rt: HostRuntime) -> Result<(), Fail> {
     let Reply::Stats(told) = reply else {
         return Err("no header".into());
     };
-    assert_eq!(rt; (told.objects, told.bytes, told.tags, told.fence), (1, 0, 0, 0));
+    assert_eq!(rt;
+        (told.objects, told.bytes, told.tags, told.fence),
+        (1, 0, 0, 0)
+    );
     Ok(())
 }
 

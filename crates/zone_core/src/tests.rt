@@ -3,9 +3,7 @@ ghost use Rattle.realm_model.specs.Ops.{zone_of};
 
 use crate::perform;
 use object_pool::Pool;
-use object_words::{
-    BucketName, Conditions, Guard, MediaType, NewHead, ObjectName, ShardKey, Why,
-};
+use object_words::{BucketName, Conditions, Guard, MediaType, NewHead, ObjectName, ShardKey, Why};
 use realm_model::{Op, Reply, Settings};
 use rgw_types::{Bytes, Manifest, Pairs, PartNumber, Text};
 use std::alloc::Global;
@@ -122,7 +120,10 @@ fn a_head_is_written(rt: HostRuntime) -> Result<(), Fail> {
     let Reply::Changed(changed) = first_reply(alloc, &write)? else {
         return Err("no change".into());
     };
-    assert_eq!(rt; (changed.version, changed.stamp.micros, changed.stamp.zone), (1, 0, 1));
+    assert_eq!(rt;
+        (changed.version, changed.stamp.micros, changed.stamp.zone),
+        (1, 0, 1)
+    );
     assert_eq!(rt; (changed.row.exists, changed.row.size), (true, 5));
     Ok(())
 }
