@@ -1,6 +1,8 @@
 -- The body of a PUT as it comes, and how it is cut: its first stripe is for the head, each further one for a tail.
-use Rattle.std.specs.Prelude.{◌≡◌, ℕ, ◌+◌, ◌-◌, ◌*◌, ◌<◌, ◌≤◌, ◌⊎◌, ◌==◌, ◌||◌, ◌&&◌, not, nat_lt, Bool, true, false, List, take, drop, length, Option, Some, None, if◌then◌else◌}
+use Rattle.std.specs.Prelude.{◌≡◌, ℕ, ◌+◌, ◌-◌, ◌*◌, ◌<◌, ◌≤◌, ◌⊎◌, ◌==◌, ◌||◌, ◌&&◌, not, nat_lt, Bool, true, false, List, map, take, drop, length, Option, Some, None, if◌then◌else◌}
 use Rattle.md5.specs.Md5.{md5, Holds}
+use Rattle.rgw_types.specs.Stripes.{ManifestView}
+use Rattle.manifest.specs.Ranges.{part_numbers}
 use Rattle.task_put.specs.declared.body.Progress.{Progress}
 use Rattle.task_put.specs.declared.body.Progress.TheVariants.{Open, Whole, Failed}
 use Rattle.task_put.specs.declared.body.PutBody.{PutBody}
@@ -16,6 +18,10 @@ first_bytes stripe bytes = take stripe bytes
 -- the bytes that the tail of this number takes
 abbrev pub tail_bytes : ℕ → List ℕ → ℕ → List ℕ
 tail_bytes stripe bytes part = take stripe (drop (stripe * part) bytes)
+
+-- the bytes of the head and those of each tail
+abbrev pub parts_cut : ManifestView → List ℕ → List (List ℕ)
+parts_cut m bytes = map (tail_bytes m.stripe bytes) (part_numbers m)
 
 -- a body to which more may come has whole tails alone
 abbrev pub IsPaced : Progress → ℕ → ℕ → List ℕ → Type 0

@@ -1,11 +1,11 @@
-ghost use Rattle.std.specs.Prelude.{◌≡◌, ◌+◌, ◌≤◌, ◌++◌, ℕ, List, [], min, true, false, take, drop, length, IfOk, OnErr, IfSome, Some, None};
+ghost use Rattle.std.specs.Prelude.{◌≡◌, ◌+◌, ◌≤◌, ◌++◌, ℕ, List, [], min, true, false, take, drop, length, IfOk, OnErr, IsSome, Some, None};
 ghost use Rattle.md5.specs.Md5.{md5};
 ghost use Rattle.rgw_types.specs.Stripes.{tails_of as tails_needed};
 ghost use Rattle.task_put.specs.Bodies.{IsFed, most_bytes, first_bytes, tail_bytes, is_open, whole_etag, room_of, size_of, tails_taken, stripe_of, has_tail};
 ghost use Rattle.task_words.specs.declared.command.BodyEnd.TheVariants.{Whole as whole_end, Failed as failed_end};
 
 use md5::{Digest, Md5};
-use rgw_types::Bytes;
+use rgw_types::{Bytes, Manifest};
 use std::alloc::{AllocError, Global};
 use std::mem::replace;
 use task_words::BodyEnd;
@@ -152,5 +152,20 @@ impl PutBody {
     {
         self.tails += 1;
         replace(&mut self.hand, Bytes::new(alloc))
+    }
+
+    /// Where the bytes of the object will be, whose tails the write of this number made.
+    #[tactic(auto, using(crate::proofs::Cutting::tails_counted, crate::proofs::Cutting::taken_out))]
+    pub fn manifest(&self, write: u64) -> Manifest
+        requires { (bytes : List ℕ) × IsFed self.now bytes }
+        ensures value { (bytes : List ℕ) → IsFed self.now bytes
+            → result ≡ record { write = write; stripe = stripe_of self.now; size = length bytes } }
+        ensures tails { (bytes : List ℕ) → IsFed self.now bytes
+            → IsSome (whole_etag self.now) → has_tail self.now ≡ false → tails_needed result ≡ tails_taken self.now }
+    {
+        let Some(manifest) = Manifest::new(write, self.stripe, self.size) else {
+            unreachable!()
+        };
+        manifest
     }
 }

@@ -4,9 +4,11 @@
 
 mod body;
 mod etag;
+mod laws;
 
 pub use body::PutBody;
 pub use etag::has_other_etag;
+pub use laws::a_body_is_its_parts;
 
 #[cfg(test)]
 mod tests;
