@@ -12,13 +12,13 @@ use Rattle.manifest.proofs.RangeLemmas.{tails_enough}
 use Rattle.task_put.specs.Bodies.{tail_bytes, parts_cut}
 
 -- one part has the bytes that the manifest gives it
-part_length : (m : ManifestView) (bytes : List ℕ) (k : ℕ) → length bytes ≡ m.size → length (tail_bytes m.stripe bytes k) ≡ part_size m k
+pub part_length : (m : ManifestView) (bytes : List ℕ) (k : ℕ) → length bytes ≡ m.size → length (tail_bytes m.stripe bytes k) ≡ part_size m k
 part_length m bytes k sized =
     let taken = length-take m.stripe (drop (m.stripe * k) bytes) in
     let dropped = length-drop (m.stripe * k) bytes in
     omega (arith, taken, dropped, sized)
 
-lengths : (m : ManifestView) (bytes : List ℕ) (ks : List ℕ) → length bytes ≡ m.size → map length (map (tail_bytes m.stripe bytes) ks) ≡ map (part_size m) ks
+pub lengths : (m : ManifestView) (bytes : List ℕ) (ks : List ℕ) → length bytes ≡ m.size → map length (map (tail_bytes m.stripe bytes) ks) ≡ map (part_size m) ks
 lengths m bytes [] sized = refl
 lengths m bytes (k ∷ ks) sized = λ i. part_length m bytes k sized i ∷ lengths m bytes ks sized i
 
