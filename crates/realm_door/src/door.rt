@@ -1,5 +1,5 @@
 //! Doors.
-ghost use Rattle.std.specs.Prelude.{◌≡◌, ℕ, ◌<◌, ◌≤◌, ◌^◌, ◌↔◌, List, length, Some, IfOk, OnOk, IfErr, OnErr};
+ghost use Rattle.std.specs.Prelude.{◌≡◌, ℕ, ◌<◌, ◌≤◌, ◌^◌, ◌↔◌, ◌++◌, ◌∷◌, [], List, length, Some, IfOk, OnOk, IfErr, OnErr};
 
 use realm_model::{Op, Reply};
 use std::alloc::Global;
@@ -23,7 +23,7 @@ pub trait Door {
     ghost use Rattle.realm_model.specs.Settings.{SettingsView};
     ghost use Rattle.realm_model.specs.Doors.{DoorView, IsSeen};
     ghost use Rattle.realm_model.specs.Suits.{Suits};
-    ghost use Rattle.realm_door.specs.Steps.{MayStep, IsCounted, begun, back_of, Extends};
+    ghost use Rattle.realm_door.specs.Steps.{MayStep, IsCounted, begun, back_of, event_at, Extends};
 
     /// Whether doors of this type tell of their events.
     ghost tells: { Type 0 };
@@ -43,6 +43,9 @@ pub trait Door {
     /// The number of the last event that was made through the door. Later ones have greater numbers.
     ghost last: { Self → ℕ };
 
+    /// Whether nobody else makes events while there are doors of this type.
+    ghost alone: { Type 0 } = { ⊥ };
+
     /// Lets the next actor of the pass act. Where the present one made no event, it stays.
     fn begin(&mut self)
         requires { tells → IsCounted (told self.old) }
@@ -56,6 +59,8 @@ pub trait Door {
         requires { tells → MayStep (settings self.old) (told self.old) op }
         ensures made { IfOk result (λ a.
             tells → Extends (settings self.old) (told self.old) op moment a (told self.new)) }
+        ensures alone { IfOk result (λ a. tells → alone
+            → (told self.new).seen ≡ (told self.old).seen ++ event_at (told self.old) op moment a.reply ∷ []) }
 
         // Also where the door tells nothing.
         ensures suits { IfOk result (λ a. Suits op a.reply) }
