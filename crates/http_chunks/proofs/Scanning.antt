@@ -50,10 +50,10 @@ next_at place seen i bytes = let e : (seen + i) + 1 ≡ seen + (i + 1) = omega a
 later_is : (a b : Place) → Later a ≡ Later b → a ≡ b
 later_is a b e = cc
 
-here_is : (a b : ℕ) → Here a ≡ Here b → a ≡ b
+pub here_is : (a b : ℕ) → Here a ≡ Here b → a ≡ b
 here_is a b e = cc
 
-not_both : (n : ℕ) (a : Place) → Later a ≢ Here n
+pub not_both : (n : ℕ) (a : Place) → Later a ≢ Here n
 not_both n a e = cc
 
 append_step : (o : Option Place) (n : ℕ) (place next : Place) (b : ℕ) (xs ys : List ℕ) → after_byte place b ≡ o

@@ -27,7 +27,7 @@ pub next_opens : (text line : List ℕ) (found : Option ℕ) → text ≡ 13 ∷
 next_opens text line None is says = says
 next_opens text line (Some size) is says = (line, is, says)
 
-same_line : (a b : List ℕ) → 13 ∷ 10 ∷ a ≡ 13 ∷ 10 ∷ b → a ≡ b
+pub same_line : (a b : List ℕ) → 13 ∷ 10 ∷ a ≡ 13 ∷ 10 ∷ b → a ≡ b
 same_line a b e = cc
 
 pub next_opens_none : (text line : List ℕ) (found : Option ℕ) → text ≡ 13 ∷ 10 ∷ line → IfNone found ((size : ℕ) → ¬ (SaysSize line size)) → IfNone found ((size : ℕ) → ¬ (SaysOpening true text size))

@@ -1,6 +1,8 @@
 -- A body in chunks (RFC 9112, section 7.1): chunk lines, the bytes of the chunks, and trailers, which are read and dropped.
 use Rattle.std.specs.Prelude.{◌≡◌, ◌⊎◌, ℕ, ◌+◌, ◌-◌, ◌<◌, ◌≤◌, Bool, true, false, List, [], ◌∷◌, ◌++◌, length, take, if◌then◌else◌}
 use Rattle.httparse.specs.Grammar.{ChunkLine, ReadsChunkLine, chunk_size, Field, LineEnd, ReadsSection}
+use Rattle.http_chunks.specs.declared.body.BodyEnd.{BodyEnd}
+use Rattle.http_chunks.specs.declared.body.BodyEnd.TheVariants as End
 use Rattle.http_chunks.specs.declared.place.Place.TheVariants.{Fresh}
 use Rattle.http_chunks.specs.declared.chunk_line.TheConstants.{LINE_LIMIT, BREAK_LEN}
 use Rattle.http_chunks.specs.declared.trailers.TheConstants.{TRAILER_LIMIT, TRAILER_FIELDS}
@@ -46,26 +48,6 @@ BeginsWithTrailerText bytes text rest = BeginsWithText Fresh TRAILER_LIMIT bytes
 abbrev pub BeginsWithTrailers : List ℕ → List ℕ → Type 0
 BeginsWithTrailers bytes rest = (text : List ℕ) × BeginsWithTrailerText bytes text rest × AreTrailers text
 
--- ---- a body
-
--- The bytes are chunks of these contents, the last chunk and the trailers, and rest follows. The first chunk stands behind
--- another or not, and all have room for so many bytes.
-abbrev pub AreChunks : Bool → ℕ → List ℕ → List (List ℕ) → List ℕ → Type 0
-AreChunks behind room bytes [] rest = (after : List ℕ) × OpensChunk behind bytes 0 after × BeginsWithTrailers after rest
-AreChunks behind room bytes (content ∷ contents) rest =
-    (next : List ℕ) × OpensChunk behind bytes (length content) (content ++ next) × (0 < length content) × (length content ≤ room)
-    × AreChunks true (room - length content) next contents rest
-
--- what all chunks hold
-abbrev pub content_of : List (List ℕ) → List ℕ
-content_of [] = []
-content_of (content ∷ contents) = content ++ content_of contents
-
--- the bytes begin with a body in chunks of at most so many bytes together, and rest follows
-abbrev pub IsChunkedBody : ℕ → List ℕ → List ℕ → List ℕ → Type 0
-IsChunkedBody largest bytes body rest =
-    (contents : List (List ℕ)) × AreChunks false largest bytes contents rest × (body ≡ content_of contents)
-
 -- ---- where none goes on
 
 -- no chunk line ends in the bytes, and they may go on
@@ -104,3 +86,36 @@ IsNoChunk behind bytes =
 -- the bytes open a chunk for which there is no room
 abbrev pub IsLargeChunk : Bool → ℕ → List ℕ → Type 0
 IsLargeChunk behind room bytes = (size : ℕ) × (rest : List ℕ) × OpensChunk behind bytes size rest × (room < size)
+
+-- the bytes open a chunk, and a part of its content follows
+abbrev pub IsCutContent : Bool → ℕ → List ℕ → Type 0
+IsCutContent behind room bytes =
+    (size : ℕ) × (rest : List ℕ) × OpensChunk behind bytes size rest × (size ≤ room) × (length rest < size)
+
+-- ---- a body
+
+-- The bytes end a body there, and rest follows; where it is not whole, these are the bytes that do not go on. The chunk that
+-- would be next stands behind another or not, and has room for so many bytes.
+abbrev pub EndsBody : Bool → ℕ → List ℕ → BodyEnd → List ℕ → Type 0
+EndsBody behind room bytes End.Whole rest = (after : List ℕ) × OpensChunk behind bytes 0 after × BeginsWithTrailers after rest
+EndsBody behind room bytes End.Cut rest = (IsCutChunk behind bytes ⊎ IsCutContent behind room bytes) × (rest ≡ bytes)
+EndsBody behind room bytes End.BadChunk rest = IsNoChunk behind bytes × (rest ≡ bytes)
+EndsBody behind room bytes End.TooLarge rest = IsLargeChunk behind room bytes × (rest ≡ bytes)
+
+-- The bytes are chunks of these contents and then that end, and rest follows. The first of them stands behind another or
+-- not, and all have room for so many bytes.
+abbrev pub AreChunks : Bool → ℕ → List ℕ → List (List ℕ) → BodyEnd → List ℕ → Type 0
+AreChunks behind room bytes [] end rest = EndsBody behind room bytes end rest
+AreChunks behind room bytes (content ∷ contents) end rest =
+    (next : List ℕ) × OpensChunk behind bytes (length content) (content ++ next) × (0 < length content) × (length content ≤ room)
+    × AreChunks true (room - length content) next contents end rest
+
+-- what all chunks hold
+abbrev pub content_of : List (List ℕ) → List ℕ
+content_of [] = []
+content_of (content ∷ contents) = content ++ content_of contents
+
+-- the bytes are a body in chunks of at most so many bytes together, as far as that end, and rest follows
+abbrev pub IsChunkedBody : ℕ → List ℕ → List ℕ → BodyEnd → List ℕ → Type 0
+IsChunkedBody largest bytes body end rest =
+    (contents : List (List ℕ)) × AreChunks false largest bytes contents end rest × (body ≡ content_of contents)
