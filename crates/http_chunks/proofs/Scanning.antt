@@ -2,7 +2,6 @@
 use Rattle.std.proofs.Common.{◌≡◌, ◌≢◌, ℕ, suc, ◌+◌, ◌<◌, ◌≤◌, Bool, List, [], ◌∷◌, ◌++◌, length, get_or, take, drop, slice_range, Option, Some, None, refl, sym, ap, ◌∙◌, arith, add-one, append_assoc, drop-cons, take-append-drop}
 use Rattle.std.proofs.lemmas.List.{take_rest, get_or-drop, length-append, length-drop, length-take, drop_all}
 use Rattle.http_chunks.specs.declared.place.Place.{Place}
-use Rattle.http_chunks.specs.declared.place.TextEnd.{TextEnd}
 use Rattle.http_chunks.specs.declared.place.TextEnd.TheVariants.{Here, Later}
 use Rattle.http_chunks.specs.Scans.{after_byte, then_from, scan_from, opening_start, BeginsWithText}
 use Rattle.http_chunks.specs.Chunks.{opening_limit, OpensChunk}

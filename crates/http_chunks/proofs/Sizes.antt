@@ -1,8 +1,8 @@
 -- Texts that open a chunk, and texts that open none.
-use Rattle.std.proofs.Common.{◌≡◌, ◌≢◌, ℕ, ◌+◌, ◌≤◌, ◌<◌, Bool, true, false, List, [], ◌∷◌, ◌++◌, length, drop, refl, sym, ap, ◌∙◌, subst, arith}
+use Rattle.std.proofs.Common.{◌≡◌, ◌≢◌, ℕ, true, false, List, [], ◌∷◌, length, drop, refl, sym, ap, ◌∙◌, subst, arith}
 use Rattle.std.specs.Prelude.{Option, Some, None, IfSome, IfNone}
-use Rattle.std.proofs.lemmas.List.{append-nil, length-drop, length-append}
-use Rattle.httparse.specs.Grammar.{ChunkLine, ReadsChunkLine, HasNoChunkLine, NeverHasChunkLine, print_chunk_line}
+use Rattle.std.proofs.lemmas.List.{length-drop, length-append}
+use Rattle.httparse.specs.Grammar.{ChunkLine, print_chunk_line}
 use Rattle.httparse.specs.Spans.{IsChunkLineAt}
 use Rattle.httparse.proofs.ChunkLemmas.{chunk_line_unique}
 use Rattle.http_chunks.specs.Chunks.{SaysSize, SaysOpening}

@@ -1,5 +1,5 @@
 -- What the plain reader finds at the front of bytes.
-use Rattle.std.specs.Prelude.{ℕ, ◌<◌, ◌≤◌, ◌++◌, Bool, List, [], length, take}
+use Rattle.std.specs.Prelude.{ℕ, ◌<◌, ◌≤◌, ◌++◌, Bool, List, length, take}
 use Rattle.http_chunks.specs.declared.body.BodyEnd.TheVariants as End
 use Rattle.http_chunks.specs.declared.body.Opening.{Opening}
 use Rattle.http_chunks.specs.declared.body.Opening.TheVariants.{Size, Ended}

@@ -1,4 +1,3 @@
-use Rattle.std.proofs.Common.{sym}
 use Rattle.http_chunks.proofs.Sizes.{first_opens, first_opens_none, next_opens, next_opens_none}
 use Rattle.http_chunks.proofs.chunk_line.read_opening.Goals as goal
 

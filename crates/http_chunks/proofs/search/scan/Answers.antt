@@ -1,6 +1,5 @@
-use Rattle.std.proofs.Common.{◌+◌, ◌≤◌, drop, sym, ap, ◌∙◌, arith, length, take}
-use Rattle.std.proofs.lemmas.List.{take_rest, length-drop}
-use Rattle.http_chunks.specs.Scans.{after_byte, scan_from}
+use Rattle.std.proofs.Common.{◌+◌, sym, ap, ◌∙◌}
+use Rattle.http_chunks.specs.Scans.{after_byte}
 use Rattle.http_chunks.proofs.Scanning.{byte_at, scans_next, scans_last, scans_all, all_passed, next_at}
 use Rattle.http_chunks.proofs.search.scan.Goals as goal
 
