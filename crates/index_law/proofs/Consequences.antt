@@ -66,12 +66,12 @@ holds_at settings history later good legal = holds settings history good (legal_
 -- ---- a settled name
 
 -- the row of a container is one that its zone keeps, under the name of its home
-record IsRowOf (w : World) (zone container : ℕ) (row : Bucket) : Type 0 where
-  home : Home
-  kept : rows_of w.state.root zone home.name ≡ Some row
-  id_is : row.id ≡ container
+pub record IsRowOf (w : World) (zone container : ℕ) (row : Bucket) : Type 0 where
+  pub home : Home
+  pub kept : rows_of w.state.root zone home.name ≡ Some row
+  pub id_is : row.id ≡ container
 
-row_is_of : (w : World) (zone container : ℕ) (row : Bucket) → row_in w.rows w.state zone container ≡ Some row → IsRowOf w zone container row
+pub row_is_of : (w : World) (zone container : ℕ) (row : Bucket) → row_in w.rows w.state zone container ≡ Some row → IsRowOf w zone container row
 row_is_of w zone container row is = by_home (w.rows.homes container) is where
   by_row : (home : Home) (o : Option Bucket) → rows_of w.state.root zone home.name ≡ o → with_id o container ≡ Some row → IsRowOf w zone container row
   by_row home None kept none = cc

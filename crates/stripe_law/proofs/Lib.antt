@@ -7,5 +7,6 @@ pub mod Keeping
 pub mod Made
 pub mod Storing
 pub mod Getting
-pub mod Resting
+pub mod Tailing
+pub mod Frames
 pub mod Staying

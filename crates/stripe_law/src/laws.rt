@@ -15,8 +15,7 @@ ghost use Rattle.realm_model.specs.Accounts.{slot_now};
 ghost use Rattle.realm_model.specs.Maps.{content_of, whole_bytes, heads};
 ghost use Rattle.realm_model.specs.Phases.{ActorId, opened};
 ghost use Rattle.realm_model.specs.Stripes.{has_stripe, IsNamed};
-ghost use Rattle.realm_model.specs.Touches.{is_read};
-ghost use Rattle.realm_model.specs.Worlds.{World, happens};
+ghost use Rattle.realm_model.specs.Worlds.{World, start, happens};
 ghost use Rattle.realm_model.specs.Histories.{world_of, state_of, phase_of, IsNext, Legal};
 ghost use Rattle.realm_model.specs.declared.op.Op.TheVariants.{HeadRead, TailRead};
 ghost use Rattle.realm_model.specs.declared.event.Event.{Event as EventOf};
@@ -34,13 +33,14 @@ pub fn stripes_and_frames_hold()
         → Holds settings (happens settings (world_of settings history) e) }
 {}
 
-/// An event that may come next keeps what holds of stripes, from any world; one that only reads keeps
-/// every part.
+/// From any world, reachable or not, an event that may come next keeps every part; those about heads,
+/// actors and what was made need no other part for it. Every part holds before the first event.
 pub fn events_keep_what_holds()
+    ensures start { (settings : SettingsView) → Holds settings (start settings) }
     ensures events { (settings : SettingsView) (w : World) (e : EventOf)
         → IsNext settings w e → StripesHoldIn w → StripesHoldIn (happens settings w e) }
-    ensures reads { (settings : SettingsView) (w : World) (e : EventOf)
-        → IsNext settings w e → is_read e.op ≡ true → Holds settings w → Holds settings (happens settings w e) }
+    ensures every { (settings : SettingsView) (w : World) (e : EventOf)
+        → IsNext settings w e → Holds settings w → Holds settings (happens settings w e) }
 {}
 
 /// A tail that a live head names exists, with the bytes of its making, as many as the manifest says.

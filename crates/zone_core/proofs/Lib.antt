@@ -6,3 +6,5 @@ pub mod ShardCallLemmas
 pub mod HeadCallLemmas
 pub mod RecordLemmas
 pub mod ReplyLemmas
+pub mod Opening
+pub mod Apart

@@ -1,5 +1,5 @@
 -- When the pool of a zone has the objects of a state.
-use Rattle.std.specs.Prelude.{◌≡◌, ℕ, true, List}
+use Rattle.std.specs.Prelude.{◌≡◌, ℕ, true, List, []}
 use Rattle.rgw_types.specs.declared.pool_key.Key.{Key}
 use Rattle.rgw_types.specs.declared.pool_key.Key.TheVariants.{Root, Head, Tail, Changes}
 use Rattle.object_pool.specs.Objects.{PoolView, object_at}
@@ -21,3 +21,7 @@ pub record Stands (settings : SettingsView) (zone : ℕ) (pool : PoolView) (st :
   pub changes : IsLogObject (object_at pool Changes) (st.changes zone)
   pub frame : pool.frame ≡ settings.frame
   pub free : pool.free ≡ st.free zone
+
+-- the pool of a zone before the first event: all frames are free, and there is no object
+abbrev pub new_pool : SettingsView → PoolView
+new_pool settings = record { frame = settings.frame; frames = settings.frames; free = settings.frames; slots = [] }

@@ -1,0 +1,4 @@
+pub mod Realms
+pub mod Answers
+pub mod Minding
+pub mod Solo

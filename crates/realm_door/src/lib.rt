@@ -1,0 +1,20 @@
+//! Doors, through which actors make events in the history of one realm, and tasks, which do so turn by
+//! turn. Nothing of the realm itself is here: what is proved over a door holds over every door.
+#![tactic(auto)]
+
+mod back;
+mod door;
+mod laws;
+mod running;
+mod task;
+
+pub use back::handed_back;
+pub use door::{Answered, Door};
+pub use laws::{
+    actors_stay_counted, growth_adds_up, others_change_no_doings, own_events_extend_what_is_told,
+};
+pub use running::run;
+pub use task::{Task, TaskTurn};
+
+#[cfg(test)]
+mod tests;
