@@ -1,16 +1,16 @@
 -- A head over the tails of a body shows the body.
-use Rattle.std.proofs.Common.{◌≡◌, ℕ, zero, suc, ◌+◌, ◌*◌, ◌==◌, ◌||◌, ◌&&◌, ◌<◌, ◌≤◌, ◌⊎◌, inl, inr, Bool, true, false, List, [], ◌∷◌, ◌++◌, map, flat_map, take, drop, length, Option, Some, refl, sym, ◌∙◌, ap, arith, add-one}
+use Rattle.std.proofs.Common.{◌≡◌, ℕ, zero, suc, ◌+◌, ◌*◌, ◌==◌, ◌||◌, ◌&&◌, ◌<◌, ◌≤◌, ◌⊎◌, inl, inr, Bool, true, false, List, [], ◌∷◌, ◌++◌, map, flat_map, take, drop, length, Some, refl, sym, ◌∙◌, ap, arith, add-one}
 use Rattle.std.specs.Prelude.{unwrap_or}
 use Rattle.std.specs.List.{concat, range_with_len}
 use Rattle.rgw_types.specs.Stripes.{ManifestView, tails_of}
-use Rattle.manifest.specs.Ranges.{part_size, part_numbers}
+use Rattle.manifest.specs.Ranges.{part_size}
 use Rattle.object_words.specs.declared.head.NewHead.{NewHead}
 use Rattle.object_words.proofs.KeyLemmas.{number_itself}
 use Rattle.realm_model.specs.Tests.{same_numbers}
 use Rattle.realm_model.specs.Maps.{Made, whole_bytes}
-use Rattle.realm_model.specs.Phases.{Bundle, opened, Phase}
+use Rattle.realm_model.specs.Phases.{opened, Phase}
 use Rattle.realm_model.specs.Needs.{has_sizes, tail_sizes, has_parts}
-use Rattle.task_put.specs.Bodies.{first_bytes, tail_bytes, parts_cut}
+use Rattle.task_put.specs.Bodies.{first_bytes, tail_bytes}
 use Rattle.task_put.specs.Changes.{IsHeadOf, AreTailsOf}
 use Rattle.task_put.proofs.Cutting.{part_length, lengths, cut_whole}
 

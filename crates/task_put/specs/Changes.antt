@@ -1,5 +1,5 @@
 -- What a PUT gives the head of its object, and what its tails then have.
-use Rattle.std.specs.Prelude.{◌≡◌, ◌≤◌, ◌<◌, ℕ, List, length, Option, Some, unwrap_or}
+use Rattle.std.specs.Prelude.{◌≡◌, ◌≤◌, ◌<◌, ℕ, List, length, Some, unwrap_or}
 use Rattle.md5.specs.Md5.{md5}
 use Rattle.rgw_types.specs.Stripes.{tails_of}
 use Rattle.rgw_model.specs.Answers.{default_kind}
