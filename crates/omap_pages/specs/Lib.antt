@@ -1,5 +1,6 @@
 pub mod Cells
 pub mod Contents
+pub mod Heads
 pub mod LeafLending
 pub mod Leaves
 pub mod LeavesLending

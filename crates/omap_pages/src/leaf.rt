@@ -2,12 +2,14 @@
 ghost use Rattle.std.specs.Prelude.{◌≡◌, ◌+◌, ◌<◌, ◌≤◌, ◌==◌, ◌/◌, ◌↔◌, [], ◌++◌, length, take, drop, vec_len, vec_capacity, slice_index_or, IsTrue, IfOk, IfErr};
 ghost use Rattle.std.specs.FinMap.Entries.{is_sorted};
 ghost use Rattle.std.specs.List.{insert, remove, remove_range};
+ghost use Rattle.omap_pages.specs.Heads.{IsHead};
 ghost use Rattle.omap_pages.specs.Leaves.{first_key_of};
 ghost use Rattle.omap_pages.specs.Places.{IsAt, IsGapFor};
 ghost use Rattle.omap_pages.specs.Rows.{key_cmp};
 
 use crate::row::Row;
 use std::alloc::{AllocError, Global};
+use std::cmp::Ordering;
 use std::marker::Model;
 
 // The most rows of a leaf.
@@ -70,25 +72,28 @@ impl Leaf {
         self.rows.as_slice()
     }
 
-    // The key of the first row. Where there is none it is the empty key.
-    pub(crate) fn first_key(&self) -> &[u8]
-        ensures { result.now ≡ first_key_of self.now }
+    // How the key of the first row compares with one that has this head. Where there is no row it
+    // is the empty key.
+    pub(crate) fn cmp_first_key(&self, key: &[u8], head: u64) -> Ordering
+        requires { IsHead key.now head }
+        ensures { result ≡ key_cmp (first_key_of self.now) key.now }
     {
         match self.rows.first() {
-            Some(row) => row.key(),
-            None => &[],
+            Some(row) => row.cmp_key(key, head),
+            None => b"".as_slice().cmp(key),
         }
     }
 
-    // The place of the key, or the place where it would go.
-    pub(crate) fn search(&self, key: &[u8]) -> Result<usize, usize>
-        requires { IsTrue (is_sorted key_cmp self.now) }
+    // The place of the key, which has this head, or the place where it would go.
+    pub(crate) fn search(&self, key: &[u8], head: u64) -> Result<usize, usize>
+        requires in_order { IsTrue (is_sorted key_cmp self.now) }
+        requires head { IsHead key.now head }
         ensures found { IfOk result (IsAt self.now key.now) }
         ensures absent { IfErr result (IsGapFor self.now key.now) }
     {
         self.rows
             .as_slice()
-            .binary_search_by(|row| row.key().cmp(key))
+            .binary_search_by(|row| row.cmp_key(key, head))
     }
 
     pub(crate) fn row(&self, at: usize) -> &Row

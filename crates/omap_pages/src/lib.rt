@@ -3,6 +3,7 @@
 #![tactic(auto)]
 
 mod error;
+mod head;
 mod leaf;
 mod leaves;
 mod lookup;

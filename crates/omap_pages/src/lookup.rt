@@ -6,6 +6,7 @@ ghost use Rattle.omap_pages.specs.Leaves.{flat, position, AreLeaves, IsPlace, Is
 ghost use Rattle.omap_pages.specs.Places.{IsAt, IsGapFor, IsPartedAt};
 ghost use Rattle.omap_pages.specs.Rows.{key_cmp};
 
+use crate::head::head_of;
 use crate::leaf::Leaf;
 use crate::place::Place;
 
@@ -22,12 +23,13 @@ pub(crate) fn search(leaves: &[Leaf], key: &[u8]) -> Result<Place, Place>
     ensures leaf { IfErr result (λ place.
         0 < length leaves.now → place.leaf < length leaves.now) }
 {
-    match leaves.binary_search_by(|leaf| leaf.first_key().cmp(key)) {
+    let head = head_of(key);
+    match leaves.binary_search_by(|leaf| leaf.cmp_first_key(key, head)) {
         Ok(leaf) => Ok(Place { leaf, row: 0 }),
         Err(0) => Err(Place { leaf: 0, row: 0 }),
         Err(above) => {
             let leaf = above - 1;
-            match leaves[leaf].search(key) {
+            match leaves[leaf].search(key, head) {
                 Ok(row) => Ok(Place { leaf, row }),
                 Err(row) => Err(Place { leaf, row }),
             }

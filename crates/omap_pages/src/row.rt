@@ -1,14 +1,20 @@
 ghost use Rattle.std.specs.Prelude.{◌≡◌, ◌+◌, ◌≤◌, ◌++◌, length, max, vec_len, vec_capacity, IsOk, OnOk, OnErr};
 ghost use Rattle.std.specs.List.{splice};
 ghost use Rattle.omap_pages.specs.Cells.{values_of};
+ghost use Rattle.omap_pages.specs.Heads.{IsHead};
+ghost use Rattle.omap_pages.specs.Rows.{key_cmp};
 
+use crate::head::head_of;
 use rgw_types::Bytes;
 use std::alloc::{AllocError, Global};
+use std::cmp::Ordering;
 use std::marker::Model;
 
 // A key and its value. The room of the row is the capacity of the value's buffer.
+// The key's head stands in the row itself, so that most comparisons follow no pointer.
 #[derive(Debug, Drop)]
 pub(crate) struct Row {
+    head: u64,
     key: Vec<u8>,
     value: Vec<u8>,
 }
@@ -16,11 +22,14 @@ pub(crate) struct Row {
 impl Model for Row {
     ghost use Rattle.std.specs.Prelude.{ℕ, List, vec_capacity};
     ghost use Rattle.omap_pages.specs.Cells.{Cell};
+    ghost use Rattle.omap_pages.specs.Heads.{IsHead};
 
     ghost Value = { List ℕ × Cell };
 
     ghost view = { λ row.
         (row.key.items, record { value = row.value.items; room = vec_capacity row.value }) };
+
+    ghost invariant = { λ row. IsHead row.key.items row.head };
 }
 
 impl Row {
@@ -29,7 +38,20 @@ impl Row {
         ensures value { result.1.value ≡ value.items }
         ensures fits { length value.items ≤ result.1.room }
     {
-        Row { key, value }
+        let head = head_of(key.as_slice());
+        Row { head, key, value }
+    }
+
+    // How the row's key compares with one that has this head.
+    pub(crate) fn cmp_key(&self, key: &[u8], head: u64) -> Ordering
+        requires { IsHead key.now head }
+        ensures { result ≡ key_cmp self.now.0 key.now }
+    {
+        if self.head == head {
+            self.key.as_slice().cmp(key)
+        } else {
+            self.head.cmp(&head)
+        }
     }
 
     pub(crate) fn key(&self) -> &[u8]

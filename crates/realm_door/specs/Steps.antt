@@ -1,10 +1,9 @@
 -- What a door's calls leave of what it tells.
-use Rattle.std.specs.Prelude.{◌≡◌, ◌≢◌, ℕ, ◌+◌, ◌^◌, ◌<◌, ◌≤◌, ◌⊎◌, Bool, true, false, if◌then◌else◌, List, [], ◌∷◌, ◌++◌, length, Option, Some, None}
-use Rattle.object_words.specs.declared.head.SeenSlot.{SeenSlot}
+use Rattle.std.specs.Prelude.{◌≡◌, ◌≢◌, ℕ, ◌+◌, ◌^◌, ◌<◌, ◌≤◌, ◌⊎◌, true, false, if◌then◌else◌, List, [], ◌∷◌, ◌++◌, length, Option, Some, None}
 use Rattle.realm_model.specs.Settings.{SettingsView}
 use Rattle.realm_model.specs.Phases.{ActorId}
 use Rattle.realm_model.specs.Allowed.{allowed}
-use Rattle.realm_model.specs.Maps.{Maps, Made, slot_at, heads}
+use Rattle.realm_model.specs.Maps.{Maps, slot_at, heads}
 use Rattle.realm_model.specs.Histories.{Doings, world_of, state_of, phase_of, doings_of, done, answer_after, Legal}
 use Rattle.realm_model.specs.Owns.{OwnEvent, own_events}
 use Rattle.realm_model.specs.Doors.{DoorView, actor_at, mine, NoneByPass}

@@ -7,7 +7,7 @@ ghost use Rattle.swift_auth.specs.UsersTexts.{if_user};
 
 use crate::UsersFault;
 use rgw_types::Text;
-use std::alloc::Global;
+use std::alloc::{AllocError, Global};
 use std::marker::Model;
 
 /// The most bytes of an account, and of a name in it.
@@ -97,6 +97,21 @@ impl User {
         ensures { result ≡ (bytes_eq self.now.full_name full_name.now && bytes_eq self.now.key key.now) }
     {
         self.full_name.as_bytes() == full_name && are_same(self.key.as_bytes(), key)
+    }
+}
+
+impl Clone for User {
+    ghost use Rattle.std.specs.Prelude.{◌≡◌};
+
+    ghost is_clone = { λ user copy. copy ≡ user };
+
+    fn clone(&self) -> Result<User, AllocError> {
+        Ok(User {
+            account: self.account.clone()?,
+            full_name: self.full_name.clone()?,
+            key: self.key.clone()?,
+            token: self.token.clone()?,
+        })
     }
 }
 

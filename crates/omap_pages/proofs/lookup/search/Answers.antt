@@ -8,8 +8,8 @@ use Rattle.omap_pages.specs.Rows.{key_cmp}
 use Rattle.omap_pages.proofs.DirectoryLemmas.{sorted_leaf, comparisons_of_first_keys_rise, found_first, gap_before_all, found_within, gap_within}
 use Rattle.omap_pages.proofs.lookup.search.Goals as goal
 
-pub search-requires : goal.search-requires
-search-requires c =
+pub search-requires-clause-in_order : goal.search-requires-clause-in_order
+search-requires-clause-in_order c =
     let leaves = c.args.leaves.now in
     let at = c.in-Err.above - 1 in
     let lt : at < length leaves = omega (arith, c.in-Err.ensures.bound, c.in-Err.above-test.1) in

@@ -1,0 +1,86 @@
+//! A pool of objects, each with attributes, and calls on one after another.
+use crate::rows::mixed;
+use object_pool::{Bytes, Key, OutOfMemory, Pool};
+use rgw_types::Text;
+use std::alloc::Global;
+
+// The head of an object, whose name comes by chance.
+fn key_of(alloc: Global, number: u64) -> Result<Key, OutOfMemory> {
+    let mixed = mixed(number);
+    let name = format!(in alloc; "photos/{mixed:016x}")?;
+    Ok(Key::Head {
+        container: 7,
+        name: Text::from_string(name),
+    })
+}
+
+/// A pool with the objects of the first numbers, and keys of some of them.
+#[derive(Drop)]
+pub struct Objects {
+    alloc: Global,
+    pool: Pool,
+    count: u64,
+    picked: u64,
+    keys: Vec<Key>,
+}
+
+impl Objects {
+    pub fn new(alloc: Global, count: u64) -> Result<Objects, OutOfMemory> {
+        let mut pool = Pool::new(alloc, 1, 16)?;
+        for number in 0..count {
+            let key = key_of(alloc, number)?;
+            let attrs = Bytes::from_slice(alloc, &[b'a'; 64])?;
+            pool.place(alloc, &key)?.set_attrs(attrs);
+        }
+        Ok(Objects {
+            alloc,
+            pool,
+            count,
+            picked: 0,
+            keys: Vec::new(alloc),
+        })
+    }
+
+    /// Picks so many objects by chance.
+    pub fn pick(&mut self, count: u64) -> Result<(), OutOfMemory> {
+        self.keys.clear();
+        for _ in 0..count {
+            self.picked = self.picked.wrapping_add(1);
+            let number = mixed(self.picked) % self.count.max(1);
+            self.keys.push(key_of(self.alloc, number)?)?;
+        }
+        Ok(())
+    }
+
+    /// Reads and changes each picked object as a class call does, and says how many there were.
+    pub fn change_picked(&mut self) -> Result<u64, OutOfMemory> {
+        let mut changed = 0_u64;
+        for key in &self.keys {
+            if change(self.alloc, &mut self.pool, key)? {
+                changed = changed.wrapping_add(1);
+            }
+        }
+        Ok(changed)
+    }
+
+    /// Picks some and changes them.
+    pub fn change_some(&mut self, count: u64) -> Result<u64, OutOfMemory> {
+        self.pick(count)?;
+        self.change_picked()
+    }
+}
+
+// One find and six calls of the place.
+fn change(alloc: Global, pool: &mut Pool, key: &Key) -> Result<bool, OutOfMemory> {
+    let Some(mut place) = pool.find(key) else {
+        return Ok(false);
+    };
+    let some = !place.attrs().is_empty();
+    let absent = place.row(b"row").is_none();
+    let row = Bytes::from_slice(alloc, b"row")?;
+    let value = Bytes::from_slice(alloc, b"value")?;
+    place.put_row(alloc, row, value)?;
+    let there = place.row(b"row").is_some();
+    let taken = place.take_row(b"row");
+    Ok(some && absent && there && taken && place.exists())
+}

@@ -1,0 +1,85 @@
+//! A map of rows whose keys came by chance.
+use omap_pages::{Omap, OutOfMemory};
+use rgw_types::Bytes;
+use std::alloc::Global;
+
+/// A number that looks like chance, another one for each.
+pub fn mixed(number: u64) -> u64 {
+    let mut mixed = number.wrapping_add(1).wrapping_mul(0x9e37_79b9_7f4a_7c15);
+    mixed = (mixed ^ (mixed >> 30)).wrapping_mul(0xbf58_476d_1ce4_e5b9);
+    mixed = (mixed ^ (mixed >> 27)).wrapping_mul(0x94d0_49bb_1331_11eb);
+    mixed ^ (mixed >> 31)
+}
+
+// A key of 16 bytes.
+fn key_of(number: u64) -> [u8; 16] {
+    let mut key = [0; 16];
+    key[..8].copy_from_slice(&mixed(number).to_be_bytes());
+    key[8..].copy_from_slice(&number.to_be_bytes());
+    key
+}
+
+/// A map with the rows of the first numbers.
+#[derive(Drop)]
+pub struct SampleRows {
+    alloc: Global,
+    omap: Omap,
+    count: u64,
+    picked: u64,
+}
+
+impl SampleRows {
+    pub fn new(alloc: Global, count: u64) -> Result<SampleRows, OutOfMemory> {
+        let mut rows = SampleRows {
+            alloc,
+            omap: Omap::new(alloc)?,
+            count,
+            picked: 0,
+        };
+        rows.put_from(0, count)?;
+        Ok(rows)
+    }
+
+    fn put_from(&mut self, first: u64, count: u64) -> Result<(), OutOfMemory> {
+        for at in 0..count {
+            let key = Bytes::from_slice(self.alloc, &key_of(first.wrapping_add(at)))?;
+            let value = Bytes::from_slice(self.alloc, &[b'v'; 64])?;
+            self.omap.put(key, value)?;
+        }
+        Ok(())
+    }
+
+    /// Puts rows of so many further numbers.
+    pub fn put_new(&mut self, count: u64) -> Result<(), OutOfMemory> {
+        self.put_from(self.count, count)
+    }
+
+    /// Removes them.
+    pub fn remove_new(&mut self, count: u64) {
+        for at in 0..count {
+            self.omap.remove(&key_of(self.count.wrapping_add(at)));
+        }
+    }
+
+    /// Gets rows by chance, and says how many were there.
+    pub fn get_some(&mut self, count: u64) -> u64 {
+        let mut found = 0_u64;
+        for _ in 0..count {
+            self.picked = self.picked.wrapping_add(1);
+            let number = mixed(self.picked) % self.count.max(1);
+            if self.omap.get(&key_of(number)).is_some() {
+                found = found.wrapping_add(1);
+            }
+        }
+        found
+    }
+
+    /// Takes a page of 100 rows from a place by chance in the first half.
+    pub fn page(&mut self) -> Result<usize, OutOfMemory> {
+        self.picked = self.picked.wrapping_add(1);
+        let mut after = key_of(mixed(self.picked));
+        after[0] /= 2;
+        let page = self.omap.page(self.alloc, &after, 100)?;
+        Ok(page.rows.len())
+    }
+}

@@ -1,0 +1,246 @@
+ghost use Rattle.std.specs.Prelude.{◌≡◌, ◌≤◌, IfOk, None};
+ghost use Rattle.realm_model.specs.Settings.{SettingsView};
+ghost use Rattle.realm_model.specs.Doors.{DoorView, actor_at};
+ghost use Rattle.task_container.specs.Stages.{IsOpen, op_of, step_of, row_shown, header_shown, header_step, after_look, after_header, after_left, request_of, fits};
+ghost use Rattle.realm_model.specs.Accounts.{blank};
+ghost use Rattle.realm_model.specs.Histories.{account_of};
+
+use crate::counting::Counting;
+use crate::request::ContainerRequest;
+use object_words::{Bucket, ShardStats};
+use realm_door::{Door, Task, TaskTurn};
+use realm_model::{Op, Reply};
+use std::alloc::{AllocError, Global};
+use std::mem::replace;
+use swift_auth::Deed;
+use task_words::{Asker, MapReply, Outcome};
+use turn_cell::DoorFault;
+
+/// So many answers Moved or Closed end a task.
+const MOST_MOVED: u32 = 16;
+
+/// Where a task stands.
+#[derive(Debug, Drop)]
+pub enum Stage {
+    /// The row comes next.
+    Look,
+    /// The header of a shard comes next.
+    Count(Counting),
+    Ended(Outcome),
+}
+
+/// A request for a container: the row is read, and then the header of each shard by its number. Where a
+/// shard no longer serves, the row is read again and the counts begin again.
+#[derive(Drop)]
+pub struct ContainerTask {
+    request: ContainerRequest,
+    stage: Stage,
+    /// How many answers were Moved or Closed.
+    moved: u32,
+    fault: Option<DoorFault>,
+}
+
+impl ContainerTask {
+    /// A task that made no event.
+    pub fn new(request: ContainerRequest) -> ContainerTask
+        ensures request { request_of result ≡ request }
+        ensures fits { (settings : SettingsView) (d : DoorView) → 1 ≤ request.zone → request.zone ≤ settings.zones
+            → account_of settings d.seen (actor_at d) ≡ blank → fits result settings d }
+    {
+        ContainerTask {
+            request,
+            stage: Stage::Look,
+            moved: 0,
+            fault: None,
+        }
+    }
+
+    /// The operation that comes next.
+    fn next_op(&self) -> Result<Op, AllocError>
+        requires { IsOpen self.now.stage }
+        ensures { IfOk result (λ op. op ≡ op_of self.now.request self.now.stage) }
+    {
+        let zone = self.request.zone;
+        match &self.stage {
+            Stage::Count(counting) => Ok(Op::Stats {
+                zone,
+                key: counting.key(),
+            }),
+            _ => Ok(Op::BucketRead {
+                zone,
+                name: self.request.command.name().clone()?,
+            }),
+        }
+    }
+
+    /// Goes on by the answer to that operation.
+    fn take(&mut self, reply: Reply)
+        ensures request { self.new.request ≡ self.old.request }
+        ensures fault { self.new.fault ≡ self.old.fault }
+        ensures stage { self.new.stage ≡ (step_of self.old.request.asker self.old.stage self.old.moved reply).0 }
+        ensures moved { self.new.moved ≡ (step_of self.old.request.asker self.old.stage self.old.moved reply).1 }
+    {
+        let stage = replace(&mut self.stage, Stage::Look);
+        let (stage, moved) = next_stage(&self.request.asker, stage, self.moved, reply);
+        self.stage = stage;
+        self.moved = moved;
+    }
+}
+
+/// The stage after an answer, and how many were Moved or Closed.
+fn next_stage(asker: &Asker, stage: Stage, moved: u32, reply: Reply) -> (Stage, u32)
+    ensures { result ≡ step_of asker.now stage moved reply }
+{
+    match stage {
+        Stage::Look => (stage_by_row(asker, row_in(reply)), moved),
+        Stage::Count(counting) => stage_by_header(counting, moved, header_in(reply)),
+        Stage::Ended(outcome) => (Stage::Ended(outcome), moved),
+    }
+}
+
+/// The row that an answer shows.
+fn row_in(reply: Reply) -> Option<Bucket>
+    ensures { result ≡ row_shown reply }
+{
+    match reply {
+        Reply::Row(row) => Some(row),
+        _ => None,
+    }
+}
+
+/// The header that an answer shows.
+fn header_in(reply: Reply) -> Option<ShardStats>
+    ensures { result ≡ header_shown reply }
+{
+    match reply {
+        Reply::Stats(stats) => Some(stats),
+        _ => None,
+    }
+}
+
+/// By a shard's header, or that it no longer serves.
+fn stage_by_header(counting: Counting, moved: u32, header: Option<ShardStats>) -> (Stage, u32)
+    ensures { result ≡ header_step counting moved header }
+{
+    match header {
+        Some(stats) => (stage_by_counting(counting.with(stats)), moved),
+        None => {
+            let moved = moved.saturating_add(1);
+            (stage_when_moved(moved), moved)
+        }
+    }
+}
+
+/// By the row that was read, or that none is.
+fn stage_by_row(asker: &Asker, row: Option<Bucket>) -> Stage
+    ensures { result ≡ after_look asker.now row }
+{
+    match asker.refusal(row.as_ref(), Deed::ListContainer) {
+        Some(refusal) => Stage::Ended(Outcome::Done(MapReply::Refused(refusal))),
+        None => match row {
+            Some(row) => stage_by_counting(Counting::new(row)),
+            None => unreachable!(),
+        },
+    }
+}
+
+/// The next shard, or the counts of all.
+fn stage_by_counting(counting: Counting) -> Stage
+    ensures { result ≡ after_header counting }
+{
+    let Counting {
+        row,
+        next,
+        objects,
+        bytes,
+    } = counting;
+    if next < row.shards.get() {
+        Stage::Count(Counting {
+            row,
+            next,
+            objects,
+            bytes,
+        })
+    } else {
+        Stage::Ended(Outcome::Done(MapReply::Counted {
+            row,
+            objects,
+            bytes,
+        }))
+    }
+}
+
+/// After so many answers Moved or Closed.
+fn stage_when_moved(moved: u32) -> Stage
+    ensures { result ≡ after_left moved }
+{
+    if moved < MOST_MOVED {
+        Stage::Look
+    } else {
+        Stage::Ended(Outcome::MovedOften)
+    }
+}
+
+impl Task for ContainerTask {
+    ghost use Rattle.std.specs.Prelude.{[], None};
+    ghost use Rattle.task_container.specs.Stages.{IsOver, request_of, fits};
+    ghost use Rattle.task_container.specs.Counts.{IsContainerOutcome};
+    ghost use Rattle.realm_model.specs.Histories.{account_of};
+    ghost use Rattle.realm_model.specs.Owns.{own_events};
+    ghost use Rattle.realm_model.specs.Doors.{actor_at};
+
+    type Command = ContainerRequest;
+
+    type Outcome = Outcome;
+
+    ghost command = { request_of };
+
+    ghost fits = { fits };
+
+    ghost means = { λ request outcome settings d. IsContainerOutcome request outcome
+        (account_of settings d.seen (actor_at d)) (own_events d.seen (actor_at d)) };
+
+    ghost is_ended = { λ t. IsOver t.stage × (t.fault ≡ None) };
+
+    ghost fault = { λ t. t.fault };
+
+    ghost piece = { λ t. [] };
+
+    ghost given = { λ t. 0 };
+
+    #[tactic(auto, using(crate::proofs::Turning::fits_next, crate::proofs::Turning::may_step))]
+    fn turn<D: Door>(
+        &mut self,
+        alloc: Global,
+        door: &mut D,
+        moment: u64,
+    ) -> Result<TaskTurn, DoorFault> {
+        if let Some(fault) = self.fault {
+            return Err(fault);
+        }
+        if let Stage::Ended(_) = &self.stage {
+            return Ok(TaskTurn::Done);
+        }
+        let Ok(op) = self.next_op() else {
+            self.fault = Some(DoorFault::OutOfMemory);
+            return Err(DoorFault::OutOfMemory);
+        };
+        match door.step(alloc, op, moment) {
+            Ok(answered) => {
+                self.take(answered.reply);
+                Ok(TaskTurn::More)
+            }
+            Err(stopped) => {
+                self.fault = Some(stopped.fault);
+                Err(stopped.fault)
+            }
+        }
+    }
+
+    fn outcome(&self) -> Option<&Outcome> {
+        match (&self.stage, self.fault) {
+            (Stage::Ended(outcome), None) => Some(outcome),
+            _ => None,
+        }
+    }
+}

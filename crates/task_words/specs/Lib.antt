@@ -1,0 +1,5 @@
+pub mod Spans
+pub mod Answers
+pub mod Rows
+pub mod Outcomes
+pub mod KnownAnswers

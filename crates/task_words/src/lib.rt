@@ -1,0 +1,25 @@
+//! The words of tasks: who asks for what, how a task ends, and what each end means in the account of the
+//! events that its actor made.
+#![tactic(auto)]
+
+mod asker;
+mod command;
+mod known;
+mod laws;
+mod outcome;
+mod reply;
+mod span;
+
+pub use asker::Asker;
+pub use command::{BodyEnd, GetCommand, PutCommand};
+pub use known::{
+    conditions_are_answered_so, known_actors_ended_so, puts_are_answered_so,
+    ranges_are_answered_so, rows_are_refused_so,
+};
+pub use laws::outcomes_stay;
+pub use outcome::Outcome;
+pub use reply::{MapReply, Refusal};
+pub use span::{ByteRange, Span, bytes_taken};
+
+#[cfg(test)]
+mod tests;
