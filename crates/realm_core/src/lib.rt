@@ -10,6 +10,3 @@ mod zones;
 pub use object_pool::OutOfMemory;
 pub use realm::Realm;
 pub use solo::SoloDoor;
-
-#[cfg(test)]
-mod tests;

@@ -1,7 +1,7 @@
-ghost use Rattle.std.specs.Prelude.{◌≡◌, ◌≢◌, IfOk, IfErr, Some};
+ghost use Rattle.std.specs.Prelude.{◌≡◌, ◌≢◌, ◌≤◌, length, IfOk, IfErr, Some};
 ghost use Rattle.realm_model.specs.Histories.{Legal};
 ghost use Rattle.realm_door.specs.Steps.{Grows};
-ghost use Rattle.realm_door.specs.declared.task.TaskTurn.TheVariants.{More, Done};
+ghost use Rattle.realm_door.specs.declared.task.TaskTurn.TheVariants.{More, Wants, Gives, Done};
 
 use crate::door::Door;
 use crate::task::{Task, TaskTurn};
@@ -24,6 +24,8 @@ pub fn run<T: Task, D: Door>(
     ensures grows { D.tells → Grows (D.settings door.old) (D.told door.old) (D.told door.new) }
     ensures command { T.command task.new ≡ T.command task.old }
     ensures paused { IfOk result (λ turn. turn ≢ More) }
+    ensures wants { IfOk result (λ turn. turn ≡ Wants → T.wants task.new) }
+    ensures gives { IfOk result (λ turn. turn ≡ Gives → 1 ≤ length (T.piece task.new)) }
     ensures done { IfOk result (λ turn. turn ≡ Done → T.is_ended task.new) }
     ensures faulted { IfErr result (λ f. T.fault task.new ≡ Some f) }
     ensures settings { D.settings door.new ≡ D.settings door.old }

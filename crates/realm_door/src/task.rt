@@ -26,7 +26,7 @@ pub trait Task {
     ghost use Rattle.realm_model.specs.Histories.{Legal};
     ghost use Rattle.realm_model.specs.Doors.{DoorView};
     ghost use Rattle.realm_door.specs.Turns.{Turned, Counts, Given};
-    ghost use Rattle.realm_door.specs.declared.task.TaskTurn.TheVariants.{Done};
+    ghost use Rattle.realm_door.specs.declared.task.TaskTurn.TheVariants.{Wants, Done};
 
     /// What is asked. No value of it is made.
     type Command;
@@ -55,6 +55,10 @@ pub trait Task {
     /// How many bytes all turns so far have given.
     ghost given: { Self → ℕ };
 
+    /// Whether the task takes bytes. A task that never wants any says here that it does not; left out,
+    /// it says nothing.
+    ghost wants: { Self → Type 0 } = { λ _. Unit {0} };
+
     /// Goes on by at most one event. After a fault it only answers that fault again, and once the outcome
     /// is there it makes no event.
     fn turn<D: Door>(
@@ -73,6 +77,7 @@ pub trait Task {
             D.tells → Turned (D.settings door.old) turn moment (D.told door.old) (D.told door.new)) }
         ensures counts { IfOk result (λ turn. Counts turn (D.last door.old) (D.last door.new)) }
         ensures given { IfOk result (λ turn. Given turn (given self.old) (piece self.new) (given self.new)) }
+        ensures wants { IfOk result (λ turn. turn ≡ Wants → wants self.new) }
         ensures command { command self.new ≡ command self.old }
 
         ensures done { IfOk result (λ turn. turn ≡ Done → is_ended self.new) }

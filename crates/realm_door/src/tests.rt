@@ -106,6 +106,8 @@ impl Task for CountTask {
 
     ghost given = { λ t. 0 };
 
+    ghost wants = { λ t. ⊥ };
+
     fn turn<D: Door>(
         &mut self,
         alloc: Global,

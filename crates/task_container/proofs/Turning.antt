@@ -2,13 +2,13 @@
 use Rattle.std.proofs.Common.{◌≡◌, ℕ, ◌+◌, ◌<◌, ◌≤◌, true, nat_le, List, [], ◌∷◌, ◌++◌, length, refl, sym, ◌∙◌, ap, subst, arith}
 use Rattle.std.proofs.lemmas.Bool.Decides.{nat_tests}
 use Rattle.realm_model.specs.Settings.{SettingsView}
-use Rattle.realm_model.specs.Accounts.{Account, accounted}
+use Rattle.realm_model.specs.Accounts.{accounted}
 use Rattle.realm_model.specs.Needs.{is_between}
 use Rattle.realm_model.specs.Allowed.{allowed}
 use Rattle.realm_model.specs.Doors.{DoorView, actor_at}
 use Rattle.realm_model.specs.Histories.{Doings, account_of, world_of}
 use Rattle.realm_model.specs.Maps.{heads}
-use Rattle.realm_model.specs.Owns.{OwnEvent, own_events}
+use Rattle.realm_model.specs.Owns.{own_events}
 use Rattle.realm_model.specs.Phases.{ActorId, Phase}
 use Rattle.realm_model.specs.Suits.{Suits}
 use Rattle.realm_model.specs.declared.op.Op.{Op}
@@ -47,8 +47,7 @@ fits_next settings d e t u op moment a is_open op_is suits request stage moved f
     let by_events = subst (λ es. FitsAt t.request (step_of t.request.asker t.stage t.moved a.reply).0 (step_of t.request.asker t.stage t.moved a.reply).1 (account_of settings e.seen (actor_at e)) es a.number) (sym events) by_account in
     let by_number = subst (λ n. FitsAt t.request (step_of t.request.asker t.stage t.moved a.reply).0 (step_of t.request.asker t.stage t.moved a.reply).1 (account_of settings e.seen (actor_at e)) (own_events e.seen (actor_at e)) n) number by_events in
     let by_stage = subst (λ s. FitsAt t.request s (step_of t.request.asker t.stage t.moved a.reply).1 (account_of settings e.seen (actor_at e)) (own_events e.seen (actor_at e)) (length e.seen)) (sym stage) by_number in
-    let by_moved = subst (λ m. FitsAt t.request u.stage m (account_of settings e.seen (actor_at e)) (own_events e.seen (actor_at e)) (length e.seen)) (sym moved) by_stage in
-    (
+    let by_moved = subst (λ m. FitsAt t.request u.stage m (account_of settings e.seen (actor_at e)) (own_events e.seen (actor_at e)) (length e.seen)) (sym moved) by_stage in (
       subst (λ (r : ContainerRequest). 1 ≤ r.zone) (sym request) f.0,
       subst (λ (r : ContainerRequest). r.zone ≤ settings.zones) (sym request) f.1,
       subst (λ r. FitsAt r u.stage u.moved (account_of settings e.seen (actor_at e)) (own_events e.seen (actor_at e)) (length e.seen)) (sym request) by_moved,

@@ -21,6 +21,8 @@ ghost use Rattle.realm_model.specs.KnownWords as words;
 ghost use Rattle.realm_model.specs.TailsAreRead as tails;
 ghost use Rattle.realm_model.specs.NoSpace as no_space;
 ghost use Rattle.realm_model.specs.ExpiredTagIsPreparedAgain as expired;
+ghost use Rattle.realm_model.specs.StoppedWriterIsRepaired as stopped;
+ghost use Rattle.rgw_types.specs.declared.stamp.Stamp.{Stamp as StampOf};
 
 /// Ranges of the letters a to z, and of an object without bytes.
 pub fn ranges_are_answered_so()
@@ -123,4 +125,18 @@ pub fn known_actors_ended_so()
     ensures late_once { ¬ (IsPutOutcome 1 (known.asker (Some standard_user)) (known.stores known.always)
         (known.put_whole (codes "hello")) LateTag
         (account_of words.usual expired.history (words.actor 2)) (own_events expired.history (words.actor 2))) }
+{}
+
+/// A writer whose tag's deadline passed once stored its object, if the digest is that of `hello`; one that
+/// changed the head and stopped before it completed did not end so.
+#[tactic(auto, unfolding(object_words::specs::Names::at, object_words::specs::Names::none, object_words::specs::Names::with_name))]
+pub fn known_writers_ended_so()
+    ensures stored { md5 (codes "hello") ≡ (words.hello 4).etag
+        → IsPutOutcome 1 (known.asker (Some standard_user)) (known.stores known.always)
+        (known.put_whole (codes "hello")) (Done (Stored (words.hello 4).etag (words.stamp 120000000)))
+        (account_of words.usual expired.history (words.actor 2)) (own_events expired.history (words.actor 2)) }
+    ensures uncompleted { (etag : List ℕ) (stamp : StampOf)
+        → ¬ (IsPutOutcome 1 (known.asker (Some standard_user)) (known.stores known.always)
+        (known.put_whole (codes "hello")) (Done (Stored etag stamp))
+        (account_of words.usual stopped.history (words.actor 2)) (own_events stopped.history (words.actor 2))) }
 {}

@@ -13,8 +13,8 @@ mod span;
 pub use asker::Asker;
 pub use command::{BodyEnd, GetCommand, PutCommand};
 pub use known::{
-    conditions_are_answered_so, known_actors_ended_so, puts_are_answered_so,
-    ranges_are_answered_so, rows_are_refused_so,
+    conditions_are_answered_so, known_actors_ended_so, known_writers_ended_so,
+    puts_are_answered_so, ranges_are_answered_so, rows_are_refused_so,
 };
 pub use laws::outcomes_stay;
 pub use outcome::Outcome;

@@ -10,6 +10,3 @@ mod steps;
 
 pub use laws::{a_new_pool_has_the_opening, events_leave_room, operations_keep_other_zones};
 pub use performing::perform;
-
-#[cfg(test)]
-mod tests;

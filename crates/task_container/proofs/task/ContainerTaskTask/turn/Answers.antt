@@ -1,8 +1,7 @@
-use Rattle.std.proofs.Common.{rules, ◌≡◌, ◌≤◌, ◌<◌, ◌^◌, sym, subst}
+use Rattle.std.proofs.Common.{rules, ◌≤◌, ◌<◌, ◌^◌, sym, subst}
 use Rattle.realm_model.specs.Histories.{Legal}
 use Rattle.realm_model.specs.Suits.{Suits}
-use Rattle.realm_door.specs.Turns.{MakesEvent}
-use Rattle.task_container.specs.Stages.{IsOpen, op_of, fits}
+use Rattle.task_container.specs.Stages.{IsOpen, fits}
 use Rattle.task_container.proofs.Turning.{fits_next, not_over, is_open_of}
 use Rattle.task_container.proofs.task.ContainerTaskTask.turn.Goals as goal
 

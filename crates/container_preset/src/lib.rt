@@ -1,9 +1,0 @@
-//! A container that a program makes through a door before anything is asked of it.
-#![tactic(auto)]
-
-mod preset;
-
-pub use preset::preset_bucket;
-
-#[cfg(test)]
-mod tests;

@@ -1,0 +1,4 @@
+pub mod Scanning
+pub mod Sizes
+pub mod Bodies
+pub mod BodyLaws

@@ -1,0 +1,4 @@
+pub mod Cutting
+pub mod Showing
+pub mod Answering
+pub mod Rows
