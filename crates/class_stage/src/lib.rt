@@ -1,5 +1,5 @@
-//! A zone that a script works on: the trial and the bench of the class calls drive it, each by operations
-//! of its own. What the calls need of the zone is kept here, so that a script needs no contract.
+//! A zone that a script works on: programs that try the class calls drive it, each by operations of its
+//! own. What the calls need of the zone is kept here, so that a script needs no contract.
 #![tactic(auto)]
 
 mod driving;
