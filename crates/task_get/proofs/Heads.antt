@@ -1,15 +1,12 @@
 -- What a read of a head shows is the slot of the bucket map, with as many bytes as its manifest says.
-use Rattle.std.proofs.Common.{◌≡◌, ℕ, ◌+◌, ◌≤◌, ◌==◌, ◌&&◌, ◌||◌, Bool, true, List, [], ◌∷◌, ◌++◌, length, get_or, nat_le, refl, sym, ap, ◌∙◌, subst, arith, map}
-use Rattle.std.specs.Prelude.{slice_index_or}
+use Rattle.std.proofs.Common.{◌≡◌, ℕ, ◌+◌, ◌≤◌, ◌==◌, ◌&&◌, ◌||◌, Bool, true, List, [], ◌∷◌, length, get_or, nat_le, refl, sym, ap, ◌∙◌, arith, map}
 use Rattle.std.specs.List.{concat, list_any, range_with_len}
 use Rattle.std.proofs.lemmas.Bool.Decides.{nat_tests}
 use Rattle.std.proofs.lemmas.List.FromFn.{get_or-map-range_with_len}
-use Rattle.rgw_types.specs.declared.stamp.Stamp.{Stamp}
 use Rattle.rgw_types.specs.Stripes.{ManifestView, tails_of}
 use Rattle.rgw_model.specs.declared.slot.Slot.{Slot}
 use Rattle.rgw_model.specs.declared.slot.Slot.TheVariants as Slots
-use Rattle.manifest.specs.Ranges.{part_size, part_numbers, AreContents}
-use Rattle.object_words.specs.declared.head.NewHead.{NewHead}
+use Rattle.manifest.specs.Ranges.{part_size, AreContents}
 use Rattle.object_words.specs.declared.head.SeenSlot.{SeenSlot}
 use Rattle.object_words.specs.declared.head.SeenSlot.TheVariants.{Nothing, Live, Mark}
 use Rattle.object_words.specs.Keys.{head_key, tail_key}
@@ -17,8 +14,7 @@ use Rattle.object_words.proofs.KeyLemmas.{number_itself}
 use Rattle.realm_model.specs.Settings.{SettingsView}
 use Rattle.realm_model.specs.Phases.{SeenManifest}
 use Rattle.realm_model.specs.Needs.{is_between, is_seen_range}
-use Rattle.realm_model.specs.Learnt.{with_manifest}
-use Rattle.realm_model.specs.Maps.{Made, content_of, heads, whole_bytes, whole_slot, slot_at}
+use Rattle.realm_model.specs.Maps.{content_of, heads, whole_bytes, whole_slot, slot_at}
 use Rattle.realm_model.specs.Accounts.{slot_now}
 use Rattle.realm_model.specs.Histories.{world_of, state_of, Legal}
 use Rattle.realm_model.specs.declared.event.Event.{Event}

@@ -1,8 +1,7 @@
 -- What the events of a GET leave of its actor's account and phase, from what a step extends.
-use Rattle.std.proofs.Common.{◌≡◌, ℕ, ◌+◌, ◌≤◌, true, List, [], ◌∷◌, ◌++◌, refl, sym, ap, ◌∙◌, subst, Option, Some, None}
+use Rattle.std.proofs.Common.{◌≡◌, ℕ, List, [], ◌∷◌, ◌++◌, refl, sym, ap, ◌∙◌, subst, Option, Some, None}
 use Rattle.object_words.specs.declared.bucket.Bucket.{Bucket}
 use Rattle.object_words.specs.declared.head.HeadSeen.{HeadSeen}
-use Rattle.object_words.specs.declared.head.NewHead.{NewHead}
 use Rattle.object_words.specs.declared.head.SeenSlot.{SeenSlot}
 use Rattle.object_words.specs.declared.head.SeenSlot.TheVariants.{Nothing, Live, Mark}
 use Rattle.object_words.specs.declared.why.Why.{Why}
@@ -18,20 +17,18 @@ use Rattle.realm_model.specs.Doors.{DoorView}
 use Rattle.realm_model.specs.declared.op.Op.{Op}
 use Rattle.realm_model.specs.declared.op.Op.TheVariants.{BucketRead, HeadRead, TailRead}
 use Rattle.realm_model.specs.declared.event.Event.{Event}
-use Rattle.realm_model.specs.declared.event.Reply.{Reply}
 use Rattle.realm_model.specs.declared.event.Reply.TheVariants.{No, Row, Head as head_reply, Bytes as bytes_reply}
 use Rattle.realm_model.proofs.Runs.{legal_front}
 use Rattle.realm_door.specs.declared.door.Answered.{Answered}
 use Rattle.realm_door.specs.Steps.{event_at, own_event, Shows, Extends}
 use Rattle.realm_door.specs.Turns.{MakesEvent}
-use Rattle.task_get.specs.Shown.{IsShownAs}
 use Rattle.std.specs.Prelude.{IfSome, IfNone, length, take, drop}
 use Rattle.stripe_law.proofs.Getting.{read_bytes, read_length}
 use Rattle.stripe_law.proofs.Storing.{made_bytes}
 use Rattle.task_get.specs.declared.steps.TailShown.{TailShown}
 use Rattle.task_get.specs.declared.steps.TailShown.TheVariants.{Bytes, Gone}
 use Rattle.task_get.specs.declared.steps.Replied.{Replied}
-use Rattle.task_get.specs.Reads.{IsFull, IsTailReply, TailAnswered, IsReplied, account_at, phase_at, events_at, HasSeen, HasSeenIn, RowIsRead, HeadIsRead, TailIsRead}
+use Rattle.task_get.specs.Reads.{IsFull, IsTailReply, TailAnswered, IsReplied, account_at, phase_at, events_at, HasSeenIn, RowIsRead, HeadIsRead, TailIsRead}
 use Rattle.task_get.proofs.Heads.{shown_as, seen_first}
 
 module _ (settings : SettingsView) (d e : DoorView) (op : Op) (moment : ℕ) (a : Answered) (extends : Extends settings d op moment a e) where
@@ -113,8 +110,8 @@ tail_read settings d e zone write part start count moment a extends =
 
 -- a row, or none, as the reply has it
 pub row_made : (settings : SettingsView) (d e : DoorView) (zone : ℕ) (name : List ℕ) (moment : ℕ) (r : Replied) (row : Option Bucket) → IsReplied settings d (BucketRead zone name) moment r e → IfSome row (λ x. r.reply ≡ Row x) → IfNone row ((why : Why) × (r.reply ≡ No why)) → RowIsRead settings zone name moment row d e
-row_made settings d e zone name moment r (Some row) replied found none = row_read settings d e zone name moment replied.answered row replied.extends (replied.reply ∙ found)
-row_made settings d e zone name moment r None replied found none = none_read settings d e zone name moment replied.answered none.0 replied.extends (replied.reply ∙ none.1)
+row_made settings d e zone name moment r (Some row) replied is_row is_none = row_read settings d e zone name moment replied.answered row replied.extends (replied.reply ∙ is_row)
+row_made settings d e zone name moment r None replied is_row is_none = none_read settings d e zone name moment replied.answered is_none.0 replied.extends (replied.reply ∙ is_none.1)
 
 -- a head, as the reply has it
 pub head_made : (settings : SettingsView) (d e : DoorView) (zone container : ℕ) (name : List ℕ) (moment : ℕ) (r : Replied) (slot : SeenSlot) → IsReplied settings d (HeadRead zone container name) moment r e → (head : HeadSeen) × (clock : ℕ) × (r.reply ≡ head_reply head clock) × (slot ≡ head.slot) → HeadIsRead settings zone container name moment slot r.clock d e

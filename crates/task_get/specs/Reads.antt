@@ -1,5 +1,5 @@
 -- What the events of a GET leave of its actor's account and phase.
-use Rattle.std.specs.Prelude.{◌≡◌, ℕ, ◌+◌, ◌≤◌, ◌++◌, ◌∷◌, [], length, true, List, Option, Some, None}
+use Rattle.std.specs.Prelude.{◌≡◌, ℕ, ◌+◌, ◌≤◌, ◌++◌, ◌∷◌, [], length, true, List, Option, Some}
 use Rattle.rgw_types.specs.Stripes.{ManifestView, tails_of}
 use Rattle.rgw_model.specs.declared.slot.Slot.{Slot}
 use Rattle.manifest.specs.Ranges.{part_size}
