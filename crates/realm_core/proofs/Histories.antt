@@ -1,10 +1,13 @@
 -- What a realm has after one event more.
 use Rattle.std.proofs.Common.{◌≡◌, ℕ, ◌+◌, ◌^◌, ◌<◌, ◌≤◌, true, cond, List, [], ◌∷◌, ◌++◌, replicate, length, refl, sym, ap, ◌∙◌, subst, arith, length-append}
+use Rattle.std.proofs.lemmas.List.{append-nil}
 use lib.ListN.{length-replicate}
+use Rattle.realm_law.specs.Invariant.{RealmHolds}
+use Rattle.realm_law.proofs.Keeping.{realm_at}
 use Rattle.object_pool.specs.Objects.{PoolView}
 use Rattle.realm_model.specs.Histories.{IsNext, Legal, state_of, world_of}
 use Rattle.realm_model.specs.Owns.{clock_after}
-use Rattle.realm_model.specs.Settings.{SettingsView}
+use Rattle.realm_model.specs.Settings.{IsSettings, SettingsView}
 use Rattle.realm_model.specs.States.{State, at_moment, clock_at, opening, touched}
 use Rattle.realm_model.specs.Steps.{after, reply_of, touch_of}
 use Rattle.realm_model.specs.Worlds.{start}
@@ -109,3 +112,7 @@ legal_after settings history actor op moment reply legal may is =
     let there : is_zone settings (zone_of op) ≡ true = left_of (is_zone settings (zone_of op)) _ may in
     legal_next settings history (event_of actor op moment reply) legal
     (record { may = may; answer = is ∙ ap (λ b. cond b (reply_of settings st op) (No Absent)) there })
+
+-- after a legal history every part of the realm's invariant holds
+pub holds_after : (settings : SettingsView) (history : List Event) → IsSettings settings → Legal settings history → RealmHolds settings (world_of settings history)
+holds_after settings history good legal = realm_at settings history [] good (subst (Legal settings) (sym (append-nil history)) legal)

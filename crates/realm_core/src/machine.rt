@@ -1,7 +1,8 @@
 ghost use Rattle.std.specs.Prelude.{◌≡◌, ◌↔◌, ◌++◌, ◌∷◌, ◌<◌, ◌^◌, [], length, Some, IfErr, IfOk, OnErr, OnOk};
 ghost use Rattle.realm_core.specs.Answers.{Tells, event_of, reply_after};
 ghost use Rattle.realm_core.specs.Minding.{MayDo};
-ghost use Rattle.realm_model.specs.Histories.{Legal};
+ghost use Rattle.realm_law.specs.Invariant.{RealmHolds};
+ghost use Rattle.realm_model.specs.Histories.{Legal, world_of};
 ghost use Rattle.turn_cell.specs.declared.machine.DoorFault.TheVariants.{Worn};
 
 use crate::realm::Realm;
@@ -16,7 +17,8 @@ const MOST_EVENTS: u64 = 1 << 62;
 impl Realm {
     /// Does one operation of an actor, which adds exactly its event to the history. The reply is the
     /// step's in the state that the history leaves at the moment; a zone that the realm hasn't got is
-    /// answered that nothing is there. Where it stops, nothing changes, and the operation comes back.
+    /// answered that nothing is there. Where the operation is allowed in a legal history, every part of the
+    /// realm's invariant holds again. Where it stops, nothing changes, and the operation comes back.
     pub fn act(
         &mut self,
         alloc: Global,
@@ -30,6 +32,9 @@ impl Realm {
         ensures legal { OnOk result (Legal self.old.settings self.old.history
             → MayDo self.old.settings self.old.history actor.old op
             → Legal self.old.settings self.new.history) }
+        ensures holds { OnOk result (Legal self.old.settings self.old.history
+            → MayDo self.old.settings self.old.history actor.old op
+            → RealmHolds self.old.settings (world_of self.old.settings self.new.history)) }
         ensures room { OnOk result (length self.old.history < 2 ^ 62) }
 
         ensures stopped { OnErr result ((self.new ≡ self.old) × (actor.new ≡ actor.old)) }

@@ -2,6 +2,7 @@ ghost use Rattle.std.specs.Prelude.{◌≡◌, ◌++◌, ◌∷◌, ◌<◌, ◌
 ghost use Rattle.realm_core.specs.Answers.{event_of, reply_after};
 ghost use Rattle.realm_core.specs.Realms.{new_realm};
 ghost use Rattle.realm_model.specs.Histories.{state_of};
+ghost use Rattle.realm_model.specs.Settings.{IsSettings};
 
 use crate::sizes::sizes_fit;
 use crate::zones::{new_zones, perform_in};
@@ -83,6 +84,8 @@ impl Realm {
         ensures made { IfOk result (λ reply. self.new.history ≡ self.old.history ++ event_of actor.now op.now moment reply ∷ []) }
         ensures settings { self.new.settings ≡ self.old.settings }
         ensures stopped { OnErr result (self.new ≡ self.old) }
+        // For what holds of histories.
+        ensures good { IsSettings self.old.settings }
     {
         sizes_fit(op);
         let settings = self.settings;

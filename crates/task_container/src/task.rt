@@ -208,6 +208,8 @@ impl Task for ContainerTask {
 
     ghost given = { λ t. 0 };
 
+    ghost wants = { λ t. ⊥ };
+
     #[tactic(auto, using(crate::proofs::Turning::fits_next, crate::proofs::Turning::may_step))]
     fn turn<D: Door>(
         &mut self,

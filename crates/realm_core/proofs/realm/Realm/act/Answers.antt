@@ -1,6 +1,9 @@
-use Rattle.std.proofs.Common.{refl, sym, subst, ◌∙◌}
-use Rattle.realm_model.specs.Histories.{Legal}
-use Rattle.realm_core.proofs.Histories.{clock_is, legal_after}
+use Rattle.std.proofs.Common.{List, [], ◌∷◌, ◌++◌, refl, sym, subst, ◌∙◌}
+use Rattle.realm_law.specs.Invariant.{RealmHolds}
+use Rattle.realm_model.specs.Histories.{Legal, world_of}
+use Rattle.realm_model.specs.declared.event.Event.{Event}
+use Rattle.realm_core.specs.Answers.{event_of}
+use Rattle.realm_core.proofs.Histories.{clock_is, holds_after, legal_after}
 use Rattle.realm_core.proofs.realm.Realm.act.Goals as goal
 
 pub returns-clause-tells : goal.returns-clause-tells
@@ -18,3 +21,10 @@ returns-clause-legal c legal may =
     let realm = c.args.self.now in
     subst (Legal realm.settings) (sym c.in-Ok.ensures.made)
     (legal_after realm.settings realm.history c.args.actor.now c.args.op c.args.moment c.in-Ok.reply legal may c.in-Ok.ensures.reply)
+
+pub returns-clause-holds : goal.returns-clause-holds
+returns-clause-holds c legal may =
+    let realm = c.args.self.now in
+    let next = legal_after realm.settings realm.history c.args.actor.now c.args.op c.args.moment c.in-Ok.reply legal may c.in-Ok.ensures.reply in
+    subst (λ (h : List Event). RealmHolds realm.settings (world_of realm.settings h)) (sym c.in-Ok.ensures.made)
+    (holds_after realm.settings (realm.history ++ event_of c.args.actor.now c.args.op c.args.moment c.in-Ok.reply ∷ []) c.in-Ok.ensures.good next)

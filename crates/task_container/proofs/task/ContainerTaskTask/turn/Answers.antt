@@ -16,6 +16,7 @@ returns-in-Ok-step g c =
       turned = λ tells. record { op = c.in-Ok.op; answered = c.in-Ok-step.answered; extends = made tells };
       counts = (subst (λ k. g.D.Door.last c.args.door.now < k) (sym n.2) n.0, subst (λ k. k ≤ 2 ^ 62) (sym n.2) n.1);
       given = search rules;
+      wants = search rules;
       command = c.take.ensures.request;
       done = search rules;
       over = λ ended. absurd (not_over c.args.self.now.stage is_open ended.0);
@@ -35,6 +36,7 @@ returns-in-Err g c =
       turned = tt;
       counts = tt;
       given = tt;
+      wants = tt;
       command = search rules;
       done = tt;
       over = λ ended. absurd (not_over c.args.self.now.stage is_open ended.0);

@@ -1,0 +1,76 @@
+-- What a read of a head shows is the slot of the bucket map, with as many bytes as its manifest says.
+use Rattle.std.proofs.Common.{◌≡◌, ℕ, ◌+◌, ◌≤◌, ◌==◌, ◌&&◌, ◌||◌, Bool, true, List, [], ◌∷◌, length, get_or, nat_le, refl, sym, ap, ◌∙◌, arith, map}
+use Rattle.std.specs.List.{concat, list_any, range_with_len}
+use Rattle.std.proofs.lemmas.Bool.Decides.{nat_tests}
+use Rattle.std.proofs.lemmas.List.FromFn.{get_or-map-range_with_len}
+use Rattle.rgw_types.specs.Stripes.{ManifestView, tails_of}
+use Rattle.rgw_model.specs.declared.slot.Slot.{Slot}
+use Rattle.rgw_model.specs.declared.slot.Slot.TheVariants as Slots
+use Rattle.manifest.specs.Ranges.{part_size, AreContents}
+use Rattle.object_words.specs.declared.head.SeenSlot.{SeenSlot}
+use Rattle.object_words.specs.declared.head.SeenSlot.TheVariants.{Nothing, Live, Mark}
+use Rattle.object_words.specs.Keys.{head_key, tail_key}
+use Rattle.object_words.proofs.KeyLemmas.{number_itself}
+use Rattle.realm_model.specs.Settings.{SettingsView}
+use Rattle.realm_model.specs.Phases.{SeenManifest}
+use Rattle.realm_model.specs.Needs.{is_between, is_seen_range}
+use Rattle.realm_model.specs.Maps.{content_of, heads, whole_bytes, whole_slot, slot_at}
+use Rattle.realm_model.specs.Accounts.{slot_now}
+use Rattle.realm_model.specs.Histories.{world_of, state_of, Legal}
+use Rattle.realm_model.specs.declared.event.Event.{Event}
+use Rattle.realm_model.proofs.Agreeing.{heads_agree}
+use Rattle.stripe_law.specs.Reading.{contents_at}
+use Rattle.stripe_law.proofs.Storing.{object_parts, object_size, object_slot}
+use Rattle.task_get.specs.Shown.{HasParts, IsShownAs}
+
+abbrev bytes_in : Slot → List ℕ
+bytes_in (Slots.Live content stamp) = content.bytes
+bytes_in slot = []
+
+first_size : (m : ManifestView) (first : List ℕ) (rest : List (List ℕ)) → AreContents m (first ∷ rest) → length first ≡ part_size m 0
+first_size m first rest are =
+    ap (λ (sizes : List ℕ). get_or sizes 0 0) are ∙ get_or-map-range_with_len (part_size m) 0 (tails_of m + 1) 0 0 0 (omega arith) (omega arith)
+
+-- the history has a legal front, in which the head shows this slot
+pub shown_as : (settings : SettingsView) (found : List Event) (zone container : ℕ) (name : List ℕ) (slot : SeenSlot) → Legal settings found → slot ≡ slot_at (heads found zone container) name → IsShownAs (slot_now (heads found) (world_of settings found).stripes.made zone container name) slot
+shown_as settings found zone container name Nothing legal is = ap (whole_slot (world_of settings found).stripes.made zone) (sym is)
+shown_as settings found zone container name (Mark stamp) legal is = ap (whole_slot (world_of settings found).stripes.made zone) (sym is)
+shown_as settings found zone container name (Live new stamp) legal is =
+    let made = (world_of settings found).stripes.made in
+    let state : ((state_of settings found).heads zone (head_key container name)).slot ≡ Live new stamp =
+    sym (heads_agree settings found legal zone container name) ∙ sym is in
+    let here : slot_now (heads found) made zone container name ≡ Slots.Live (content_of made zone new) stamp = ap (whole_slot made zone) (sym is) in
+    let there = object_slot settings found legal zone container name new stamp state in
+    let contents = contents_at (state_of settings found).tails zone new in
+    let bytes : whole_bytes made zone new ≡ concat contents = ap bytes_in (sym here ∙ there) in
+    let parts : HasParts new (whole_bytes made zone new) = record {
+      size = ap length bytes ∙ object_size settings found legal zone container name new stamp state;
+      first = first_size new.manifest new.first (map (λ part. ((state_of settings found).tails zone (tail_key new.manifest.write part)).bytes) (range_with_len 1 (tails_of new.manifest))) (object_parts settings found legal zone container name new stamp state);
+    } in
+    (whole_bytes made zone new, parts, here)
+
+-- four tests that hold, or another
+all_hold : (b c d e rest : Bool) → b ≡ true → c ≡ true → d ≡ true → e ≡ true → ((b && (c && (d && e))) || rest) ≡ true
+all_hold b c d e rest is_b is_c is_d is_e = rw is_b (rw is_c (rw is_d (rw is_e refl)))
+
+low_test : (low n : ℕ) → low ≤ n → nat_le low n ≡ true
+low_test low n h = grind (arith, nat_tests)
+
+between_test : (low high n : ℕ) → low ≤ n → n ≤ high → is_between low high n ≡ true
+between_test low high n a b = rw (low_test low n a) (low_test n high b)
+
+-- the range lies in a tail of this manifest
+abbrev in_tail : ℕ → ℕ → ℕ → ℕ → ℕ → SeenManifest → Bool
+in_tail zone write part start count s =
+    s.zone == zone
+    && (s.manifest.write == write
+    && (is_between 1 (tails_of s.manifest) part && nat_le (start + count) (part_size s.manifest part)))
+
+-- the manifest that was seen last may be read
+pub seen_first : (zone : ℕ) (m : ManifestView) (number clock : ℕ) (rest : List SeenManifest) (part start count : ℕ) → 1 ≤ count → 1 ≤ part → part ≤ tails_of m → start + count ≤ part_size m part
+    → is_seen_range (record { zone = zone; manifest = m; number = number; clock = clock } ∷ rest) zone m.write part start count ≡ true
+seen_first zone m number clock rest part start count some low high inside =
+    let others : Bool = list_any (in_tail zone m.write part start count) rest in
+    let holds = all_hold (zone == zone) (m.write == m.write) (is_between 1 (tails_of m) part) (nat_le (start + count) (part_size m part)) others
+    (number_itself zone) (number_itself m.write) (between_test 1 (tails_of m) part low high) (low_test (start + count) (part_size m part) inside) in
+    rw (low_test 1 count some) holds
