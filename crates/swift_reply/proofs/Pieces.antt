@@ -16,16 +16,41 @@ stored o o₁ o₂ o₃ o₄ o₅ o₆ s a b c d e e₁ e₂ e₃ e₄ e₅ e₆
     (more o₄ o₅ o (((s ++ a) ++ b) ++ c) d e₅ (more o₃ o₄ o ((s ++ a) ++ b) c e₄ (more o₂ o₃ o (s ++ a) b e₃ (more o₁ o₂ o s a e₂ e₁))))
     ∙ simp (append_assoc, append-nil)
 
--- a status line, seven groups of fields and the empty line
-pub shown : (o o₁ o₂ o₃ o₄ o₅ o₆ o₇ o₈ o₉ s a b c d f m g e : List ℕ)
-    → o₁ ≡ o ++ s → o₂ ≡ o₁ ++ a → o₃ ≡ o₂ ++ b → o₄ ≡ o₃ ++ c → o₅ ≡ o₄ ++ d → o₆ ≡ o₅ ++ f → o₇ ≡ o₆ ++ m → o₈ ≡ o₇ ++ g → o₉ ≡ o₈ ++ e
-    → o₉ ≡ o ++ (s ++ (a ++ (b ++ (c ++ (d ++ (f ++ (m ++ g)))))) ++ e)
-shown o o₁ o₂ o₃ o₄ o₅ o₆ o₇ o₈ o₉ s a b c d f m g e e₁ e₂ e₃ e₄ e₅ e₆ e₇ e₈ e₉ =
-    more o₈ o₉ o (((((((s ++ a) ++ b) ++ c) ++ d) ++ f) ++ m) ++ g) e e₉
-    (more o₇ o₈ o ((((((s ++ a) ++ b) ++ c) ++ d) ++ f) ++ m) g e₈
-    (more o₆ o₇ o (((((s ++ a) ++ b) ++ c) ++ d) ++ f) m e₇
-    (more o₅ o₆ o ((((s ++ a) ++ b) ++ c) ++ d) f e₆
-    (more o₄ o₅ o (((s ++ a) ++ b) ++ c) d e₅ (more o₃ o₄ o ((s ++ a) ++ b) c e₄ (more o₂ o₃ o (s ++ a) b e₃ (more o₁ o₂ o s a e₂ e₁)))))))
+-- a status line, three groups of fields, the empty line and no body
+pub same : (o o₁ o₂ o₃ o₄ o₅ s a b c e : List ℕ)
+    → o₁ ≡ o ++ s → o₂ ≡ o₁ ++ a → o₃ ≡ o₂ ++ b → o₄ ≡ o₃ ++ c → o₅ ≡ o₄ ++ e
+    → o₅ ≡ o ++ ((s ++ (a ++ (b ++ c)) ++ e) ++ [])
+same o o₁ o₂ o₃ o₄ o₅ s a b c e e₁ e₂ e₃ e₄ e₅ =
+    more o₄ o₅ o (((s ++ a) ++ b) ++ c) e e₅ (more o₃ o₄ o ((s ++ a) ++ b) c e₄ (more o₂ o₃ o (s ++ a) b e₃ (more o₁ o₂ o s a e₂ e₁)))
+    ∙ simp (append_assoc, append-nil)
+
+-- five fields
+pub five : (o o₁ o₂ o₃ o₄ o₅ a b c d f : List ℕ)
+    → o₁ ≡ o ++ a → o₂ ≡ o₁ ++ b → o₃ ≡ o₂ ++ c → o₄ ≡ o₃ ++ d → o₅ ≡ o₄ ++ f
+    → o₅ ≡ o ++ (a ++ (b ++ (c ++ (d ++ f))))
+five o o₁ o₂ o₃ o₄ o₅ a b c d f e₁ e₂ e₃ e₄ e₅ =
+    more o₄ o₅ o (((a ++ b) ++ c) ++ d) f e₅ (more o₃ o₄ o ((a ++ b) ++ c) d e₄ (more o₂ o₃ o (a ++ b) c e₃ (more o₁ o₂ o a b e₂ e₁)))
+    ∙ simp append_assoc
+
+-- two groups of fields and the empty line
+pub ended : (o o₁ o₂ o₃ m g e : List ℕ) → o₁ ≡ o ++ m → o₂ ≡ o₁ ++ g → o₃ ≡ o₂ ++ e → o₃ ≡ o ++ ((m ++ g) ++ e)
+ended o o₁ o₂ o₃ m g e e₁ e₂ e₃ = more o₂ o₃ o (m ++ g) e e₃ (more o₁ o₂ o m g e₂ e₁)
+
+-- a status line, five fields, further ones and the empty line
+pub shown : (o o₁ o₂ o₃ s a b c d f g e : List ℕ)
+    → o₁ ≡ o ++ s → o₂ ≡ o₁ ++ (a ++ (b ++ (c ++ (d ++ f)))) → o₃ ≡ o₂ ++ (g ++ e)
+    → o₃ ≡ o ++ (s ++ (a ++ (b ++ (c ++ (d ++ (f ++ g))))) ++ e)
+shown o o₁ o₂ o₃ s a b c d f g e e₁ e₂ e₃ =
+    more o₂ o₃ o (s ++ (a ++ (b ++ (c ++ (d ++ f))))) (g ++ e) e₃ (more o₁ o₂ o s (a ++ (b ++ (c ++ (d ++ f)))) e₂ e₁)
+    ∙ simp append_assoc
+
+-- the same with one field more
+pub spanned : (o o₁ o₂ o₃ o₄ s a b c d f r g e : List ℕ)
+    → o₁ ≡ o ++ s → o₂ ≡ o₁ ++ (a ++ (b ++ (c ++ (d ++ f)))) → o₃ ≡ o₂ ++ r → o₄ ≡ o₃ ++ (g ++ e)
+    → o₄ ≡ o ++ (s ++ (a ++ (b ++ (c ++ (d ++ (f ++ (r ++ g)))))) ++ e)
+spanned o o₁ o₂ o₃ o₄ s a b c d f r g e e₁ e₂ e₃ e₄ =
+    more o₃ o₄ o ((s ++ (a ++ (b ++ (c ++ (d ++ f))))) ++ r) (g ++ e) e₄
+    (more o₂ o₃ o (s ++ (a ++ (b ++ (c ++ (d ++ f))))) r e₃ (more o₁ o₂ o s (a ++ (b ++ (c ++ (d ++ f)))) e₂ e₁))
     ∙ simp append_assoc
 
 -- a status line, two fields, two groups of fields, the empty line, and a body

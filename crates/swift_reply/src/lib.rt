@@ -24,7 +24,7 @@ pub use known::{
 };
 pub use known_refusals::{first_refusals_are_replied_so, later_refusals_are_replied_so};
 pub use listing::json_rows;
-pub use object::{push_shown_head, push_stored};
+pub use object::{push_same, push_shown_head, push_span_head, push_stored};
 pub use plain::{plain_accounts, plain_rows};
 pub use refusal::push_refusal;
 pub use reply::{
