@@ -1,0 +1,5 @@
+pub mod Etags
+pub mod Ranges
+pub mod Commands
+pub mod Asks
+pub mod Bodies
