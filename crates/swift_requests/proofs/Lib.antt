@@ -2,3 +2,4 @@ pub mod Ascii
 pub mod Texts
 pub mod Numbers
 pub mod Refusals
+pub mod OnLiterals

@@ -3,3 +3,4 @@ pub mod Ranges
 pub mod Commands
 pub mod Asks
 pub mod Bodies
+pub mod KnownHeads
