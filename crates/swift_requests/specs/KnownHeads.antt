@@ -1,0 +1,58 @@
+-- Words of the known answers: heads of requests on the object `k` of the container `box`.
+use Rattle.std.specs.Prelude.{ℕ, List, [], ◌∷◌, Option, Some, None, true, codes}
+use Rattle.object_words.specs.declared.head.Conditions.{Conditions}
+use Rattle.object_words.specs.declared.head.EtagRule.{EtagRule}
+use Rattle.object_words.specs.declared.head.EtagRule.TheVariants.{OneOf}
+use Rattle.task_words.specs.declared.command.GetCommand.{GetCommand}
+use Rattle.task_words.specs.declared.command.PutCommand.{PutCommand}
+use Rattle.http_model.specs.declared.field.Field.{Field}
+use Rattle.http_model.specs.declared.head.Framing.{Framing}
+use Rattle.http_model.specs.declared.head.Framing.TheVariants.{Empty, Length}
+use Rattle.http_model.specs.declared.head.Head.{Head}
+
+-- the largest object
+abbrev pub largest : ℕ
+largest = 5368709120
+
+abbrev pub host : Field
+host = record { name = codes "Host"; value = codes "example.com" }
+
+abbrev pub token : Field
+token = record { name = codes "X-Auth-Token"; value = codes "AUTH_tk1" }
+
+abbrev pub target : List ℕ
+target = codes "/swift/v1/AUTH_acme/box/k"
+
+-- with these fields alone
+abbrev pub bare : List ℕ → List Field → Framing → Head
+bare method fields framing =
+    record { method = method; target = target; minor = 1; fields = fields; framing = framing }
+
+-- with these fields behind Host and the token
+abbrev pub request : List ℕ → List Field → Framing → Head
+request method fields framing = bare method (host ∷ token ∷ fields) framing
+
+-- of a body of so many bytes
+abbrev pub put_of : ℕ → List Field → Head
+put_of n fields = request (codes "PUT") fields (Length n)
+
+abbrev pub get_with : List Field → Head
+get_with fields = request (codes "GET") fields Empty
+
+abbrev pub head_with : List Field → Head
+head_with fields = request (codes "HEAD") fields Empty
+
+-- one ETag, as it was sent
+abbrev pub one_of : List ℕ → Option EtagRule
+one_of etag = Some (OneOf (etag ∷ []))
+
+abbrev pub always : Conditions
+always = record { matches = None; none = None; modified = None; unmodified = None }
+
+-- a GET without conditions and ranges
+abbrev pub plain_get : GetCommand
+plain_get = record { container = codes "box"; name = codes "k"; when = always; span = None; body = true }
+
+abbrev pub plain_put : PutCommand
+plain_put =
+    record { container = codes "box"; name = codes "k"; kind = None; meta = []; etag = None; when = always }

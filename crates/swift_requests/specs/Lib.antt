@@ -1,0 +1,6 @@
+pub mod Etags
+pub mod Ranges
+pub mod Commands
+pub mod Asks
+pub mod Bodies
+pub mod KnownHeads

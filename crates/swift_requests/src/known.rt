@@ -1,0 +1,164 @@
+//! What fields and heads are read as, by the examples of the standard and by hand: each function here does
+//! nothing and is such answers.
+ghost use Rattle.std.specs.Prelude.{◌≡◌, ◌∷◌, ◌^◌, ◌-◌, [], Some, None, codes, true, false};
+ghost use Rattle.object_words.specs.declared.head.EtagRule.TheVariants.{Any, OneOf};
+ghost use Rattle.task_words.specs.declared.span.Span.TheVariants.{Between, From, Last};
+ghost use Rattle.swift_reply.specs.declared.reply.SwiftRefusal.TheVariants.{NotBuilt, Unauthorized, Invalid, NoLength, TooLarge};
+ghost use Rattle.swift_reply.specs.declared.reply.Invalid.TheVariants.{Value};
+ghost use Rattle.http_model.specs.declared.head.Framing.TheVariants.{Empty, Length, Chunked};
+ghost use Rattle.swift_requests.specs.declared.asked.Asked.TheVariants.{BadHost, Refused, Put, Get};
+ghost use Rattle.swift_requests.specs.declared.body.BodyUse.TheVariants.{Fed, Dropped, Unread};
+ghost use Rattle.swift_requests.specs.Etags.{rule_in, sent_etag};
+ghost use Rattle.swift_requests.specs.Ranges.{span_in};
+ghost use Rattle.swift_requests.specs.Commands.{second_of};
+ghost use Rattle.swift_requests.specs.Asks.{asked_of};
+ghost use Rattle.swift_requests.specs.Bodies.{body_use, closes};
+ghost use Rattle.swift_requests.specs.KnownHeads as known;
+
+/// Conditions on ETags: the examples of RFC 9110, sections 13.1.1 and 13.1.2, and the edges.
+pub fn etags_are_read_so()
+    ensures one { rule_in (codes "\"xyzzy\"") ≡ OneOf (codes "xyzzy" ∷ []) }
+    ensures three { rule_in (codes "\"xyzzy\", \"r2d2xxxx\", \"c3piozzzz\"")
+        ≡ OneOf (codes "xyzzy" ∷ codes "r2d2xxxx" ∷ codes "c3piozzzz" ∷ []) }
+    ensures star { rule_in (codes "*") ≡ Any }
+    ensures weak { rule_in (codes "W/\"xyzzy\", W/\"r2d2xxxx\"") ≡ OneOf (codes "W/\"xyzzy\"" ∷ codes "W/\"r2d2xxxx\"" ∷ []) }
+    ensures quoted_star { rule_in (codes "\"*\"") ≡ OneOf (codes "*" ∷ []) }
+    ensures listed_star { rule_in (codes "*, a") ≡ OneOf (codes "*" ∷ codes "a" ∷ []) }
+    ensures empty { rule_in [] ≡ OneOf ([] ∷ []) }
+    ensures no_text { rule_in (codes "\"\",") ≡ OneOf ([] ∷ [] ∷ []) }
+    ensures blanks { rule_in (codes "a ,\t\" b \"  , c d") ≡ OneOf (codes "a" ∷ codes " b " ∷ codes "c d" ∷ []) }
+    ensures one_pair { rule_in (codes "\"\"a\"\", \", \"b, c\"") ≡ OneOf (codes "\"a\"" ∷ codes "\"" ∷ codes "\"b" ∷ codes "c\"" ∷ []) }
+    ensures upper { rule_in (codes "5D41") ≡ OneOf (codes "5D41" ∷ []) }
+{}
+
+/// Ranges: the examples of RFC 9110, section 14.1.2, and the edges.
+pub fn ranges_are_read_so()
+    ensures first_500 { span_in (codes "bytes=0-499") ≡ Some (Between 0 499) }
+    ensures second_500 { span_in (codes "bytes=500-999") ≡ Some (Between 500 999) }
+    ensures last_500 { span_in (codes "bytes=-500") ≡ Some (Last 500) }
+    ensures from_9500 { span_in (codes "bytes=9500-") ≡ Some (From 9500) }
+    ensures two { span_in (codes "bytes=0-0,-1") ≡ None }
+    ensures two_more { span_in (codes "bytes=500-600,601-999") ≡ None }
+    ensures blanks { span_in (codes "bytes= 0-999") ≡ None }
+    ensures crossed { span_in (codes "bytes=3-2") ≡ Some (Between 3 2) }
+    ensures zeros { span_in (codes "bytes=007-010") ≡ Some (Between 7 10) }
+    ensures greatest { span_in (codes "bytes=0-18446744073709551615") ≡ Some (Between 0 (2 ^ 64 - 1)) }
+    ensures above { span_in (codes "bytes=18446744073709551616-99999999999999999999999") ≡ Some (Between (2 ^ 64 - 1) (2 ^ 64 - 1)) }
+    ensures many_last { span_in (codes "bytes=-99999999999999999999") ≡ Some (Last (2 ^ 64 - 1)) }
+    ensures none_last { span_in (codes "bytes=-0") ≡ Some (Last 0) }
+    ensures dash { span_in (codes "bytes=-") ≡ None }
+    ensures nothing { span_in (codes "bytes=") ≡ None }
+    ensures no_dash { span_in (codes "bytes=5") ≡ None }
+    ensures two_dashes { span_in (codes "bytes=1-2-3") ≡ None }
+    ensures sign { span_in (codes "bytes=+1-") ≡ None }
+    ensures letter { span_in (codes "bytes=0-4x") ≡ None }
+    ensures upper { span_in (codes "Bytes=0-1") ≡ None }
+    ensures other_unit { span_in (codes "lines=0-1") ≡ None }
+    ensures short { span_in (codes "byte") ≡ None }
+{}
+
+/// Dates: the examples of RFC 9110, section 5.6.7, each in one of its three forms.
+pub fn dates_are_read_so()
+    ensures fixed { second_of (codes "if-modified-since") (known.get_with
+        (record { name = codes "If-Modified-Since"; value = codes "Sun, 06 Nov 1994 08:49:37 GMT" } ∷ [])) ≡ Some 784111777 }
+    ensures rfc_850 { second_of (codes "if-modified-since") (known.get_with
+        (record { name = codes "IF-MODIFIED-SINCE"; value = codes "Sunday, 06-Nov-94 08:49:37 GMT" } ∷ [])) ≡ Some 784111777 }
+    ensures asctime { second_of (codes "if-unmodified-since") (known.get_with
+        (record { name = codes "if-unmodified-since"; value = codes "Sun Nov  6 08:49:37 1994" } ∷ [])) ≡ Some 784111777 }
+    ensures other_day { second_of (codes "if-modified-since") (known.get_with
+        (record { name = codes "If-Modified-Since"; value = codes "Mon, 06 Nov 1994 08:49:37 GMT" } ∷ [])) ≡ None }
+    ensures no_date { second_of (codes "if-modified-since") (known.get_with
+        (record { name = codes "If-Modified-Since"; value = codes "yesterday" } ∷ [])) ≡ None }
+    ensures last { second_of (codes "if-modified-since") (known.get_with
+        (record { name = codes "If-Modified-Since"; value = codes "Sun, 06 Nov 1994 08:49:37 GMT" }
+        ∷ record { name = codes "If-Modified-Since"; value = codes "yesterday" } ∷ [])) ≡ None }
+{}
+
+/// What PUTs ask.
+pub fn puts_ask_so()
+    ensures plain { asked_of known.largest (known.put_of 5 []) ≡ Put known.plain_put }
+    ensures fields { asked_of known.largest (known.put_of 5
+        (record { name = codes "content-TYPE"; value = codes "text/plain" }
+        ∷ record { name = codes "etag"; value = codes "\"5d41402abc4b2a76b9719d911017c592\"" }
+        ∷ record { name = codes "If-Match"; value = codes "*" }
+        ∷ record { name = codes "If-None-Match"; value = codes "x" }
+        ∷ record { name = codes "If-None-Match"; value = codes "\"y\"" }
+        ∷ record { name = codes "If-Unmodified-Since"; value = codes "Sun, 06 Nov 1994 08:49:37 GMT" }
+        ∷ record { name = codes "Range"; value = codes "bytes=0-1" } ∷ []))
+        ≡ Put (record known.plain_put {
+          kind = Some (codes "text/plain");
+          etag = Some (codes "5d41402abc4b2a76b9719d911017c592");
+          when = record known.always { matches = Some Any; none = known.one_of (codes "y") };
+        }) }
+    ensures no_kind { asked_of known.largest (known.put_of 0 (record { name = codes "Content-Type"; value = [] } ∷ [])) ≡ Put known.plain_put }
+    ensures odd_etag { sent_etag (known.put_of 0 (record { name = codes "ETag"; value = codes "\"A\"\"" } ∷ [])) ≡ Some (codes "A\"") }
+    ensures largest { asked_of known.largest (known.put_of known.largest []) ≡ Put known.plain_put }
+    ensures too_large { asked_of known.largest (known.put_of 5368709121 []) ≡ Refused TooLarge }
+    ensures no_length { asked_of known.largest (known.request (codes "PUT") [] Empty) ≡ Refused NoLength }
+{}
+
+/// What GETs and HEADs ask.
+pub fn gets_ask_so()
+    ensures plain { asked_of known.largest (known.get_with []) ≡ Get known.plain_get }
+    ensures with_body { asked_of known.largest (known.request (codes "GET") [] (Length 5)) ≡ Get known.plain_get }
+    ensures fields { asked_of known.largest (known.get_with
+        (record { name = codes "RANGE"; value = codes "bytes=0-0" }
+        ∷ record { name = codes "Range"; value = codes "bytes=2-3" }
+        ∷ record { name = codes "If-Match"; value = [] }
+        ∷ record { name = codes "If-Modified-Since"; value = codes "Sun, 06 Nov 1994 08:49:37 GMT" }
+        ∷ record { name = codes "If-Unmodified-Since"; value = codes "yesterday" }
+        ∷ record { name = codes "ETag"; value = 255 ∷ [] } ∷ []))
+        ≡ Get (record known.plain_get {
+          when = record known.always { matches = known.one_of []; modified = Some 784111777 };
+          span = Some (Between 2 3);
+        }) }
+    ensures range_condition { asked_of known.largest (known.get_with
+        (record { name = codes "Range"; value = codes "bytes=2-3" }
+        ∷ record { name = codes "If-Range"; value = [] } ∷ [])) ≡ Get known.plain_get }
+    ensures head { asked_of known.largest (known.head_with (record { name = codes "Range"; value = codes "bytes=2-3" } ∷ []))
+        ≡ Get (record known.plain_get { body = false }) }
+    ensures too_large { asked_of known.largest (known.request (codes "GET") [] (Length 5368709121)) ≡ Refused TooLarge }
+{}
+
+/// Which heads are refused, and by which refusal first.
+pub fn heads_are_refused_so()
+    ensures host { asked_of known.largest (known.bare (codes "POST") [] Empty) ≡ BadHost }
+    ensures method { asked_of known.largest (known.bare (codes "POST") (known.host ∷ []) Empty) ≡ Refused NotBuilt }
+    ensures lower { asked_of known.largest (known.request (codes "get") [] Empty) ≡ Refused NotBuilt }
+    ensures version { asked_of known.largest (record (known.get_with []) { minor = 0 }) ≡ Refused NotBuilt }
+    ensures target { asked_of known.largest (record (known.get_with []) { target = codes "/swift/v1/AUTH_acme/box/a%20b" }) ≡ Refused NotBuilt }
+    ensures container { asked_of known.largest (record (known.get_with []) { target = codes "/swift/v1/AUTH_acme/box" }) ≡ Refused NotBuilt }
+    ensures coding { asked_of known.largest (known.request (codes "PUT") (record { name = codes "transfer-encoding"; value = codes "chunked" } ∷ []) Chunked) ≡ Refused NotBuilt }
+    ensures expect { asked_of known.largest (known.put_of 5 (record { name = codes "Expect"; value = codes "100-continue" } ∷ [])) ≡ Refused NotBuilt }
+    ensures copy { asked_of known.largest (known.put_of 0 (record { name = codes "x-copy-from"; value = codes "box/k" } ∷ [])) ≡ Refused NotBuilt }
+    ensures meta { asked_of known.largest (known.get_with (record { name = codes "X-OBJECT-Meta-"; value = codes "red" } ∷ [])) ≡ Refused NotBuilt }
+    ensures kind { asked_of known.largest (known.put_of 0
+        (record { name = codes "Content-Type"; value = 127 ∷ [] } ∷ record { name = codes "Content-Type"; value = codes "a/b" } ∷ [])) ≡ Refused NotBuilt }
+    ensures nobody { asked_of known.largest (known.bare (codes "PUT") (known.host ∷ record { name = codes "If-Match"; value = 255 ∷ [] } ∷ []) Empty) ≡ Refused Unauthorized }
+    ensures other_token { asked_of known.largest (known.get_with (record { name = codes "X-Auth-Token"; value = codes "AUTH_tk" } ∷ [])) ≡ Refused Unauthorized }
+    ensures text { asked_of known.largest (known.request (codes "PUT") (record { name = codes "If-None-Match"; value = 255 ∷ [] } ∷ []) Empty) ≡ Refused (Invalid Value) }
+    ensures etag { asked_of known.largest (known.put_of 5368709121 (record { name = codes "ETag"; value = 128 ∷ [] } ∷ [])) ≡ Refused (Invalid Value) }
+    ensures last_text { asked_of known.largest (known.get_with
+        (record { name = codes "If-Match"; value = 255 ∷ [] } ∷ record { name = codes "If-Match"; value = codes "*" } ∷ []))
+        ≡ Get (record known.plain_get { when = record known.always { matches = Some Any } }) }
+{}
+
+/// What becomes of bodies, and which replies close the connection.
+pub fn bodies_are_used_so()
+    ensures fed { body_use known.largest (known.put_of 5 []) (Put known.plain_put) ≡ Fed 5 }
+    ensures dropped { body_use known.largest (known.put_of 5 []) (Refused Unauthorized) ≡ Dropped 5 }
+    ensures none { body_use known.largest (known.get_with []) (Get known.plain_get) ≡ Dropped 0 }
+    ensures of_get { body_use known.largest (known.request (codes "GET") [] (Length 5)) (Get known.plain_get) ≡ Dropped 5 }
+    ensures no_length { body_use known.largest (known.request (codes "PUT") [] Empty) (Refused NoLength) ≡ Dropped 0 }
+    ensures not_built { body_use known.largest (known.put_of 5 []) (Refused NotBuilt) ≡ Unread }
+    ensures too_large { body_use known.largest (known.put_of 5368709121 []) (Refused TooLarge) ≡ Unread }
+    ensures nobody { body_use known.largest (known.put_of 5368709121 []) (Refused Unauthorized) ≡ Unread }
+    ensures largest { body_use known.largest (known.put_of known.largest []) BadHost ≡ Dropped known.largest }
+    ensures waits { body_use known.largest (known.put_of 5 (record { name = codes "Expect"; value = codes "100-Continue" } ∷ [])) BadHost ≡ Unread }
+    ensures chunks { body_use known.largest (known.request (codes "PUT") [] Chunked) BadHost ≡ Unread }
+    ensures stays { closes 99999 (known.put_of 5 (record { name = codes "Connection"; value = codes "keep-alive, closed" } ∷ [])) (Fed 5) ≡ false }
+    ensures wants { closes 1 (known.get_with (record { name = codes "Connection"; value = codes "keep-alive,\tClose" } ∷ [])) (Dropped 0) ≡ true }
+    ensures unread { closes 1 (known.put_of 5 []) Unread ≡ true }
+    ensures older { closes 1 (record (known.get_with []) { minor = 0 }) (Dropped 0) ≡ true }
+    ensures many { closes 100000 (known.get_with []) (Dropped 0) ≡ true }
+{}

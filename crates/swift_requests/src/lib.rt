@@ -1,0 +1,21 @@
+//! What the head of a request on an object asks: the command, or the refusal that needs no container, and
+//! what becomes of the bytes behind the head.
+#![tactic(auto)]
+
+mod asked;
+mod body;
+mod command;
+mod etag;
+mod form;
+mod known;
+mod range;
+
+pub use asked::{Asked, read_asked};
+pub use body::{BodyUse, body_use, closes};
+pub use command::{conditions, kind, span};
+pub use etag::{etag_rule, sent_etag};
+pub use form::{has_texts, is_taken, is_user};
+pub use known::{
+    bodies_are_used_so, dates_are_read_so, etags_are_read_so, gets_ask_so, heads_are_refused_so,
+    puts_ask_so, ranges_are_read_so,
+};
