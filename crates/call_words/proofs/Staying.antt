@@ -1,0 +1,59 @@
+-- Right replies stay right where the history grows by events of others.
+use Rattle.std.proofs.Common.{◌≡◌, ℕ, ◌+◌, ◌<◌, ◌≤◌, List, [], ◌∷◌, refl, sym, ap, subst, arith}
+use Rattle.realm_model.specs.Accounts.{Account}
+use Rattle.realm_model.specs.Histories.{Doings, account_of}
+use Rattle.realm_model.specs.Owns.{OwnEvent, own_events}
+use Rattle.realm_model.specs.Settings.{SettingsView}
+use Rattle.realm_model.specs.declared.event.Event.{Event}
+use Rattle.realm_door.specs.Steps.{IsSame, actor_of_pass}
+use Rattle.swift_requests.specs.declared.asked.Asked.{Asked}
+use Rattle.task_words.specs.declared.asker.Asker.{Asker}
+use Rattle.task_words.specs.declared.outcome.Outcome.{Outcome}
+use Rattle.call_words.specs.Calls.{Ground, alone, task, Call, IsBorneOut, RestsOn, actor_after, IsOfNext, AreRight, AreSame}
+
+module _ (settings : SettingsView) (zone : ℕ) (asker : Asker) (pass : ℕ) (history later : List Event) where
+  borne : (asked : Asked) (body shown : List ℕ) (actor : ℕ) (outcome : Outcome)
+      → IsSame settings history later (actor_of_pass pass actor)
+      → IsBorneOut zone asker asked body outcome shown (account_of settings history (actor_of_pass pass actor)) (own_events history (actor_of_pass pass actor))
+      → IsBorneOut zone asker asked body outcome shown (account_of settings later (actor_of_pass pass actor)) (own_events later (actor_of_pass pass actor))
+  borne asked body shown actor outcome same b =
+      let account : account_of settings later (actor_of_pass pass actor) ≡ account_of settings history (actor_of_pass pass actor) =
+      ap (λ (q : Doings). q.account) same.doings in
+      let moved = subst (λ (y : Account). IsBorneOut zone asker asked body outcome shown y (own_events history (actor_of_pass pass actor))) (sym account) b in
+      subst (λ (events : List OwnEvent). IsBorneOut zone asker asked body outcome shown (account_of settings later (actor_of_pass pass actor)) events) (sym same.events) moved
+
+  -- the calls from this actor on use actors up to the last
+  pub in_order : (next : ℕ) (calls : List Call) (last : ℕ) → AreRight settings zone asker pass history next calls last → next ≤ last
+  in_order next [] last right = let e : next ≡ last = right in omega (arith, e)
+  in_order next (call ∷ calls) last right = after next call.ground last (in_order (actor_after next call.ground) calls last right.2)
+    where
+      after : (next : ℕ) (ground : Ground) (last : ℕ) → actor_after next ground ≤ last → next ≤ last
+      after next alone last low = low
+      after next (task actor outcome) last low = omega (arith, low)
+
+  one_stays : (next : ℕ) (call : Call) (last : ℕ) → AreSame settings pass history later next last → IsOfNext next call.ground
+      → actor_after next call.ground ≤ last → RestsOn settings zone asker pass history call.asked call.request.body call.shown call.ground
+      → RestsOn settings zone asker pass later call.asked call.request.body call.shown call.ground
+  one_stays next call last same of_next low rests = by_ground call.asked call.request.body call.shown call.ground next last same of_next low rests
+    where
+      by_ground : (asked : Asked) (body shown : List ℕ) (ground : Ground) (next last : ℕ) → AreSame settings pass history later next last
+          → IsOfNext next ground → actor_after next ground ≤ last
+          → RestsOn settings zone asker pass history asked body shown ground → RestsOn settings zone asker pass later asked body shown ground
+      by_ground asked body shown alone next last same of_next low rests = rests
+      by_ground asked body shown (task actor outcome) next last same of_next low rests =
+          let e : actor ≡ next = of_next in
+          borne asked body shown actor outcome (same actor (omega (arith, e)) (omega (arith, e, low))) rests
+
+  pub stay : (next : ℕ) (calls : List Call) (last : ℕ) → AreSame settings pass history later next last
+      → AreRight settings zone asker pass history next calls last → AreRight settings zone asker pass later next calls last
+  stay next [] last same right = right
+  stay next (call ∷ calls) last same right =
+      let low = in_order (actor_after next call.ground) calls last right.2 in (
+        right.0,
+        one_stays next call last same right.0 low right.1,
+        stay (actor_after next call.ground) calls last (narrowed call.ground next last same) right.2,
+      )
+    where
+      narrowed : (ground : Ground) (next last : ℕ) → AreSame settings pass history later next last → AreSame settings pass history later (actor_after next ground) last
+      narrowed alone next last same = same
+      narrowed (task actor outcome) next last same = λ count low high. same count (omega (arith, low)) high

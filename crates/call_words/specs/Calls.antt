@@ -1,0 +1,123 @@
+-- A call: one request of a connection that was replied, and what its reply rests on in the one history of the realm.
+use Rattle.std.specs.Prelude.{◌≡◌, ℕ, ◌+◌, ◌<◌, ◌≤◌, List, [], ◌∷◌, Option, Some, None}
+use Rattle.http_model.specs.declared.head.Request.{Request}
+use Rattle.http_model.specs.declared.reply.BadRequest.TheVariants.{Host}
+use Rattle.http_model.specs.declared.reply.ReplyForm.{ReplyForm}
+use Rattle.http_model.specs.Replies.{bad_request_text}
+use Rattle.realm_model.specs.Accounts.{Account, Decided}
+use Rattle.realm_model.specs.Histories.{account_of}
+use Rattle.realm_model.specs.Owns.{OwnEvent, own_events}
+use Rattle.realm_model.specs.Settings.{SettingsView}
+use Rattle.realm_model.specs.declared.event.Event.{Event}
+use Rattle.realm_door.specs.Steps.{IsSame, actor_of_pass}
+use Rattle.swift_reply.specs.declared.reply.SwiftReply.TheVariants as Swift
+use Rattle.swift_reply.specs.Replies as swift
+use Rattle.swift_requests.specs.declared.asked.Asked.{Asked}
+use Rattle.swift_requests.specs.declared.asked.Asked.TheVariants.{BadHost, Refused, Put, Get}
+use Rattle.task_words.specs.declared.asker.Asker.{Asker}
+use Rattle.task_words.specs.declared.command.GetCommand.{GetCommand}
+use Rattle.task_words.specs.declared.command.BodyEnd.TheVariants.{Whole}
+use Rattle.task_words.specs.declared.outcome.Outcome.{Outcome}
+use Rattle.task_words.specs.declared.outcome.Outcome.TheVariants.{Done}
+use Rattle.task_words.specs.declared.reply.MapReply.TheVariants.{Shown}
+use Rattle.task_words.specs.Answers.{get, answer, span_of}
+use Rattle.task_words.specs.Outcomes.{Body, IsGetOutcome, IsPutOutcome}
+use Rattle.call_words.specs.Texts.{outcome_reply, HasReply, text_if}
+
+-- ---- calls
+
+-- what a reply rests on: the request alone, for which no event was made; or how the task of the pass's actor with this
+-- count ended
+pub data Ground : Type 0 where
+  alone : Ground
+  task : (actor : ℕ) → Outcome → Ground
+
+-- a request with what it asks, what its reply rests on, and the bytes that the reply shows
+pub record Call : Type 0 where
+  pub request : Request
+  pub asked : Asked
+  pub ground : Ground
+  pub shown : List ℕ
+
+-- ---- texts
+
+-- the text of a reply, by what was asked and what it rests on
+abbrev pub text_by : ReplyForm → Asked → Ground → List ℕ → List ℕ
+text_by form BadHost ground shown = bad_request_text form Host
+text_by form (Refused why) ground shown = swift.reply_text form (Swift.Refused why) []
+text_by form (Put c) alone shown = []
+text_by form (Put c) (task actor outcome) shown = text_if form (outcome_reply None outcome) []
+text_by form (Get c) alone shown = []
+text_by form (Get c) (task actor outcome) shown = text_if form (outcome_reply (span_of c) outcome) shown
+
+abbrev pub call_text : ReplyForm → Call → List ℕ
+call_text form call = text_by form call.asked call.ground call.shown
+
+-- ---- what a reply rests on
+
+-- the bytes are those that the bucket map shows at the event that decides
+pub record AreShown (zone : ℕ) (c : GetCommand) (shown : List ℕ) (last : Option Decided) : Type 0 where
+  pub event : Decided
+  pub is_last : last ≡ Some event
+  pub bytes : shown ≡ (answer event.before (get c) zone event.clock).shown
+
+-- only an object that is there has bytes to show
+abbrev pub AreShownBy : ℕ → GetCommand → Outcome → List ℕ → Option Decided → Type 0
+AreShownBy zone c (Done (Shown kind meta etag stamp size start count)) shown last = AreShown zone c shown last
+AreShownBy zone c outcome shown last = shown ≡ []
+
+-- a body that was read to its end
+abbrev pub whole : List ℕ → Body
+whole bytes = record { bytes = bytes; end = Some Whole }
+
+-- the account and the events of an actor bear the end of its task out
+abbrev pub IsBorneOut : ℕ → Asker → Asked → List ℕ → Outcome → List ℕ → Account → List OwnEvent → Type 0
+IsBorneOut zone asker BadHost body outcome shown y events = ⊥
+IsBorneOut zone asker (Refused why) body outcome shown y events = ⊥
+IsBorneOut zone asker (Put c) body outcome shown y events =
+    IsPutOutcome zone asker c (whole body) outcome y events × HasReply (outcome_reply None outcome) × (shown ≡ [])
+IsBorneOut zone asker (Get c) body outcome shown y events =
+    IsGetOutcome zone asker c outcome y × HasReply (outcome_reply (span_of c) outcome) × AreShownBy zone c outcome shown y.decided
+
+-- the request is refused before any name is looked at
+abbrev pub IsRefused : Asked → Type 0
+IsRefused BadHost = Unit {0}
+IsRefused (Refused why) = Unit {0}
+IsRefused (Put c) = ⊥
+IsRefused (Get c) = ⊥
+
+-- what a reply rests on is so in a history
+abbrev pub RestsOn : SettingsView → ℕ → Asker → ℕ → List Event → Asked → List ℕ → List ℕ → Ground → Type 0
+RestsOn settings zone asker pass history asked body shown alone = IsRefused asked × (shown ≡ [])
+RestsOn settings zone asker pass history asked body shown (task actor outcome) =
+    IsBorneOut zone asker asked body outcome shown
+    (account_of settings history (actor_of_pass pass actor)) (own_events history (actor_of_pass pass actor))
+
+-- the reply to a call is right in a history
+abbrev pub IsRight : SettingsView → ℕ → Asker → ℕ → List Event → Call → Type 0
+IsRight settings zone asker pass history call =
+    RestsOn settings zone asker pass history call.asked call.request.body call.shown call.ground
+
+-- ---- the calls of a connection
+
+-- a task is that of the next actor
+abbrev pub IsOfNext : ℕ → Ground → Type 0
+IsOfNext next alone = Unit {0}
+IsOfNext next (task actor outcome) = actor ≡ next
+
+-- the actor after it; a request alone uses none
+abbrev pub actor_after : ℕ → Ground → ℕ
+actor_after next alone = next
+actor_after next (task actor outcome) = next + 1
+
+-- each reply is right; the tasks are those of actors of the pass, one after another from this one up to the last
+abbrev pub AreRight : SettingsView → ℕ → Asker → ℕ → List Event → ℕ → List Call → ℕ → Type 0
+AreRight settings zone asker pass history next [] last = next ≡ last
+AreRight settings zone asker pass history next (call ∷ calls) last =
+    IsOfNext next call.ground × IsRight settings zone asker pass history call
+    × AreRight settings zone asker pass history (actor_after next call.ground) calls last
+
+-- both histories say the same of each actor of the pass from this one up to, but not with, that one
+abbrev pub AreSame : SettingsView → ℕ → List Event → List Event → ℕ → ℕ → Type 0
+AreSame settings pass history later next last =
+    (count : ℕ) → next ≤ count → count < last → IsSame settings history later (actor_of_pass pass count)

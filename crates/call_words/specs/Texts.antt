@@ -1,0 +1,100 @@
+-- The reply of the Swift API that an end of a task is, and its text (OpenStack Object Storage API v1, objects).
+use Rattle.std.specs.Prelude.{ℕ, Bool, true, false, List, [], Option, Some, None, option_map, if◌then◌else◌}
+use Rattle.http_model.specs.declared.reply.ReplyForm.{ReplyForm}
+use Rattle.http_model.specs.Replies.{head_text, written_body}
+use Rattle.swift_auth.specs.declared.policy.Rule.{Rule}
+use Rattle.swift_auth.specs.declared.policy.Rule.TheVariants as Rules
+use Rattle.swift_reply.specs.declared.reply.Denial.{Denial}
+use Rattle.swift_reply.specs.declared.reply.Denial.TheVariants as Denied
+use Rattle.swift_reply.specs.declared.reply.ShownObject.{ShownObject}
+use Rattle.swift_reply.specs.declared.reply.ShownSpan.{ShownSpan}
+use Rattle.swift_reply.specs.declared.reply.SwiftRefusal.{SwiftRefusal}
+use Rattle.swift_reply.specs.declared.reply.SwiftRefusal.TheVariants as Why
+use Rattle.swift_reply.specs.declared.reply.SwiftReply.{SwiftReply}
+use Rattle.swift_reply.specs.declared.reply.SwiftReply.TheVariants as Swift
+use Rattle.swift_reply.specs.Replies.{reply_head, reply_text}
+use Rattle.task_words.specs.declared.outcome.Outcome.{Outcome}
+use Rattle.task_words.specs.declared.outcome.Outcome.TheVariants.{Done, BodyFailed, Busy, MovedOften, RacedOften, LateTag, LateRead, NoSpace}
+use Rattle.task_words.specs.declared.reply.MapReply.{MapReply}
+use Rattle.task_words.specs.declared.reply.MapReply.TheVariants.{Stored, Shown, Same, Counted, Refused}
+use Rattle.task_words.specs.declared.reply.Refusal.{Refusal}
+use Rattle.task_words.specs.declared.reply.Refusal.TheVariants as Map
+use Rattle.task_words.specs.declared.span.Span.{Span}
+use Rattle.task_words.specs.Spans.{is_partial}
+
+abbrev pub denial_of : Rule → Denial
+denial_of Rules.Account = Denied.Account
+denial_of Rules.Read = Denied.Read
+denial_of Rules.Write = Denied.Write
+
+-- the refusal of the Swift API that a refusal by what is stored is
+abbrev pub refusal_in : Refusal → SwiftRefusal
+refusal_in Map.Unauthorized = Why.Unauthorized
+refusal_in (Map.Denied rule) = Why.Denied (denial_of rule)
+refusal_in Map.NoContainer = Why.NoContainer
+refusal_in Map.NoObject = Why.NoObject
+refusal_in Map.NotMet = Why.NotMet
+refusal_in (Map.NoRange size) = Why.NoRange size
+refusal_in Map.OtherEtag = Why.OtherEtag
+
+-- the bytes that are shown, where a range was asked for and can be had
+abbrev pub span_shown : Option Span → ℕ → ℕ → ℕ → Option ShownSpan
+span_shown asked size start count =
+    if is_partial asked size then Some (record { start = start; count = count }) else None
+
+-- the reply of the Swift API that a reply on an object is, where this range was asked for; none on a container
+abbrev pub reply_in : Option Span → MapReply → Option SwiftReply
+reply_in asked (Stored etag stamp) = Some (Swift.Stored etag stamp)
+reply_in asked (Shown kind meta etag stamp size start count) = Some (Swift.Shown (record {
+  kind = kind;
+  meta = meta;
+  etag = etag;
+  stamp = stamp;
+  size = size;
+  expires = None;
+}) (span_shown asked size start count))
+reply_in asked (Same etag stamp) = Some (Swift.Same etag stamp)
+reply_in asked (Counted row objects bytes) = None
+reply_in asked (Refused refusal) = Some (Swift.Refused (refusal_in refusal))
+
+-- the refusal that an end of a task without a reply by what is stored is. A body that failed, and a stripe that was gone, have
+-- none
+abbrev pub refusal_by : Outcome → Option SwiftRefusal
+refusal_by (Done reply) = None
+refusal_by BodyFailed = None
+refusal_by (Busy id) = Some (Why.Busy id)
+refusal_by MovedOften = Some Why.MovedOften
+refusal_by RacedOften = Some Why.RacedOften
+refusal_by LateTag = Some Why.LateTag
+refusal_by (LateRead read_at clock) = None
+refusal_by (NoSpace free needed) = Some (Why.NoSpace free needed)
+
+-- the reply that is written where a task ended so
+abbrev pub outcome_reply : Option Span → Outcome → Option SwiftReply
+outcome_reply asked (Done reply) = reply_in asked reply
+outcome_reply asked outcome = option_map Swift.Refused (refusal_by outcome)
+
+-- ---- texts
+
+-- a reply is written for it
+abbrev pub HasReply : Option SwiftReply → Type 0
+HasReply None = ⊥
+HasReply (Some reply) = Unit {0}
+
+-- what is written of a reply before the bytes of an object: of a reply that shows one the head, of another all
+abbrev pub front_of : ReplyForm → SwiftReply → List ℕ
+front_of form (Swift.Shown object span) = head_text (reply_head form (Swift.Shown object span))
+front_of form reply = reply_text form reply []
+
+-- the bytes of an object that are written behind it
+abbrev pub rest_of : ReplyForm → SwiftReply → List ℕ → List ℕ
+rest_of form (Swift.Shown object span) shown = written_body form shown
+rest_of form reply shown = []
+
+abbrev pub front_if : ReplyForm → Option SwiftReply → List ℕ
+front_if form None = []
+front_if form (Some reply) = front_of form reply
+
+abbrev pub text_if : ReplyForm → Option SwiftReply → List ℕ → List ℕ
+text_if form None shown = []
+text_if form (Some reply) shown = reply_text form reply shown

@@ -1,0 +1,9 @@
+//! What a connection of requests on objects comes to: calls, each with what its reply rests on in the one
+//! history of the realm.
+#![tactic(auto)]
+
+mod laws;
+mod reply;
+
+pub use laws::right_replies_stay_right;
+pub use reply::{push_map_reply, push_outcome};
