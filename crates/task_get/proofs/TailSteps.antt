@@ -110,8 +110,8 @@ module _ (r : GetRequest) (x : ReadingView) (own : OwnEvent) (y : Account) (p : 
   some_left (suc n) left = omega arith
 
   -- the tail is gone
-  pub gone_fits : (clock : ℕ) → own.reply ≡ No (Gone clock) → FitsStage r (Late x (LateRead x.read_at clock)) z q later
-  gone_fits clock reply =
+  pub gone_fits : (clock : ℕ) → own.reply ≡ No (Gone clock) → clock ≡ own.clock → FitsStage r (Late x (LateRead x.read_at clock)) z q later
+  gone_fits clock reply at_miss =
       let n = was.left - 1 in
       let some = some_left was.left refl in
       let left : was.left ≡ suc n = omega (arith, some) in
@@ -138,6 +138,7 @@ module _ (r : GetRequest) (x : ReadingView) (own : OwnEvent) (y : Account) (p : 
             asked = asked n left;
             answered = was.answered;
             missed = reply;
+            at_miss = at_miss;
           },
           front,
         ),

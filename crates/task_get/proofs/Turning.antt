@@ -13,15 +13,19 @@ use Rattle.object_words.specs.declared.head.NewHead.{NewHead}
 use Rattle.object_words.specs.declared.head.SeenSlot.{SeenSlot}
 use Rattle.object_words.specs.declared.head.SeenSlot.TheVariants.{Nothing, Live, Mark}
 use Rattle.object_words.specs.declared.why.Why.TheVariants.{Absent, Gone as is_gone}
+use Rattle.object_words.specs.Keys.{tail_key}
+use Rattle.object_words.specs.Tails.{is_there, read_refusal, bytes_at}
 use Rattle.realm_model.specs.Settings.{SettingsView}
 use Rattle.realm_model.specs.Accounts.{Account, slot_now, looked_after, decided_after, accounted}
 use Rattle.realm_model.specs.Allowed.{allowed}
 use Rattle.realm_model.specs.Learnt.{learnt, manifests_after}
 use Rattle.realm_model.specs.Doors.{DoorView, actor_at}
-use Rattle.realm_model.specs.Histories.{Doings, world_of, Legal}
+use Rattle.realm_model.specs.Histories.{Doings, world_of, state_of, answer_after, Legal}
 use Rattle.realm_model.specs.Maps.{heads, slot_at}
 use Rattle.realm_model.specs.Owns.{OwnEvent, own_events}
 use Rattle.realm_model.specs.Phases.{Phase}
+use Rattle.realm_model.specs.States.{State, at_moment}
+use Rattle.realm_model.specs.Steps.{reply_or, touch_of}
 use Rattle.realm_model.specs.Suits.{Suits}
 use Rattle.realm_model.specs.Worlds.{start}
 use Rattle.realm_model.specs.declared.op.Op.{Op}
@@ -29,7 +33,7 @@ use Rattle.realm_model.specs.declared.op.Op.TheVariants.{HeadRead, TailRead}
 use Rattle.realm_model.specs.declared.event.Event.{Event}
 use Rattle.realm_model.specs.declared.event.Reply.{Reply}
 use Rattle.realm_model.specs.declared.event.Reply.TheVariants.{No, Row, Head as head_reply, Bytes as bytes_reply}
-use Rattle.realm_model.proofs.Runs.{legal_front}
+use Rattle.realm_model.proofs.Runs.{legal_front, state-next, touched-clock}
 use Rattle.realm_door.specs.declared.door.Answered.{Answered}
 use Rattle.realm_door.specs.Steps.{event_at, own_event, Shows, Extends}
 use Rattle.realm_door.specs.Turns.{Given}
@@ -201,6 +205,23 @@ module _ (settings : SettingsView) (d e : DoorView) (op : Op) (moment : ℕ) (a 
         piece.part piece.start piece.count answer (is_op ∙ ap (λ (m : ManifestView). TailRead r.zone m.write piece.part piece.start piece.count) same) is
         (subst (λ (m : ManifestView). 0 < m.stripe) same was.some_stripe) was.behind_head (subst (λ m. piece.part ≤ tails_of m) same within.is_part) within.some (subst (λ m. piece.start + piece.count ≤ part_size m piece.part) same within.inside))
 
+    -- a tail that is gone is told with the clock of the event
+    gone_clock : (clock : ℕ) → a.reply ≡ No (is_gone clock) → clock ≡ a.clock
+    gone_clock clock is =
+        let w = world_of settings found in
+        let st = at_moment w.state moment in
+        let tail = w.state.tails r.zone (tail_key reading.manifest.write piece.part) in
+        let event = event_at d op moment a.reply in
+        let told : No (is_gone clock) ≡ reply_or (bytes_reply (bytes_at tail piece.start piece.count)) (read_refusal tail st.clock) =
+        sym is ∙ x.answer ∙ ap (λ o. answer_after settings found o moment) is_op in
+        let now : clock ≡ st.clock = elim (is_there tail) as (λ b. No (is_gone clock) ≡ reply_or (bytes_reply (bytes_at tail piece.start piece.count)) (cond b None (Some (is_gone st.clock))) → clock ≡ st.clock) [
+          | true ↦ λ e. cc
+          | false ↦ λ e. cc
+        ] told in
+        let after_it : (state_of settings (found ++ event ∷ [])).clock ≡ st.clock =
+        ap (λ (s : State). s.clock) (state-next settings found event) ∙ touched-clock settings st (touch_of settings st op) in
+        now ∙ sym after_it ∙ ap (λ l. (state_of settings l).clock) (sym x.ends) ∙ sym x.clock
+
     tails_step : (reply : Reply) → a.reply ≡ reply → Suits tail_op reply → FitsStage r (step_of r (Tails reading) reply a.clock).0 (account_at settings e) (phase_at settings e) (events_at e)
     unfolding tail_told
     tails_step (bytes_reply answer) is suits =
@@ -209,7 +230,7 @@ module _ (settings : SettingsView) (d e : DoorView) (op : Op) (moment : ℕ) (a 
         subst (λ l. FitsStage r (gone_on reading (length l)) (account_at settings e) (phase_at settings e) (events_at e)) (sym whole)
         (bytes_fit r reading own (account_at settings d) (phase_at settings d) (events_at d) (account_at settings e) (phase_at settings e) (events_at e) tail_told answer is long (are_bytes answer is))
     tails_step (No (is_gone clock)) is suits =
-        gone_fits r reading own (account_at settings d) (phase_at settings d) (events_at d) (account_at settings e) (phase_at settings e) (events_at e) tail_told clock is
+        gone_fits r reading own (account_at settings d) (phase_at settings d) (events_at d) (account_at settings e) (phase_at settings e) (events_at e) tail_told clock is (gone_clock clock is)
     tails_step reply is suits = absurd suits
 
     -- the piece of a tail is what was brought

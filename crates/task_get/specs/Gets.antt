@@ -99,6 +99,7 @@ pub record MissesTail (r : GetRequest) (read_at clock : ℕ) (events : List OwnE
   pub asked : tail_reads r.zone r.get slot ≡ ops_in tails ++ last.op ∷ rest
   pub answered : AnsweredBytes tails
   pub missed : last.reply ≡ No (Gone clock)
+  pub at_miss : clock ≡ last.clock
 
 -- ---- the end
 
