@@ -1,5 +1,6 @@
 -- What a read of a head shows is the slot of the bucket map, with as many bytes as its manifest says.
-use Rattle.std.proofs.Common.{◌≡◌, ℕ, ◌+◌, ◌≤◌, ◌==◌, ◌&&◌, ◌||◌, Bool, true, List, [], ◌∷◌, length, get_or, nat_le, refl, sym, ap, ◌∙◌, arith, map}
+use Rattle.std.proofs.Common.{◌≡◌, ℕ, ◌+◌, ◌<◌, ◌≤◌, ◌==◌, ◌&&◌, ◌||◌, inl, inr, Bool, true, List, [], ◌∷◌, length, get_or, nat_le, refl, sym, ap, ◌∙◌, arith, map}
+use Rattle.std.specs.Prelude.{flat_map, unwrap_or}
 use Rattle.std.specs.List.{concat, list_any, range_with_len}
 use Rattle.std.proofs.lemmas.Bool.Decides.{nat_tests}
 use Rattle.std.proofs.lemmas.List.FromFn.{get_or-map-range_with_len}
@@ -20,8 +21,12 @@ use Rattle.realm_model.specs.Histories.{world_of, state_of, Legal}
 use Rattle.realm_model.specs.declared.event.Event.{Event}
 use Rattle.realm_model.proofs.Agreeing.{heads_agree}
 use Rattle.stripe_law.specs.Reading.{contents_at}
-use Rattle.stripe_law.proofs.Storing.{object_parts, object_size, object_slot}
+use Rattle.stripe_law.proofs.Storing.{object_parts, object_size, object_slot, live_sized, has_stripes}
+use Rattle.realm_model.specs.Phases.{Phase}
+use Rattle.realm_model.specs.Learnt.{with_manifest}
+use Rattle.stripe_law.proofs.Keeping.{stripes_hold}
 use Rattle.task_get.specs.Shown.{HasParts, IsShownAs}
+use Rattle.task_get.specs.Gets.{HasSeen}
 
 abbrev bytes_in : Slot → List ℕ
 bytes_in (Slots.Live content stamp) = content.bytes
@@ -44,6 +49,8 @@ shown_as settings found zone container name (Live new stamp) legal is =
     let contents = contents_at (state_of settings found).tails zone new in
     let bytes : whole_bytes made zone new ≡ concat contents = ap bytes_in (sym here ∙ there) in
     let parts : HasParts new (whole_bytes made zone new) = record {
+      rest = flat_map (λ part. unwrap_or (made zone new.manifest.write part) []) (range_with_len 1 (tails_of new.manifest));
+      begins = refl;
       size = ap length bytes ∙ object_size settings found legal zone container name new stamp state;
       first = first_size new.manifest new.first (map (λ part. ((state_of settings found).tails zone (tail_key new.manifest.write part)).bytes) (range_with_len 1 (tails_of new.manifest))) (object_parts settings found legal zone container name new stamp state);
     } in
@@ -56,7 +63,7 @@ all_hold b c d e rest is_b is_c is_d is_e = rw is_b (rw is_c (rw is_d (rw is_e r
 low_test : (low n : ℕ) → low ≤ n → nat_le low n ≡ true
 low_test low n h = grind (arith, nat_tests)
 
-between_test : (low high n : ℕ) → low ≤ n → n ≤ high → is_between low high n ≡ true
+pub between_test : (low high n : ℕ) → low ≤ n → n ≤ high → is_between low high n ≡ true
 between_test low high n a b = rw (low_test low n a) (low_test n high b)
 
 -- the range lies in a tail of this manifest
@@ -74,3 +81,32 @@ seen_first zone m number clock rest part start count some low high inside =
     let holds = all_hold (zone == zone) (m.write == m.write) (is_between 1 (tails_of m) part) (nat_le (start + count) (part_size m part)) others
     (number_itself zone) (number_itself m.write) (between_test 1 (tails_of m) part low high) (low_test (start + count) (part_size m part) inside) in
     rw (low_test 1 count some) holds
+
+-- the same for the manifest that a head shows
+abbrev pub HasSeenIn : ℕ → SeenSlot → Phase → Type 0
+HasSeenIn zone (Live new stamp) p = HasSeen zone new.manifest p
+HasSeenIn zone slot p = Unit {0}
+
+pub seen_in : (zone : ℕ) (slot : SeenSlot) (old : List SeenManifest) (number clock : ℕ) (p : Phase) → p.stripes.seen ≡ with_manifest old zone slot number clock → HasSeenIn zone slot p
+seen_in zone Nothing old number clock p is = tt
+seen_in zone (Mark stamp) old number clock p is = tt
+seen_in zone (Live new stamp) old number clock p is = λ part start count some low high inside.
+    rw is (seen_first zone new.manifest number clock old part start count some low high inside)
+
+-- an object with bytes has stripes
+abbrev pub HasStripe : SeenSlot → Type 0
+HasStripe (Live new stamp) = 1 ≤ new.manifest.size → 0 < new.manifest.stripe
+HasStripe slot = Unit {0}
+
+pub has_stripe : (settings : SettingsView) (found : List Event) (zone container : ℕ) (name : List ℕ) (slot : SeenSlot) → Legal settings found → slot ≡ slot_at (heads found zone container) name → HasStripe slot
+has_stripe settings found zone container name Nothing legal is = tt
+has_stripe settings found zone container name (Mark stamp) legal is = tt
+has_stripe settings found zone container name (Live new stamp) legal is = λ some.
+    let w = world_of settings found in
+    let state : ((state_of settings found).heads zone (head_key container name)).slot ≡ Live new stamp =
+    sym (heads_agree settings found legal zone container name) ∙ sym is in
+    let sizes = live_sized settings found legal zone (head_key container name) new stamp state in
+    elim (has_stripes w.stripes.made w.stripes.ledger zone new.manifest (stripes_hold settings found legal).made_once sizes.1) [
+      | inl filled ↦ filled
+      | inr none ↦ absurd (omega (arith, some, none))
+    ]

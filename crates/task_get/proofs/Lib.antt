@@ -1,2 +1,9 @@
+pub mod Replies
+pub mod Pieces
 pub mod Heads
-pub mod Reading
+pub mod Located
+pub mod Ends
+pub mod HeadSteps
+pub mod TailSteps
+pub mod Turning
+pub mod Giving

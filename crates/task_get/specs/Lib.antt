@@ -1,3 +1,7 @@
 pub mod Shown
-pub mod Ranges
-pub mod Reads
+pub mod Replies
+pub mod Pieces
+pub mod Readings
+pub mod Stages
+pub mod Gets
+pub mod Tasks

@@ -1,5 +1,5 @@
 -- What a head shows of a slot.
-use Rattle.std.specs.Prelude.{◌≡◌, ℕ, List, length}
+use Rattle.std.specs.Prelude.{◌≡◌, ℕ, List, ◌++◌, length}
 use Rattle.rgw_model.specs.declared.slot.Content.{Content}
 use Rattle.rgw_model.specs.declared.slot.Slot.{Slot}
 use Rattle.rgw_model.specs.declared.slot.Slot.TheVariants as Slots
@@ -16,6 +16,8 @@ content_with new bytes = record { bytes = bytes; kind = new.kind; meta = new.met
 pub record HasParts (new : NewHead) (bytes : List ℕ) : Type 0 where
   pub size : length bytes ≡ new.manifest.size
   pub first : length new.first ≡ part_size new.manifest 0
+  pub rest : List ℕ
+  pub begins : bytes ≡ new.first ++ rest
 
 -- the slot, with all its bytes, is the one that the head shows
 abbrev pub IsShownAs : Slot → SeenSlot → Type 0

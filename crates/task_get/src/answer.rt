@@ -1,9 +1,9 @@
 //! The reply to a GET or a HEAD, by what the head shows (RFC 9110, sections 13 and 14).
-ghost use Rattle.std.specs.Prelude.{◌≡◌, ◌+◌, ◌≤◌, ℕ, List, Some, None, IfSome, length};
+ghost use Rattle.std.specs.Prelude.{◌≡◌, ◌+◌, ◌≤◌, ℕ, List, Some, None, IfSome};
 ghost use Rattle.hex.specs.Hex.{encode_lower};
 ghost use Rattle.object_words.specs.Conditions.{meets};
-ghost use Rattle.task_words.specs.Answers.{is_unmet, is_had, live_answer, span_of};
-ghost use Rattle.task_get.specs.Ranges.{ShowsRange};
+ghost use Rattle.task_words.specs.Answers.{is_unmet, is_had, span_of};
+ghost use Rattle.task_get.specs.Replies.{reply_to, range_in};
 
 use object_words::{Conditions, EtagRule, MediaType};
 use rgw_types::{Pairs, Stamp};
@@ -78,9 +78,8 @@ pub fn live_reply(
     etag: [u8; 16],
     stamp: Stamp,
 ) -> LiveReply
-    ensures reply { (bytes : List ℕ) → length bytes ≡ size
-        → result.reply ≡ (live_answer get.now (record { bytes = bytes; kind = kind; meta = meta; etag = etag }) stamp).reply }
-    ensures range { ShowsRange result.reply result.range }
+    ensures reply { result.reply ≡ reply_to get.now size kind meta etag stamp }
+    ensures range { result.range ≡ range_in result.reply }
     ensures inside { IfSome result.range (λ range. range.start + range.count ≤ size) }
 {
     if is_unmet(&get.when, &etag, &stamp) {

@@ -1,9 +1,17 @@
-//! What a GET or a HEAD of an object needs: its reads, over any door, and its reply. The task that makes the
-//! reads one a turn is still to come.
+//! GET and HEAD of an object, over any door.
 #![tactic(auto)]
 
 mod answer;
-mod steps;
+mod laws;
+mod piece;
+mod reading;
+mod request;
+mod stage;
+mod task;
 
-pub use answer::{LiveReply, live_reply};
-pub use steps::{HeadShown, TailShown, read_head, read_row, read_tail};
+pub use laws::{
+    others_leave_a_task_where_it_stands, pieces_are_the_bytes_shown, pieces_follow_one_another,
+    the_reply_is_shown_from_the_head_on,
+};
+pub use request::GetRequest;
+pub use task::GetTask;

@@ -1,0 +1,202 @@
+-- What callers of a GET know: the pieces, one after another, are the bytes that its reply shows.
+use Rattle.std.proofs.Common.{◌≡◌, ℕ, ◌⊎◌, inl, inr, ⊎_elim, Bool, true, false, cond, List, [], ◌∷◌, ◌++◌, length, drop, Option, Some, None, refl, sym, ap, ◌∙◌, subst, arith, length-append, length-take, length-drop}
+use Rattle.std.specs.Prelude.{IfSome}
+use Rattle.std.proofs.lemmas.Grind.{flat_map-append}
+use Rattle.std.proofs.lemmas.List.{append-nil, nil_from_length}
+use Rattle.rgw_types.specs.declared.stamp.Stamp.{Stamp}
+use Rattle.rgw_model.specs.declared.slot.Content.{Content}
+use Rattle.rgw_model.specs.declared.slot.Slot.{Slot}
+use Rattle.rgw_model.specs.declared.slot.Slot.TheVariants as Slots
+use Rattle.object_words.specs.declared.head.SeenSlot.TheVariants.{Live}
+use Rattle.realm_model.specs.Settings.{SettingsView}
+use Rattle.realm_model.specs.Accounts.{Decided, Account}
+use Rattle.realm_model.specs.Phases.{Phase}
+use Rattle.realm_model.specs.Histories.{Doings}
+use Rattle.realm_model.specs.Doors.{DoorView, actor_at}
+use Rattle.realm_model.specs.Owns.{OwnEvent, own_events, NoneBy}
+use Rattle.realm_model.specs.declared.event.Event.{Event}
+use Rattle.realm_door.specs.Steps.{own_event}
+use Rattle.realm_door.specs.Turns.{MakesEvent}
+use Rattle.realm_door.proofs.Others.{same_after_others}
+use Rattle.task_words.specs.declared.command.GetCommand.{GetCommand}
+use Rattle.task_words.specs.declared.span.ByteRange.{ByteRange}
+use Rattle.task_words.specs.declared.outcome.Outcome.{Outcome}
+use Rattle.task_words.specs.declared.outcome.Outcome.TheVariants.{Done, LateRead}
+use Rattle.task_words.specs.declared.reply.MapReply.{MapReply}
+use Rattle.task_words.specs.declared.reply.MapReply.TheVariants.{Stored, Shown, Same, Counted, Refused}
+use Rattle.task_words.specs.declared.reply.Refusal.TheVariants.{Unauthorized, Denied, NoContainer, NoObject, NotMet, NoRange, OtherEtag}
+use Rattle.task_words.specs.Spans.{bytes_taken}
+use Rattle.task_words.specs.Answers.{is_unmet, is_had, span_of, get, get_answer}
+use Rattle.task_words.specs.Outcomes.{ByMap, IsShown}
+use Rattle.task_get.specs.declared.request.GetRequest.{GetRequest}
+use Rattle.task_get.specs.declared.stage.Stage.{Stage}
+use Rattle.task_get.specs.declared.stage.Stage.TheVariants.{Look, Open, Tails, Ended, Late}
+use Rattle.task_get.specs.declared.task.GetTask.{GetTask}
+use Rattle.task_get.specs.Shown.{content_with}
+use Rattle.task_get.specs.Replies.{reply_of}
+use Rattle.task_get.specs.Pieces.{brought_by, brought}
+use Rattle.task_get.specs.Gets.{ReadsRow, ReadsAll, BringsAll, BringsFront, Means, LastBrings, FitsStage}
+use Rattle.task_get.specs.Tasks.{account_at, phase_at, events_at, bytes_of, given_of, where_shown, shown_by, Fits}
+use Rattle.task_get.proofs.Replies.{answer_by, Lies, taken_lies, live_is}
+use Rattle.task_get.proofs.Ends.{decided_slot, front_shown, shows_bytes}
+
+-- ---- the ends, by what decides
+
+-- by the row, before any head
+record EndsByRow (r : GetRequest) (reply : MapReply) (y : Account) (events : List OwnEvent) : Type 0 where
+  undecided : y.decided ≡ None
+  hidden : where_shown reply ≡ None
+  reads : ReadsRow r events
+
+-- by the bucket map
+record EndsByMap (r : GetRequest) (reply : MapReply) (y : Account) (events : List OwnEvent) : Type 0 where
+  by_map : ByMap r.zone r.asker (get r.get) reply y.decided
+  reads : ReadsAll r events
+  brings : BringsAll r y events
+
+by_either : (r : GetRequest) (reply : MapReply) (y : Account) (events : List OwnEvent) → Means r (Done reply) y events → EndsByRow r reply y events ⊎ EndsByMap r reply y events
+by_either r (Refused Unauthorized) y events m = inl (record { undecided = m.0.undecided; hidden = refl; reads = m.1 })
+by_either r (Refused (Denied rule)) y events m = inl (record { undecided = m.0.undecided; hidden = refl; reads = m.1 })
+by_either r (Refused NoContainer) y events m = inl (record { undecided = m.0.undecided; hidden = refl; reads = m.1 })
+by_either r (Refused NoObject) y events m = inr (record { by_map = m.0.0; reads = m.1.0; brings = m.1.1 })
+by_either r (Refused NotMet) y events m = inr (record { by_map = m.0.0; reads = m.1.0; brings = m.1.1 })
+by_either r (Refused (NoRange size)) y events m = inr (record { by_map = m.0.0; reads = m.1.0; brings = m.1.1 })
+by_either r (Refused OtherEtag) y events m = inr (record { by_map = m.0.0; reads = m.1.0; brings = m.1.1 })
+by_either r (Stored etag stamp) y events m = inr (record { by_map = m.0.0; reads = m.1.0; brings = m.1.1 })
+by_either r (Shown kind meta etag stamp size start count) y events m = inr (record { by_map = m.0.0; reads = m.1.0; brings = m.1.1 })
+by_either r (Same etag stamp) y events m = inr (record { by_map = m.0.0; reads = m.1.0; brings = m.1.1 })
+by_either r (Counted row objects bytes) y events m = inr (record { by_map = m.0.0; reads = m.1.0; brings = m.1.1 })
+
+-- the reply is that of the bucket map at the event that decides
+mapped_reply : (r : GetRequest) (reply : MapReply) (y : Account) (event : Decided) → ByMap r.zone r.asker (get r.get) reply y.decided → y.decided ≡ Some event → reply ≡ (get_answer r.get event.before).reply
+mapped_reply r reply y event by is =
+    let both : Some by.event ≡ Some event = sym by.is_last ∙ is in
+    let same : by.event ≡ event = cc in
+    by.answers ∙ ap (λ (d : Decided). (get_answer r.get d.before).reply) same
+
+shown_is : (reply : MapReply) → IsShown reply → Some reply ≡ where_shown reply
+shown_is (Shown kind meta etag stamp size start count) is = refl
+shown_is reply is = absurd is
+
+-- ---- the reply that is shown
+
+pub shown_at_once : (r : GetRequest) (stage : Stage) (y : Account) (p : Phase) (events : List OwnEvent) (event : Decided) → FitsStage r stage y p events → y.decided ≡ Some event → shown_by stage ≡ where_shown (get_answer r.get event.before).reply
+shown_at_once r Look y p events event fits is = let e : None ≡ Some event = sym fits.undecided ∙ is in cc
+shown_at_once r (Open container) y p events event fits is = let e : None ≡ Some event = sym fits.undecided ∙ is in cc
+shown_at_once r (Tails x) y p events event fits is =
+    let c = r.get in
+    let whole : Slot = Slots.Live (content_with fits.new fits.bytes) fits.stamp in
+    let slot = decided_slot r (Live fits.new fits.stamp) whole fits.head fits.tails y events event fits.has_read is in
+    let shown : IsShown x.reply = subst IsShown (sym fits.reply) (shows_bytes c.body (reply_of c fits.new fits.stamp) x.range fits.range) in
+    let same : x.reply ≡ (get_answer c event.before).reply = fits.reply ∙ (live_is c fits.new fits.stamp fits.bytes fits.parts.size).reply ∙ sym (ap (λ s. (get_answer c s).reply) slot) in
+    shown_is x.reply shown ∙ ap where_shown same
+shown_at_once r (Ended (Done reply) given) y p events event fits is =
+    ⊎_elim
+    (λ row. let e : None ≡ Some event = sym row.undecided ∙ is in cc)
+    (λ map. ap where_shown (mapped_reply r reply y event map.by_map is))
+    (by_either r reply y events fits.0)
+shown_at_once r (Ended outcome given) y p events event fits is = absurd fits.1
+shown_at_once r (Late x outcome) y p events event fits is = shown_is x.reply fits.1.is_shown ∙ ap where_shown (mapped_reply r x.reply y event fits.1.by_map is)
+
+pub none_shown : (r : GetRequest) (stage : Stage) (y : Account) (p : Phase) (events : List OwnEvent) → FitsStage r stage y p events → y.decided ≡ None → shown_by stage ≡ None
+none_shown r Look y p events fits is = refl
+none_shown r (Open container) y p events fits is = refl
+none_shown r (Tails x) y p events fits is = let e = sym fits.has_read.decided ∙ is in cc
+none_shown r (Ended (Done reply) given) y p events fits is =
+    ⊎_elim
+    (λ row. row.hidden)
+    (λ map. let e : Some map.by_map.event ≡ None = sym map.by_map.is_last ∙ is in cc)
+    (by_either r reply y events fits.0)
+none_shown r (Ended outcome given) y p events fits is = absurd fits.1
+none_shown r (Late x outcome) y p events fits is = let e : Some fits.1.by_map.event ≡ None = sym fits.1.by_map.is_last ∙ is in cc
+
+-- ---- the bytes
+
+front_meant : (r : GetRequest) (outcome : Outcome) (y : Account) (events : List OwnEvent) → Means r outcome y events → BringsFront r y events
+front_meant r (Done reply) y events m event is =
+    ⊎_elim
+    (λ row. let e : None ≡ Some event = sym row.undecided ∙ is in cc)
+    (λ map. record { rest = []; joined = sym (map.brings event is) ∙ sym (append-nil (brought r.get events)) })
+    (by_either r reply y events m)
+front_meant r (LateRead read_at clock) y events m event is = m.2 event is
+front_meant r outcome y events m event is = absurd m
+
+pub front_at_once : (r : GetRequest) (stage : Stage) (y : Account) (p : Phase) (events : List OwnEvent) → FitsStage r stage y p events → BringsFront r y events
+front_at_once r Look y p events fits event is = let e : None ≡ Some event = sym fits.undecided ∙ is in cc
+front_at_once r (Open container) y p events fits event is = let e : None ≡ Some event = sym fits.undecided ∙ is in cc
+front_at_once r (Tails x) y p events fits event is =
+    let given = fits.given in
+    let ends = fits.is_reading.ends in
+    front_shown r fits.new fits.stamp fits.bytes fits.head fits.tails y events x.range x.given fits.parts fits.has_read fits.range (omega (arith, given, ends)) fits.brings event is
+front_at_once r (Ended outcome given) y p events fits event is = front_meant r outcome y events fits.0 event is
+front_at_once r (Late x outcome) y p events fits event is = front_meant r outcome y events fits.0 event is
+
+-- so many are shown as the reply says, where they are wanted
+shown_by_cases : (unmet had : Bool) (range : Option ByteRange) (wanted : Bool) (content : Content) (now : Stamp) (kind : List ℕ) (meta : List (List ℕ × List ℕ)) (etag : List ℕ) (stamp : Stamp) (size start count : ℕ) → IfSome range (Lies (length content.bytes))
+    → Shown kind meta etag stamp size start count ≡ (answer_by unmet had range wanted content now).reply → length (answer_by unmet had range wanted content now).shown ≡ cond wanted count 0
+shown_by_cases true had range wanted content now kind meta etag stamp size start count lies is = cc
+shown_by_cases false true range wanted content now kind meta etag stamp size start count lies is = cc
+shown_by_cases false false None wanted content now kind meta etag stamp size start count lies is = cc
+shown_by_cases false false (Some range) true content now kind meta etag stamp size start count lies is =
+    let same : count ≡ range.count = cc in
+    let one = length-take range.count (drop range.start content.bytes) in
+    let two = length-drop range.start content.bytes in
+    omega (arith, one, two, lies, same)
+shown_by_cases false false (Some range) false content now kind meta etag stamp size start count lies is = refl
+
+shown_count : (c : GetCommand) (slot : Slot) (kind : List ℕ) (meta : List (List ℕ × List ℕ)) (etag : List ℕ) (stamp : Stamp) (size start count : ℕ) → Shown kind meta etag stamp size start count ≡ (get_answer c slot).reply → length (get_answer c slot).shown ≡ cond c.body count 0
+shown_count c Slots.Nothing kind meta etag stamp size start count is = cc
+shown_count c (Slots.Mark old) kind meta etag stamp size start count is = cc
+shown_count c (Slots.Live content now) kind meta etag stamp size start count is =
+    shown_by_cases (is_unmet c.when.matches c.when.unmodified content.etag now) (is_had c.when.none c.when.modified content.etag now) (bytes_taken (span_of c) (length content.bytes)) c.body content now kind meta etag stamp size start count (taken_lies (span_of c) (length content.bytes)) is
+
+pub all_counted : (r : GetRequest) (y : Account) (events : List OwnEvent) (kind : List ℕ) (meta : List (List ℕ × List ℕ)) (etag : List ℕ) (stamp : Stamp) (size start count : ℕ) → Means r (Done (Shown kind meta etag stamp size start count)) y events → length (brought r.get events) ≡ cond r.get.body count 0
+all_counted r y events kind meta etag stamp size start count m =
+    let by = m.0.0 in
+    let brings = m.1.1 in
+    ap length (brings by.event by.is_last) ∙ shown_count r.get by.event.before kind meta etag stamp size start count by.answers
+
+-- ---- turns
+
+pub next_piece_follows : (settings : SettingsView) (t u : GetTask) (d e : DoorView) (moment : ℕ) → u.request ≡ t.request → Fits u settings e → MakesEvent settings moment d e → brought t.request.get (events_at e) ≡ brought t.request.get (events_at d) ++ bytes_of u
+next_piece_follows settings t u d e moment request fits made =
+    let x = made.extends in
+    let c = t.request.get in
+    let own : OwnEvent = own_event made.op made.answered in
+    let pass = (x.grows).pass in
+    let count = (x.grows).count in
+    let actor : actor_at e ≡ actor_at d = λ i. record { pass = pass i; count = count i } in
+    let events : events_at e ≡ events_at d ++ own ∷ [] = ap (own_events e.seen) actor ∙ x.events in
+    let piece : bytes_of u ≡ brought_by c own.op own.reply = fits.piece (events_at d) own events ∙ ap (λ (r : GetRequest). brought_by r.get own.op own.reply) request in
+    ap (brought c) events
+    ∙ flat_map-append (λ (e : OwnEvent). brought_by c e.op e.reply) (events_at d) (own ∷ [])
+    ∙ ap (λ l. brought c (events_at d) ++ l) (append-nil (brought_by c own.op own.reply))
+    ∙ ap (λ l. brought c (events_at d) ++ l) (sym piece)
+
+pub no_piece : (settings : SettingsView) (t u : GetTask) (d e : DoorView) (moment : ℕ) → u.request ≡ t.request → Fits t settings d → Fits u settings e → MakesEvent settings moment d e → given_of u ≡ given_of t → brought t.request.get (events_at e) ≡ brought t.request.get (events_at d)
+no_piece settings t u d e moment request before fits made same =
+    let c = t.request.get in
+    let all = next_piece_follows settings t u d e moment request fits made in
+    let long = ap length all ∙ length-append (brought c (events_at d)) (bytes_of u) in
+    let now = fits.given ∙ ap (λ (r : GetRequest). length (brought r.get (events_at e))) request in
+    let then = before.given in
+    let none : bytes_of u ≡ [] = nil_from_length (bytes_of u) (omega (arith, long, now, then, same)) in
+    all ∙ ap (λ l. brought c (events_at d) ++ l) none ∙ append-nil (brought c (events_at d))
+
+-- ---- others
+
+pub still_fits : (settings : SettingsView) (t : GetTask) (d : DoorView) (between : List Event) → NoneBy (actor_at d) between → Fits t settings d → Fits t settings (record d { seen = d.seen ++ between })
+still_fits settings t d between none fits =
+    let same = same_after_others settings d.seen between (actor_at d) none in
+    let account = ap (λ (x : Doings). x.account) same.doings in
+    let phase = ap (λ (x : Doings). x.phase) same.doings in
+    let events = same.events in
+    record {
+      first_zone = fits.first_zone;
+      last_zone = fits.last_zone;
+      stage = subst (λ y. FitsStage t.request t.stage y (phase_at settings (record d { seen = d.seen ++ between })) (events_at (record d { seen = d.seen ++ between }))) (sym account)
+          (subst (λ p. FitsStage t.request t.stage (account_at settings d) p (events_at (record d { seen = d.seen ++ between }))) (sym phase)
+          (subst (λ es. FitsStage t.request t.stage (account_at settings d) (phase_at settings d) es) (sym events) fits.stage));
+      given = subst (λ es. given_of t ≡ length (brought t.request.get es)) (sym events) fits.given;
+      piece = subst (λ es. LastBrings t.request (bytes_of t) es) (sym events) fits.piece;
+    }

@@ -1,0 +1,225 @@
+ghost use Rattle.std.specs.Prelude.{◌≡◌, ◌≤◌, [], IfOk, true, false, length, option_copied};
+ghost use Rattle.realm_model.specs.Settings.{SettingsView};
+ghost use Rattle.realm_model.specs.Accounts.{blank};
+ghost use Rattle.realm_model.specs.Histories.{account_of};
+ghost use Rattle.realm_model.specs.Owns.{own_events};
+ghost use Rattle.realm_model.specs.Doors.{DoorView, actor_at};
+ghost use Rattle.realm_model.specs.Suits.{Suits};
+ghost use Rattle.task_get.specs.Pieces.{piece_bytes};
+ghost use Rattle.realm_door.specs.declared.task.TaskTurn.TheVariants.{More, Gives};
+ghost use Rattle.task_get.specs.Stages.{IsOver, IsOpen, op_of, step_of};
+ghost use Rattle.task_get.specs.Tasks.{request_of, bytes_of, shown_in, shown_of, Fits};
+
+use crate::piece;
+use crate::piece::Piece;
+use crate::request::GetRequest;
+use crate::stage::{Stage, Step, after_head, after_row, after_tail, row_in, slot_in, tail_in};
+use realm_door::{Door, Task, TaskTurn};
+use realm_model::{Op, Reply};
+use rgw_types::PartNumber;
+use std::alloc::{AllocError, Global};
+use std::mem::replace;
+use task_words::{MapReply, Outcome};
+use turn_cell::DoorFault;
+
+/// A GET or a HEAD of an object: the row is read, then the head, and then, where bytes are wanted, the
+/// tails that have some of them.
+#[derive(Drop)]
+pub struct GetTask {
+    request: GetRequest,
+    stage: Stage,
+    /// What the last turn gave.
+    piece: Option<Piece>,
+    fault: Option<DoorFault>,
+}
+
+impl GetTask {
+    /// A task that made no event.
+    pub fn new(request: GetRequest) -> GetTask
+        ensures request { request_of result ≡ request }
+        ensures fits { (settings : SettingsView) (d : DoorView) → 1 ≤ request.zone → request.zone ≤ settings.zones
+            → account_of settings d.seen (actor_at d) ≡ blank → own_events d.seen (actor_at d) ≡ []
+            → Fits result settings d }
+    {
+        GetTask {
+            request,
+            stage: Stage::Look,
+            piece: None,
+            fault: None,
+        }
+    }
+
+    /// The bytes that the last turn gave.
+    pub fn piece(&self) -> &[u8]
+        ensures { result.now ≡ bytes_of self.now }
+    {
+        piece::bytes_of(self.piece.as_ref())
+    }
+
+    /// The reply whose bytes the pieces are, once it is known.
+    pub fn shown(&self) -> Option<&MapReply>
+        ensures { option_copied result ≡ shown_of self.now }
+    {
+        match &self.stage {
+            Stage::Tails(reading) | Stage::Late { reading, .. } => Some(&reading.reply),
+            Stage::Ended { outcome, .. } => shown_in(outcome),
+            Stage::Look | Stage::Open { .. } => None,
+        }
+    }
+
+    /// The operation that comes next.
+    fn next_op(&self) -> Result<Op, AllocError>
+        requires { IsOpen self.now.stage }
+        ensures { IfOk result (λ op. op ≡ op_of self.now.request self.now.stage) }
+    {
+        let zone = self.request.zone;
+        match &self.stage {
+            Stage::Open { container } => Ok(Op::HeadRead {
+                zone,
+                container: *container,
+                name: self.request.get.name.clone()?,
+            }),
+            Stage::Tails(reading) => {
+                let piece = reading.next_piece();
+                Ok(Op::TailRead {
+                    zone,
+                    write: reading.manifest.write,
+                    part: PartNumber::new(piece.part),
+                    start: piece.start,
+                    count: piece.count,
+                })
+            }
+            _ => Ok(Op::BucketRead {
+                zone,
+                name: self.request.get.container.clone()?,
+            }),
+        }
+    }
+
+    /// Goes on by the answer to that operation, at this clock.
+    fn take(&mut self, reply: Reply, clock: u64)
+        requires suits { Suits (op_of self.old.request self.old.stage) reply }
+        ensures request { self.new.request ≡ self.old.request }
+        ensures fault { self.new.fault ≡ self.old.fault }
+        ensures stage { self.new.stage ≡ (step_of self.old.request self.old.stage reply clock).0 }
+        ensures piece { piece_bytes self.new.piece ≡ (step_of self.old.request self.old.stage reply clock).1 }
+    {
+        let stage = replace(&mut self.stage, Stage::Look);
+        let Step { stage, piece } = next_step(&self.request, stage, reply, clock);
+        self.stage = stage;
+        self.piece = piece;
+    }
+}
+
+/// The reply of an outcome, where it shows bytes.
+fn shown_in(outcome: &Outcome) -> Option<&MapReply>
+    ensures { option_copied result ≡ shown_in outcome.now }
+{
+    match outcome {
+        Outcome::Done(reply) => match reply {
+            MapReply::Shown { .. } => Some(reply),
+            _ => None,
+        },
+        _ => None,
+    }
+}
+
+/// The stage after an answer, and what it gives.
+fn next_step(request: &GetRequest, stage: Stage, reply: Reply, clock: u64) -> Step
+    requires suits { Suits (op_of request.now stage) reply }
+    ensures stage { result.stage ≡ (step_of request.now stage reply clock).0 }
+    ensures piece { piece_bytes result.piece ≡ (step_of request.now stage reply clock).1 }
+{
+    match stage {
+        Stage::Look => Step {
+            stage: after_row(&request.asker, row_in(reply)),
+            piece: None,
+        },
+        Stage::Open { .. } => after_head(&request.get, slot_in(reply), clock),
+        Stage::Tails(reading) => after_tail(reading, tail_in(reply)),
+        over => Step {
+            stage: over,
+            piece: None,
+        },
+    }
+}
+
+impl Task for GetTask {
+    ghost use Rattle.std.specs.Prelude.{None};
+    ghost use Rattle.task_get.specs.Stages.{IsOver};
+    ghost use Rattle.task_get.specs.Tasks.{request_of, bytes_of, given_of, Fits, means};
+
+    type Command = GetRequest;
+
+    type Outcome = Outcome;
+
+    ghost command = { request_of };
+
+    ghost fits = { Fits };
+
+    ghost means = { means };
+
+    ghost is_ended = { λ t. IsOver t.stage × (t.fault ≡ None) };
+
+    ghost fault = { λ t. t.fault };
+
+    ghost piece = { bytes_of };
+
+    ghost given = { given_of };
+
+    ghost wants = { λ t. ⊥ };
+
+    fn turn<D: Door>(
+        &mut self,
+        alloc: Global,
+        door: &mut D,
+        moment: u64,
+    ) -> Result<TaskTurn, DoorFault> {
+        if let Some(fault) = self.fault {
+            return Err(fault);
+        }
+        if is_over(&self.stage) {
+            return Ok(TaskTurn::Done);
+        }
+        let Ok(op) = self.next_op() else {
+            self.fault = Some(DoorFault::OutOfMemory);
+            return Err(DoorFault::OutOfMemory);
+        };
+        match door.step(alloc, op, moment) {
+            Ok(answered) => {
+                self.take(answered.reply, answered.clock);
+                Ok(turn_giving(self.piece()))
+            }
+            Err(stopped) => {
+                self.fault = Some(stopped.fault);
+                Err(stopped.fault)
+            }
+        }
+    }
+
+    fn outcome(&self) -> Option<&Outcome> {
+        match (&self.stage, self.fault) {
+            (Stage::Ended { outcome, .. } | Stage::Late { outcome, .. }, None) => Some(outcome),
+            _ => None,
+        }
+    }
+}
+
+fn is_over(stage: &Stage) -> bool
+    ensures over { result ≡ true → IsOver stage.now }
+    ensures open { result ≡ false → IsOpen stage.now }
+{
+    matches!(stage, Stage::Ended { .. } | Stage::Late { .. })
+}
+
+/// The turn of an event that brought these bytes.
+fn turn_giving(piece: &[u8]) -> TaskTurn
+    ensures gives { 1 ≤ length piece.now → result ≡ Gives }
+    ensures goes_on { length piece.now ≡ 0 → result ≡ More }
+{
+    if piece.is_empty() {
+        TaskTurn::More
+    } else {
+        TaskTurn::Gives
+    }
+}
