@@ -4,3 +4,6 @@ pub mod Searching
 pub mod Taking
 pub mod Client
 pub mod Planned
+pub mod Texts
+pub mod Chunks
+pub mod Given

@@ -6,6 +6,7 @@ mod buffer;
 mod fault;
 mod intake;
 mod next_bytes;
+mod next_chunk;
 mod next_head;
 mod scan;
 

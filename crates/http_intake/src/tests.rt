@@ -124,18 +124,18 @@ fn add_body<S: Source>(
     text: &mut String,
 ) -> Result<Option<IntakeFault>, AllocError>
     requires goes { intake.old.failed ≡ None }
-    requires unchunked { IsUnchunked intake.old }
     ensures { IfOk result (λ fault. MatchOption fault ((intake.new.failed ≡ None) × IsBetween intake.new)
         (λ fault. intake.new.failed ≡ Some fault)) }
 {
     let mut piece = [0; 3];
-    'pieces: loop {
+    for _ in 0..u64::MAX {
         match intake.body(source, &mut piece) {
             Ok(0) => return Ok(None),
             Ok(count) => text.push_str(str::from_utf8(&piece[..count]).unwrap_or("?"))?,
             Err(fault) => return Ok(Some(fault)),
         }
     }
+    Err(AllocError)
 }
 
 /// Adds what the intake answers next: the method, the framing and the body of a request, the end, or
@@ -159,9 +159,6 @@ fn add_answer<S: Source>(
             let method = head.method.as_str();
             let framing = head.framing;
             write!(text, "{method} {framing:?} ")?;
-            if framing == Framing::Chunked {
-                return Ok(false);
-            }
             let stopped = add_body(intake, source, text)?;
             text.push_str(" ")?;
             let Some(fault) = stopped else {
@@ -179,7 +176,7 @@ fn add_answer<S: Source>(
 
 /// What an intake answers on a connection. After a fault both calls are asked again.
 fn answers<S: Source>(alloc: Global, source: &mut S) -> Result<String, Fail> {
-    let mut intake = Intake::new(alloc, 0)?;
+    let mut intake = Intake::new(alloc, 10)?;
     let mut text = String::new(alloc);
     for _ in 0..4 {
         if !add_answer(alloc, &mut intake, source, &mut text)? {
@@ -200,7 +197,19 @@ fn pieces_give_the_same_answers(rt: HostRuntime) -> Result<(), Fail> {
         ),
         (
             "PUT /a HTTP/1.1\nTransfer-Encoding: chunked\n\n",
-            "PUT Chunked ",
+            "PUT Chunked  Cut Some(Cut) Some(Cut)",
+        ),
+        (
+            "PUT /a HTTP/1.1\nTransfer-Encoding: chunked\n\n4\r\nWiki\r\n5;x=\"y\"\r\npedia\r\n0\r\nA: b\r\n\r\nGET /b HTTP/1.0\n\n",
+            "PUT Chunked Wikipedia GET Empty  end",
+        ),
+        (
+            "PUT /a HTTP/1.1\nTransfer-Encoding: chunked\n\n4\r\nWiki\r\nzz\r\n",
+            "PUT Chunked Wiki BadChunk Some(BadChunk) Some(BadChunk)",
+        ),
+        (
+            "PUT /a HTTP/1.1\nTransfer-Encoding: chunked\n\n6\r\nabcdef\r\n5\r\nghijk\r\n",
+            "PUT Chunked abcdef BodyTooLarge Some(BodyTooLarge) Some(BodyTooLarge)",
         ),
         (
             "GET /a HTTP/1.1\r\nHost: h\r\n\r",
