@@ -12,9 +12,13 @@ not_due : (chunked : Bool) (left room : ℕ) → (chunked && ((left == 0) && nat
 not_due false left room due none some = refl
 not_due true left room due none some = absurd (zero_room left room due none some)
 
-due_parts : (chunked : Bool) (left room : ℕ) → (chunked && ((left == 0) && nat_lt 0 room)) ≡ true → left ≡ 0
+due_parts : (chunked : Bool) (left room : ℕ) → (chunked && ((left == 0) && nat_lt 0 room)) ≡ true → (chunked ≡ true) × (left ≡ 0)
 due_parts false left room due = cc
-due_parts true left room due = eqb-true left 0 (and_parts (left == 0) (nat_lt 0 room) due).0
+due_parts true left room due = (refl, eqb-true left 0 (and_parts (left == 0) (nat_lt 0 room) due).0)
+
+-- a chunk line is due only in a body in chunks, of which no chunk is being given
+pub line_due : (intake : IntakeState) (out : List ℕ) → is_line_due intake out ≡ true → (intake.chunked ≡ true) × (intake.body_left ≡ 0)
+line_due intake out due = due_parts intake.chunked intake.body_left (length out) due
 
 pub whole_bytes : (before after : Option (List ℕ)) (old new : IntakeState) (out was : List ℕ) → length out ≡ length was → is_line_due old was ≡ false → 0 < length was
     → GivesBytes before after old new out 0 → IsWhole new
@@ -39,7 +43,7 @@ pub whole_chunk : (before after : Option (List ℕ)) (old new : IntakeState) (ou
 whole_chunk before after old new out was same due some goes (inl given) =
     absurd (opened_some (old.buffer ++ given.4.0) old given.2 given.0 (length out) given.3 given.4.2 (omega (arith, same, some)) (given.5.zero refl))
 whole_chunk before after old new out was same due some goes (inr (inl given)) =
-    ended (old.buffer ++ given.1.0) old new given.1.2 goes (due_parts old.chunked old.body_left (length was) due)
+    ended (old.buffer ++ given.1.0) old new given.1.2 goes (due_parts old.chunked old.body_left (length was) due).1
 whole_chunk before after old new out was same due some goes (inr (inr given)) = let e = given.1 in cc
 
 -- no chunk line is due in a body by its length

@@ -7,3 +7,5 @@ pub mod Planned
 pub mod Texts
 pub mod Chunks
 pub mod Given
+pub mod BodyGrammar
+pub mod RequestLaws

@@ -3,3 +3,4 @@ pub mod Scan
 pub mod Reading
 pub mod Chunks
 pub mod Intake
+pub mod Grammar

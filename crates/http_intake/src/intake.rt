@@ -57,6 +57,7 @@ impl Model for Intake {
 
 impl Intake {
     ghost use Rattle.http_intake.specs.Intake.{fresh, IsBetween, IsWhole, is_line_due, GivesNext, GivesBody, OpensBody, GivesChunk};
+    ghost use Rattle.http_intake.specs.Grammar.{ReadsBody};
     ghost use Rattle.http_intake.specs.Faults.{CountsFaults, HasFaultCause};
 
     /// An intake of a connection, before its first byte. The chunks of a body may have `largest`
@@ -128,6 +129,10 @@ impl Intake {
         // Where a chunk line is due, they go on with the next chunk or the end of the body.
         ensures chunk { self.old.failed ≡ None → is_line_due self.old out.old ≡ true →
             GivesChunk (S.left source.old) (S.left source.new) self.old self.new out.new result }
+
+        // So whatever follows, the bytes of all calls are the body that the grammar says, however the input is cut.
+        ensures grammar { self.old.failed ≡ None →
+            ReadsBody (S.left source.old) (S.left source.new) self.old self.new out.new result }
 
         ensures state { MatchResult result (λ count. self.new.failed ≡ None) (λ fault. self.new.failed ≡ Some fault) }
 
