@@ -4,6 +4,8 @@ ghost use Rattle.http_model.specs.Forms.{plan_of, is_unread};
 ghost use Rattle.http_model.specs.Streams.{TakesRequest, IsEnd, IsStream};
 ghost use Rattle.http_intake.specs.Intake.{IsBetween, IsUnchunked};
 
+mod streams;
+
 use super::*;
 use gw_io::{SliceSource, Source};
 use http_model::{BadRequest, BodyPlan, Request, Requests, Stream, StreamEnd, read_stream};
@@ -174,11 +176,17 @@ fn add_answer<S: Source>(
     Ok(false)
 }
 
-/// What an intake answers on a connection. After a fault both calls are asked again.
-fn answers<S: Source>(alloc: Global, source: &mut S) -> Result<String, Fail> {
-    let mut intake = Intake::new(alloc, 10)?;
+/// What an intake answers on a connection of at most so many requests, whose chunks have at most
+/// `largest` bytes together. After a fault both calls are asked again.
+fn answers<S: Source>(
+    alloc: Global,
+    source: &mut S,
+    largest: u64,
+    most: u32,
+) -> Result<String, Fail> {
+    let mut intake = Intake::new(alloc, largest)?;
     let mut text = String::new(alloc);
-    for _ in 0..4 {
+    for _ in 0..most {
         if !add_answer(alloc, &mut intake, source, &mut text)? {
             break;
         }
@@ -234,7 +242,7 @@ fn pieces_give_the_same_answers(rt: HostRuntime) -> Result<(), Fail> {
     for (input, wanted) in rows {
         for piece in [1, 7, 4096] {
             let mut source = SliceSource::new(input.as_bytes(), piece, &[]);
-            let text = answers(rt.alloc(), &mut source)?;
+            let text = answers(rt.alloc(), &mut source, 10, 4)?;
             assert_eq!(rt; text.as_str(), wanted, "in pieces of {piece}");
         }
     }
@@ -255,7 +263,7 @@ fn a_failed_read_is_answered_again(rt: HostRuntime) -> Result<(), Fail> {
     for (call, wanted) in rows {
         let failing = [call];
         let mut source = SliceSource::new(input, 7, &failing);
-        let text = answers(rt.alloc(), &mut source)?;
+        let text = answers(rt.alloc(), &mut source, 10, 4)?;
         assert_eq!(rt; text.as_str(), wanted, "at the call {call}");
     }
     Ok(())
@@ -284,7 +292,7 @@ fn a_head_has_at_most_65536_bytes(rt: HostRuntime) -> Result<(), Fail> {
         }
         input.extend_from_slice(last.as_bytes())?;
         let mut source = SliceSource::new(input.as_slice(), 4096, &[]);
-        let text = answers(rt.alloc(), &mut source)?;
+        let text = answers(rt.alloc(), &mut source, 10, 4)?;
         assert_eq!(rt; text.as_str(), wanted, "at {count}");
     }
     Ok(())
