@@ -1,5 +1,5 @@
--- A body in chunks has one reading, which later bytes leave as it is.
-use Rattle.std.proofs.Common.{◌≡◌, ℕ, suc, ◌-◌, ◌<◌, Bool, true, false, List, [], ◌∷◌, ◌++◌, length, take, drop, Option, Some, None, refl, sym, ap, ◌∙◌, subst, subst₂, arith, append_assoc}
+-- Texts, chunk lines and trailers have one reading, which later bytes leave as it is.
+use Rattle.std.proofs.Common.{◌≡◌, ℕ, suc, ◌-◌, Bool, true, false, List, [], ◌∷◌, ◌++◌, length, take, drop, Option, Some, None, refl, sym, ap, ◌∙◌, subst, append_assoc}
 use Rattle.httparse.proofs.ChunkLemmas.{chunk_line_unique}
 use Rattle.httparse.specs.Grammar.{chunk_size}
 use Rattle.http_chunks.specs.declared.body.BodyEnd.TheVariants as End
@@ -21,7 +21,7 @@ here_step : (o : Option Place) (n m : ℕ) (xs ys : List ℕ)
 here_step None n m xs ys rest e = e
 here_step (Some mid) n m xs ys rest e = rest mid e
 
-scan_here : (xs ys : List ℕ) (place : Place) (n m : ℕ) → scan_from place n xs ≡ Here m → scan_from place n (xs ++ ys) ≡ Here m
+pub scan_here : (xs ys : List ℕ) (place : Place) (n m : ℕ) → scan_from place n xs ≡ Here m → scan_from place n (xs ++ ys) ≡ Here m
 scan_here [] ys place n m e = absurd (not_both m place (sym (scan_none place n) ∙ e))
 scan_here (b ∷ xs) ys place n m e =
     scan_one place n b (xs ++ ys) ∙ here_step (after_byte place b) n m xs ys (λ mid h. scan_here xs ys mid (suc n) m h) (sym (scan_one place n b xs) ∙ e)
@@ -48,7 +48,7 @@ size_unique line other n m same a b =
     let c = subst (λ l. SaysSize l n) same a in
     sym c.2 ∙ ap chunk_size (chunk_line_unique other c.0 b.0 [] [] c.1 b.1).0 ∙ b.2
 
-opening_unique : (behind : Bool) (text other : List ℕ) (n m : ℕ) → text ≡ other → SaysOpening behind text n → SaysOpening behind other m → n ≡ m
+pub opening_unique : (behind : Bool) (text other : List ℕ) (n m : ℕ) → text ≡ other → SaysOpening behind text n → SaysOpening behind other m → n ≡ m
 opening_unique behind text other n m same a b =
     size_unique a.0 b.0 n m (line_unique behind a.0 b.0 (sym a.1 ∙ same ∙ b.1)) a.2 b.2
 
@@ -57,31 +57,10 @@ opens_unique behind bytes rest left n m a b =
     let same = text_unique (opening_start behind) (opening_limit behind) bytes a.0 rest b.0 left a.1 b.1 in
     (opening_unique behind a.0 b.0 n m same.0 a.2 b.2, same.1)
 
-trailers_unique : (bytes other rest left : List ℕ) → bytes ≡ other → BeginsWithTrailers bytes rest → BeginsWithTrailers other left → rest ≡ left
+pub trailers_unique : (bytes other rest left : List ℕ) → bytes ≡ other → BeginsWithTrailers bytes rest → BeginsWithTrailers other left → rest ≡ left
 trailers_unique bytes other rest left same a b =
     let c = subst (λ l. BeginsWithTrailers l rest) same a in
     (text_unique Fresh TRAILER_LIMIT other c.0 rest b.0 left c.1 b.1).1
-
-no_more : (n : ℕ) → 0 ≡ n → 0 < n → ⊥
-no_more n e some = omega (arith, e, some)
-
-pub chunks_unique : (contents others : List (List ℕ)) (behind : Bool) (room : ℕ) (bytes rest left : List ℕ)
-    → AreChunks behind room bytes contents End.Whole rest → AreChunks behind room bytes others End.Whole left → (contents ≡ others) × (rest ≡ left)
-chunks_unique [] [] behind room bytes rest left a b =
-    (refl, trailers_unique a.0 b.0 rest left (opens_unique behind bytes a.0 b.0 0 0 a.1 b.1).1 a.2 b.2)
-chunks_unique [] (other ∷ others) behind room bytes rest left a b =
-    absurd (no_more (length other) (opens_unique behind bytes a.0 (other ++ b.0) 0 (length other) a.1 b.1).0 b.2)
-chunks_unique (content ∷ contents) [] behind room bytes rest left a b =
-    absurd (no_more (length content) (opens_unique behind bytes b.0 (content ++ a.0) 0 (length content) b.1 a.1).0 a.2)
-chunks_unique (content ∷ contents) (other ∷ others) behind room bytes rest left a b =
-    let same = opens_unique behind bytes (content ++ a.0) (other ++ b.0) (length content) (length other) a.1 b.1 in
-    let first : content ≡ other =
-    sym (take_front content a.0 (length content) refl) ∙ ap (take (length content)) same.1 ∙ take_front other b.0 (length content) same.0 in
-    let next : a.0 ≡ b.0 =
-    sym (drop_front content a.0 (length content) refl) ∙ ap (drop (length content)) same.1 ∙ drop_front other b.0 (length content) same.0 in
-    let further = subst₂ (λ n l. AreChunks true (room - n) l contents End.Whole rest) same.0 next a.4 in
-    let later = chunks_unique contents others true (room - length other) b.0 rest left further b.4 in
-    (ap (λ c. c ∷ contents) first ∙ ap (λ cs. other ∷ cs) later.0, later.1)
 
 pub chunks_more : (contents : List (List ℕ)) (behind : Bool) (room : ℕ) (bytes more rest : List ℕ) → AreChunks behind room bytes contents End.Whole rest
     → AreChunks behind room (bytes ++ more) contents End.Whole (rest ++ more)

@@ -2,3 +2,4 @@ pub mod Scanning
 pub mod Sizes
 pub mod Bodies
 pub mod BodyLaws
+pub mod Ends

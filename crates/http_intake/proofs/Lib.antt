@@ -4,3 +4,8 @@ pub mod Searching
 pub mod Taking
 pub mod Client
 pub mod Planned
+pub mod Texts
+pub mod Chunks
+pub mod Given
+pub mod BodyGrammar
+pub mod RequestLaws

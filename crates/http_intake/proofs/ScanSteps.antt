@@ -1,12 +1,14 @@
 -- A scan for the end of a head, one byte on.
-use Rattle.std.proofs.Common.{◌≡◌, ◌≢◌, ℕ, ◌+◌, ◌<◌, ◌≤◌, ◌⊎◌, Bool, true, false, cond, List, [], ◌∷◌, ◌++◌, length, get_or, take, slice_range, Option, Some, None, refl, sym, ap, ◌∙◌, subst, inl, inr, ⊎_elim, arith, append_assoc, length-append}
-use Rattle.std.proofs.lemmas.List.{take-append-le, take_all, take_more, take_rest, get_or-drop, length-drop, same_from_push}
+use Rattle.std.proofs.Common.{◌≡◌, ◌≢◌, ℕ, ◌<◌, ◌≤◌, ◌⊎◌, Bool, true, false, cond, List, [], ◌∷◌, ◌++◌, suc, length, take, drop, Option, Some, None, refl, sym, ap, ◌∙◌, subst, subst₂, inl, inr, ⊎_elim, arith, append_assoc, length-append, append-nil, take-append-drop, length-take-le}
+use Rattle.std.proofs.lemmas.List.{take-append-le, take_all, same_from_push}
 use Rattle.std.proofs.lemmas.Bool.{cases_lt, eqb-true, eqb-false, or_parts}
 use Rattle.std.specs.Prelude.{◌||◌, ◌==◌}
 use Rattle.http_model.specs.Heads.{skip_breaks, EndsIn, EndsHead, HasNoHeadText, IsHeadText}
-use Rattle.http_intake.specs.declared.scan.Place.{Place}
-use Rattle.http_intake.specs.declared.scan.Place.TheVariants.{Before, Inside, Fresh, Return}
-use Rattle.http_intake.specs.Scan.{after_byte, IsBehind, Scanned}
+use Rattle.http_chunks.specs.declared.place.Place.{Place}
+use Rattle.http_chunks.specs.declared.place.Place.TheVariants.{Before, Inside, Fresh, Return, Behind, Line}
+use Rattle.http_chunks.specs.Scans.{after_byte, then_from, scan_from}
+use Rattle.http_chunks.proofs.Scanning.{scan_one, scan_none}
+use Rattle.http_intake.specs.Scan.{IsBehind, Scanned, FindsEnd}
 
 -- ---- what a list ends in
 
@@ -145,6 +147,8 @@ tells_more seen b Fresh at =
 tells_more seen b Return at =
     subst (λ text. Tells text (after_byte Return b)) (sym (skip_more seen b (some_text (skip_breaks seen) (10 ∷ 13 ∷ []) (omega arith) at)))
     (return_more (skip_breaks seen) b (b == 10) refl at)
+tells_more seen b Behind at = absurd at
+tells_more seen b Line at = absurd at
 
 -- no head is empty
 pub no_head : ¬ (EndsHead [])
@@ -166,19 +170,30 @@ pub scanned_end : (seen : List ℕ) (b : ℕ) (place : Place) → Scanned seen p
 scanned_end seen b place scanned is =
     ends_here seen b scanned.open_so_far (subst (Tells (skip_breaks (seen ++ b ∷ []))) is (tells_more seen b place scanned.behind))
 
--- ---- at a place in a list
+-- ---- all the bytes that are left
 
--- the byte at a place of what follows the first
-pub byte_at : (bytes : List ℕ) (seen i : ℕ) → i < length (slice_range bytes seen (length bytes))
-    → (seen + i < length bytes) × (get_or (slice_range bytes seen (length bytes)) i 0 ≡ get_or bytes (seen + i) 0)
-byte_at bytes seen i within =
-    let rest = take_rest bytes seen in
-    (omega (arith, within, ap length rest, length-drop seen bytes), ap (λ l. get_or l i 0) rest ∙ get_or-drop seen bytes i 0)
+take_front : (xs ys : List ℕ) (n : ℕ) → length xs ≡ n → take n (xs ++ ys) ≡ xs
+take_front xs ys n is = take-append-le n xs ys (omega (arith, is)) ∙ take_all n xs (omega (arith, is))
 
-pub scanned_next : (bytes : List ℕ) (i : ℕ) (place next : Place) → i < length bytes → Scanned (take i bytes) place → after_byte place (get_or bytes i 0) ≡ Some next → Scanned (take (i + 1) bytes) next
-scanned_next bytes i place next within scanned is =
-    subst (λ l. Scanned l next) (sym (take_more bytes i 0 within)) (scanned_more (take i bytes) (get_or bytes i 0) place next scanned is)
+further : (o : Option Place) (seen : List ℕ) (b : ℕ) (rest : List ℕ) (place : Place) → Scanned seen place → after_byte place b ≡ o
+    → ((next : Place) → Scanned (seen ++ b ∷ []) next → FindsEnd ((seen ++ b ∷ []) ++ rest) (scan_from next (length (seen ++ b ∷ [])) rest))
+    → FindsEnd (seen ++ b ∷ rest) (then_from (λ next. scan_from next (suc (length seen)) rest) (suc (length seen)) o)
+further None seen b rest place scanned is later =
+    let text : take (suc (length seen)) (seen ++ b ∷ rest) ≡ seen ++ b ∷ [] =
+    ap (take (suc (length seen))) (sym (append_assoc seen (b ∷ []) rest)) ∙ take_front (seen ++ b ∷ []) rest (suc (length seen)) (omega (arith, length-append seen (b ∷ []))) in
+    (omega (arith, length-append seen (b ∷ rest)), subst IsHeadText (sym text) (scanned_end seen b place scanned is))
+further (Some next) seen b rest place scanned is later =
+    let count : length (seen ++ b ∷ []) ≡ suc (length seen) = omega (arith, length-append seen (b ∷ [])) in
+    subst₂ FindsEnd (append_assoc seen (b ∷ []) rest) (ap (λ n. scan_from next n rest) count) (later next (scanned_more seen b place next scanned is))
 
-pub scanned_last : (bytes : List ℕ) (i : ℕ) (place : Place) → i < length bytes → Scanned (take i bytes) place → after_byte place (get_or bytes i 0) ≡ None → IsHeadText (take (i + 1) bytes)
-scanned_last bytes i place within scanned is =
-    subst IsHeadText (sym (take_more bytes i 0 within)) (scanned_end (take i bytes) (get_or bytes i 0) place scanned is)
+finds_from : (rest seen : List ℕ) (place : Place) → Scanned seen place → FindsEnd (seen ++ rest) (scan_from place (length seen) rest)
+finds_from [] seen place scanned =
+    subst₂ FindsEnd (sym (append-nil seen)) (sym (scan_none place (length seen))) scanned
+finds_from (b ∷ rest) seen place scanned =
+    subst (FindsEnd (seen ++ b ∷ rest)) (sym (scan_one place (length seen) b rest))
+    (further (after_byte place b) seen b rest place scanned refl (λ next more. finds_from rest (seen ++ b ∷ []) next more))
+
+pub finds_end : (bytes : List ℕ) (seen : ℕ) (place : Place) → seen ≤ length bytes → Scanned (take seen bytes) place → FindsEnd bytes (scan_from place seen (drop seen bytes))
+finds_end bytes seen place within scanned =
+    subst₂ FindsEnd (take-append-drop seen bytes) (ap (λ n. scan_from place n (drop seen bytes)) (length-take-le seen bytes within))
+    (finds_from (drop seen bytes) (take seen bytes) place scanned)

@@ -6,8 +6,8 @@ use Rattle.std.specs.declared.option.Option.{Option}
 use Rattle.http_model.specs.declared.reading.TheConstants.{HEAD_LIMIT}
 use Rattle.http_model.specs.Heads.{skip_breaks, HasNoHeadText}
 use Rattle.http_model.specs.Streams.{IsBlank, IsCutHead, IsOversized}
-use Rattle.http_intake.specs.declared.scan.Place.{Place}
-use Rattle.http_intake.specs.declared.scan.Place.TheVariants.{Before, Inside, Fresh, Return}
+use Rattle.http_chunks.specs.declared.place.Place.{Place}
+use Rattle.http_chunks.specs.declared.place.Place.TheVariants.{Before, Inside, Fresh, Return, Behind, Line}
 use Rattle.http_intake.specs.Reading.{Reads}
 use Rattle.http_intake.specs.Scan.{IsBehind, Scanned}
 use Rattle.http_intake.proofs.ScanSteps.{scanned_none}
@@ -66,6 +66,8 @@ some_text text Before behind other = absurd (other refl)
 some_text text Inside behind other = behind.0
 some_text text Fresh behind other = ends_in_some text behind.0 (10 ∷ []) behind.1 (omega arith)
 some_text text Return behind other = ends_in_some text behind.0 (10 ∷ 13 ∷ []) behind.1 (omega arith)
+some_text text Behind behind other = absurd behind
+some_text text Line behind other = absurd behind
 
 -- more than empty lines came
 pub begun_so_far : (bytes : List ℕ) (n : ℕ) (place : Place) → n ≡ min (length bytes) HEAD_LIMIT → length bytes ≤ length (take n bytes) → Scanned (take n bytes) place → place ≢ Before
@@ -75,7 +77,9 @@ begun_so_far bytes n place is all scanned other =
     let some = some_text (skip_breaks (take n bytes)) place scanned.behind other in
     (subst (λ (l : List ℕ). skip_breaks l ≢ []) (take_all n bytes few) some, all_scanned bytes n place is all scanned)
 
-pub not_before : (place : Place) → ((place ≡ Inside) ⊎ ((place ≡ Fresh) ⊎ (place ≡ Return))) → place ≢ Before
+pub not_before : (place : Place) → ((place ≡ Inside) ⊎ ((place ≡ Fresh) ⊎ ((place ≡ Return) ⊎ ((place ≡ Behind) ⊎ (place ≡ Line))))) → place ≢ Before
 not_before place (inl is) before = cc
 not_before place (inr (inl is)) before = cc
-not_before place (inr (inr is)) before = cc
+not_before place (inr (inr (inl is))) before = cc
+not_before place (inr (inr (inr (inl is)))) before = cc
+not_before place (inr (inr (inr (inr is)))) before = cc

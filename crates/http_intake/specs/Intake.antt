@@ -1,5 +1,5 @@
 -- What a reader of requests is at a moment, and what its calls do.
-use Rattle.std.specs.Prelude.{◌≡◌, ℕ, ◌+◌, ◌<◌, ◌≤◌, min, Bool, true, false, List, [], ◌++◌, length, take, Option, Some, None, Result, Ok, Err}
+use Rattle.std.specs.Prelude.{◌≡◌, ◌⊎◌, ℕ, ◌+◌, ◌-◌, ◌<◌, ◌≤◌, ◌==◌, nat_lt, min, Bool, true, false, ◌&&◌, List, [], ◌++◌, length, take, Option, Some, None, Result, Ok, Err}
 use Rattle.std.specs.Io.KnownBytes.{Consumes, IsAtEnd}
 use Rattle.http_model.specs.declared.head.Framing.{Framing}
 use Rattle.http_model.specs.declared.head.Framing.TheVariants.{Empty, Length, Chunked}
@@ -9,20 +9,25 @@ use Rattle.http_model.specs.Heads.{BeginsWith}
 use Rattle.http_model.specs.Streams.{IsBlank}
 use Rattle.http_intake.specs.declared.fault.IntakeFault.{IntakeFault}
 use Rattle.http_intake.specs.declared.fault.IntakeFault.TheVariants.{OutOfMemory, ReadFault, Cut, BadHead, HeadTooLarge, BadFraming, BadChunk, BodyTooLarge}
+use Rattle.http_chunks.specs.Chunks.{OpensChunk, BeginsWithTrailers}
+use Rattle.http_intake.specs.Chunks.{HasNoChunk}
 use Rattle.http_intake.specs.Reading.{HasNoNext}
 
--- the bytes that were read and not yet given out, how many bytes of the present body are still to be given, whether that
--- body is in chunks, the fault that was answered, and how many bytes the chunks of a body may have together
+-- The bytes that were read and not yet given out; how many bytes of the present body are still to be given, or, where that
+-- body is in chunks, of its present chunk; whether it is in chunks, whether one of them was begun, and how many bytes the
+-- further ones may have together; the fault that was answered; and how many bytes the chunks of a body may have together.
 pub record IntakeState : Type 0 where
   pub buffer : List ℕ
   pub body_left : ℕ
   pub chunked : Bool
+  pub behind : Bool
+  pub room : ℕ
   pub failed : Option IntakeFault
   pub largest : ℕ
 
 -- before the first byte of a connection
 abbrev pub fresh : ℕ → IntakeState
-fresh largest = record { buffer = []; body_left = 0; chunked = false; failed = None; largest = largest }
+fresh largest = record { buffer = []; body_left = 0; chunked = false; behind = false; room = largest; failed = None; largest = largest }
 
 -- the present body is not in chunks
 abbrev pub IsUnchunked : IntakeState → Type 0
@@ -31,6 +36,10 @@ IsUnchunked intake = intake.chunked ≡ false
 -- the present body was given whole
 abbrev pub IsBetween : IntakeState → Type 0
 IsBetween intake = (intake.body_left ≡ 0) × IsUnchunked intake
+
+-- and no fault was answered
+abbrev pub IsWhole : IntakeState → Type 0
+IsWhole intake = (intake.failed ≡ None) × IsBetween intake
 
 abbrev pub is_in_chunks : Framing → Bool
 is_in_chunks Empty = false
@@ -44,6 +53,8 @@ pub record GivesHead (all : List ℕ) (old new : IntakeState) (head : Head) : Ty
   pub begins : BeginsWith all head new.buffer
   pub body_left : new.body_left ≡ content_length head.framing
   pub chunked : new.chunked ≡ is_in_chunks head.framing
+  pub behind : new.behind ≡ false
+  pub room : new.room ≡ old.largest
   pub failed : new.failed ≡ None
   pub largest : new.largest ≡ old.largest
 
@@ -71,6 +82,8 @@ pub record GivesBytes (before after : Option (List ℕ)) (old new : IntakeState)
   pub due : n + new.body_left ≡ old.body_left
   pub zero : n ≡ 0 → min old.body_left (length out) ≡ 0
   pub chunked : new.chunked ≡ old.chunked
+  pub behind : new.behind ≡ old.behind
+  pub room : new.room ≡ old.room
   pub failed : new.failed ≡ None
   pub largest : new.largest ≡ old.largest
 
@@ -87,3 +100,39 @@ GivesBody before after old new out (Err HeadTooLarge) = ⊥
 GivesBody before after old new out (Err (BadFraming bodiless)) = ⊥
 GivesBody before after old new out (Err BadChunk) = ⊥
 GivesBody before after old new out (Err BodyTooLarge) = ⊥
+
+-- ---- the next chunk of a body
+
+-- the next chunk has to be opened before more bytes can be given
+abbrev pub is_line_due : IntakeState → List ℕ → Bool
+is_line_due intake out = intake.chunked && ((intake.body_left == 0) && nat_lt 0 (length out))
+
+-- behind the text that opens a chunk of this size
+abbrev pub opened : IntakeState → List ℕ → ℕ → IntakeState
+opened old left size = record old { buffer = left; body_left = size; behind = true; room = old.room - size }
+
+-- behind the trailers
+abbrev pub finished : IntakeState → List ℕ → IntakeState
+finished old left = record old { buffer = left; chunked = false }
+
+-- all the bytes open the next chunk, or end the body
+abbrev pub OpensNext : List ℕ → IntakeState → IntakeState → ℕ → Type 0
+OpensNext all old new size =
+    ((0 < size) × (size ≤ old.room) × OpensChunk old.behind all size new.buffer × (new ≡ opened old new.buffer size))
+    ⊎ ((size ≡ 0) × ((after : List ℕ) × OpensChunk old.behind all 0 after × BeginsWithTrailers after new.buffer) × (new ≡ finished old new.buffer))
+
+-- bytes were read, and with those that waited they go on like that, or do not go on for that cause
+abbrev pub OpensBody : Option (List ℕ) → Option (List ℕ) → IntakeState → IntakeState → Result ℕ IntakeFault → Type 0
+OpensBody before after old new (Ok size) =
+    (more : List ℕ) × Consumes before after more × OpensNext (old.buffer ++ more) old new size
+OpensBody before after old new (Err fault) =
+    (more : List ℕ) × Consumes before after more × HasNoChunk old.behind old.room (old.buffer ++ more) (IsAtEnd after) fault
+    × (new ≡ record old { buffer = new.buffer; failed = Some fault })
+
+-- the next chunk was opened and its first bytes were given, or the body was read whole, or it does not go on
+abbrev pub GivesChunk : Option (List ℕ) → Option (List ℕ) → IntakeState → IntakeState → List ℕ → Result ℕ IntakeFault → Type 0
+GivesChunk before after old new out result =
+    ((size : ℕ) × (middle : Option (List ℕ)) × (between : IntakeState) × (0 < size)
+    × OpensBody before middle old between (Ok size) × GivesBody middle after between new out result)
+    ⊎ (((result ≡ Ok 0) × OpensBody before after old new (Ok 0))
+    ⊎ ((fault : IntakeFault) × (result ≡ Err fault) × OpensBody before after old new (Err fault)))

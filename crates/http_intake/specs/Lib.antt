@@ -1,4 +1,6 @@
 pub mod Faults
 pub mod Scan
 pub mod Reading
+pub mod Chunks
 pub mod Intake
+pub mod Grammar

@@ -5,13 +5,16 @@
 mod buffer;
 mod fault;
 mod intake;
+mod laws;
 mod next_bytes;
+mod next_chunk;
 mod next_head;
 mod scan;
 
 pub use fault::IntakeFault;
 pub use http_model::{Framing, Head};
 pub use intake::Intake;
+pub use laws::{a_later_byte_changes_no_whole_request, requests_have_one_reading};
 
 #[cfg(test)]
 mod tests;

@@ -5,8 +5,9 @@ ghost use Rattle.http_intake.specs.Reading.{Reads, FindsText, TakesHead};
 
 use crate::IntakeFault;
 use crate::buffer::Buffer;
-use crate::scan::{Place, TextEnd, scan};
+use crate::scan::scan_head;
 use gw_io::Source;
+use http_chunks::{Place, TextEnd};
 use http_model::{HEAD_LIMIT, Head, read_head};
 use std::alloc::Global;
 
@@ -22,7 +23,7 @@ fn find_text<S: Source>(buffer: &mut Buffer, source: &mut S) -> Result<Option<us
     'pieces: loop {
         let bytes = buffer.as_slice();
         let front = &bytes[..bytes.len().min(HEAD_LIMIT)];
-        match scan(place, front, seen) {
+        match scan_head(place, front, seen) {
             TextEnd::Here(len) => return Ok(Some(len)),
             TextEnd::Later(next) => place = next,
         }
@@ -33,7 +34,9 @@ fn find_text<S: Source>(buffer: &mut Buffer, source: &mut S) -> Result<Option<us
         if buffer.fill(source)? == 0 {
             return match place {
                 Place::Before => Ok(None),
-                Place::Inside | Place::Fresh | Place::Return => Err(IntakeFault::Cut),
+                Place::Inside | Place::Fresh | Place::Return | Place::Behind | Place::Line => {
+                    Err(IntakeFault::Cut)
+                }
             };
         }
     }

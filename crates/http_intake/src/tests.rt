@@ -4,6 +4,8 @@ ghost use Rattle.http_model.specs.Forms.{plan_of, is_unread};
 ghost use Rattle.http_model.specs.Streams.{TakesRequest, IsEnd, IsStream};
 ghost use Rattle.http_intake.specs.Intake.{IsBetween, IsUnchunked};
 
+mod streams;
+
 use super::*;
 use gw_io::{SliceSource, Source};
 use http_model::{BadRequest, BodyPlan, Request, Requests, Stream, StreamEnd, read_stream};
@@ -124,18 +126,18 @@ fn add_body<S: Source>(
     text: &mut String,
 ) -> Result<Option<IntakeFault>, AllocError>
     requires goes { intake.old.failed ≡ None }
-    requires unchunked { IsUnchunked intake.old }
     ensures { IfOk result (λ fault. MatchOption fault ((intake.new.failed ≡ None) × IsBetween intake.new)
         (λ fault. intake.new.failed ≡ Some fault)) }
 {
     let mut piece = [0; 3];
-    'pieces: loop {
+    for _ in 0..u64::MAX {
         match intake.body(source, &mut piece) {
             Ok(0) => return Ok(None),
             Ok(count) => text.push_str(str::from_utf8(&piece[..count]).unwrap_or("?"))?,
             Err(fault) => return Ok(Some(fault)),
         }
     }
+    Err(AllocError)
 }
 
 /// Adds what the intake answers next: the method, the framing and the body of a request, the end, or
@@ -159,9 +161,6 @@ fn add_answer<S: Source>(
             let method = head.method.as_str();
             let framing = head.framing;
             write!(text, "{method} {framing:?} ")?;
-            if framing == Framing::Chunked {
-                return Ok(false);
-            }
             let stopped = add_body(intake, source, text)?;
             text.push_str(" ")?;
             let Some(fault) = stopped else {
@@ -177,11 +176,17 @@ fn add_answer<S: Source>(
     Ok(false)
 }
 
-/// What an intake answers on a connection. After a fault both calls are asked again.
-fn answers<S: Source>(alloc: Global, source: &mut S) -> Result<String, Fail> {
-    let mut intake = Intake::new(alloc, 0)?;
+/// What an intake answers on a connection of at most so many requests, whose chunks have at most
+/// `largest` bytes together. After a fault both calls are asked again.
+fn answers<S: Source>(
+    alloc: Global,
+    source: &mut S,
+    largest: u64,
+    most: u32,
+) -> Result<String, Fail> {
+    let mut intake = Intake::new(alloc, largest)?;
     let mut text = String::new(alloc);
-    for _ in 0..4 {
+    for _ in 0..most {
         if !add_answer(alloc, &mut intake, source, &mut text)? {
             break;
         }
@@ -200,7 +205,19 @@ fn pieces_give_the_same_answers(rt: HostRuntime) -> Result<(), Fail> {
         ),
         (
             "PUT /a HTTP/1.1\nTransfer-Encoding: chunked\n\n",
-            "PUT Chunked ",
+            "PUT Chunked  Cut Some(Cut) Some(Cut)",
+        ),
+        (
+            "PUT /a HTTP/1.1\nTransfer-Encoding: chunked\n\n4\r\nWiki\r\n5;x=\"y\"\r\npedia\r\n0\r\nA: b\r\n\r\nGET /b HTTP/1.0\n\n",
+            "PUT Chunked Wikipedia GET Empty  end",
+        ),
+        (
+            "PUT /a HTTP/1.1\nTransfer-Encoding: chunked\n\n4\r\nWiki\r\nzz\r\n",
+            "PUT Chunked Wiki BadChunk Some(BadChunk) Some(BadChunk)",
+        ),
+        (
+            "PUT /a HTTP/1.1\nTransfer-Encoding: chunked\n\n6\r\nabcdef\r\n5\r\nghijk\r\n",
+            "PUT Chunked abcdef BodyTooLarge Some(BodyTooLarge) Some(BodyTooLarge)",
         ),
         (
             "GET /a HTTP/1.1\r\nHost: h\r\n\r",
@@ -225,7 +242,7 @@ fn pieces_give_the_same_answers(rt: HostRuntime) -> Result<(), Fail> {
     for (input, wanted) in rows {
         for piece in [1, 7, 4096] {
             let mut source = SliceSource::new(input.as_bytes(), piece, &[]);
-            let text = answers(rt.alloc(), &mut source)?;
+            let text = answers(rt.alloc(), &mut source, 10, 4)?;
             assert_eq!(rt; text.as_str(), wanted, "in pieces of {piece}");
         }
     }
@@ -246,7 +263,7 @@ fn a_failed_read_is_answered_again(rt: HostRuntime) -> Result<(), Fail> {
     for (call, wanted) in rows {
         let failing = [call];
         let mut source = SliceSource::new(input, 7, &failing);
-        let text = answers(rt.alloc(), &mut source)?;
+        let text = answers(rt.alloc(), &mut source, 10, 4)?;
         assert_eq!(rt; text.as_str(), wanted, "at the call {call}");
     }
     Ok(())
@@ -275,7 +292,7 @@ fn a_head_has_at_most_65536_bytes(rt: HostRuntime) -> Result<(), Fail> {
         }
         input.extend_from_slice(last.as_bytes())?;
         let mut source = SliceSource::new(input.as_slice(), 4096, &[]);
-        let text = answers(rt.alloc(), &mut source)?;
+        let text = answers(rt.alloc(), &mut source, 10, 4)?;
         assert_eq!(rt; text.as_str(), wanted, "at {count}");
     }
     Ok(())
