@@ -1,9 +1,6 @@
 //! What the fields of a request say of its command.
-ghost use Rattle.std.specs.Prelude.{◌≡◌, IfOk, true, codes};
-ghost use Rattle.std.specs.List.{list_all};
-ghost use Rattle.http_model.specs.Framings.{values_of};
-ghost use Rattle.http_model.specs.Forms.{is_kind, is_get};
-ghost use Rattle.swift_requests.specs.Asks.{has_texts};
+ghost use Rattle.std.specs.Prelude.{◌≡◌, IfOk, true};
+ghost use Rattle.swift_requests.specs.Asks.{is_taken, has_texts};
 ghost use Rattle.swift_requests.specs.Commands.{second_of, conditions_of, kind_of};
 ghost use Rattle.swift_requests.specs.Ranges.{span_of};
 
@@ -49,10 +46,10 @@ pub fn conditions(alloc: Global, head: &Head) -> Result<Conditions, AllocError>
     })
 }
 
-/// The media type that was sent. An empty one counts as none.
+/// The media type that was sent with a request of a form that is taken. An empty one counts as none.
 #[tactic(auto, unfolding(crate::specs::Commands::kind_of))]
 pub fn kind(alloc: Global, head: &Head) -> Result<Option<MediaType>, AllocError>
-    requires { list_all is_kind (values_of (codes "content-type") head.now.fields) ≡ true }
+    requires { is_taken head.now ≡ true }
     ensures { IfOk result (λ kind. kind ≡ kind_of head.now) }
 {
     match field_value(head.fields.as_slice(), b"content-type") {

@@ -125,7 +125,7 @@ fn is_text(value: &[u8]) -> bool
 }
 
 /// Whether the value that counts of this name is UTF-8; it is where there is none.
-fn is_text_field(head: &Head, name: &[u8]) -> bool
+pub fn is_text_field(head: &Head, name: &[u8]) -> bool
     ensures { result ≡ is_text_field name.now head.now }
 {
     match field_value(head.fields.as_slice(), name) {

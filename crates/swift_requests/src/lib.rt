@@ -14,8 +14,11 @@ pub use asked::{Asked, read_asked};
 pub use body::{BodyUse, body_use, closes};
 pub use command::{conditions, kind, span};
 pub use etag::{etag_rule, sent_etag};
-pub use form::{has_texts, is_taken, is_user};
+pub use form::{has_texts, is_taken, is_text_field, is_user};
 pub use known::{
     bodies_are_used_so, dates_are_read_so, etags_are_read_so, gets_ask_so, heads_are_refused_so,
     puts_ask_so, ranges_are_read_so,
 };
+
+#[cfg(test)]
+mod tests;
