@@ -3,3 +3,4 @@ pub mod Texts
 pub mod Numbers
 pub mod Refusals
 pub mod OnLiterals
+pub mod ListLaws

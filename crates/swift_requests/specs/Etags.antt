@@ -1,11 +1,15 @@
 -- The ETags that a request sends (RFC 9110, sections 5.6.1, 8.8.3, 13.1.1 and 13.1.2). A weak one, and a comma inside of
 -- quotes, are text like any other.
-use Rattle.std.specs.Prelude.{ℕ, ◌-◌, ◌==◌, ◌&&◌, nat_lt, Bool, List, length, map, slice_index, slice_range, Option, option_map, if◌then◌else◌, bytes_eq, codes}
+use Rattle.std.specs.Prelude.{ℕ, ◌-◌, ◌==◌, ◌&&◌, ◌||◌, nat_lt, nat_le, Bool, List, length, map, slice_index, slice_range, Option, option_map, if◌then◌else◌, bytes_eq, codes}
 use Rattle.object_words.specs.declared.head.EtagRule.{EtagRule}
 use Rattle.object_words.specs.declared.head.EtagRule.TheVariants.{Any, OneOf}
 use Rattle.swift_auth.specs.Lists.{parts_of, member_in}
 use Rattle.http_model.specs.declared.head.Head.{Head}
 use Rattle.http_model.specs.Framings.{value_of}
+
+-- a byte that a field value has: no control character but a tab (RFC 9110, section 5.5)
+abbrev pub is_field_byte : ℕ → Bool
+is_field_byte b = (b == 9) || nat_le 32 b
 
 -- the text stands in a pair of double quotes
 abbrev pub is_quoted : List ℕ → Bool

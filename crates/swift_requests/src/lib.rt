@@ -8,6 +8,7 @@ mod command;
 mod etag;
 mod form;
 mod known;
+mod laws;
 mod range;
 
 pub use asked::{Asked, read_asked};
@@ -19,6 +20,7 @@ pub use known::{
     bodies_are_used_so, dates_are_read_so, etags_are_read_so, gets_ask_so, heads_are_refused_so,
     puts_ask_so, ranges_are_read_so,
 };
+pub use laws::lists_are_those_of_the_standard;
 
 #[cfg(test)]
 mod tests;
