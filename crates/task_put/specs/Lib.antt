@@ -1,2 +1,5 @@
 pub mod Bodies
+pub mod Fed
 pub mod Changes
+pub mod Stages
+pub mod Orders
