@@ -2,3 +2,4 @@ pub mod Cutting
 pub mod Showing
 pub mod Answering
 pub mod Rows
+pub mod Knowing

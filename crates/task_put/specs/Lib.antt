@@ -3,3 +3,5 @@ pub mod Fed
 pub mod Changes
 pub mod Stages
 pub mod Orders
+pub mod Fits
+pub mod Tasks

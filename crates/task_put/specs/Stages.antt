@@ -4,12 +4,12 @@ use Rattle.std.specs.declared.result.Result.{Result}
 use Rattle.std.specs.declared.result.Result.TheVariants.{Ok, Err}
 use Rattle.md5.specs.Md5.{md5}
 use Rattle.rgw_types.specs.declared.pool_key.Key.{Key}
-use Rattle.rgw_types.specs.declared.stamp.Stamp.{Stamp}
 use Rattle.object_words.specs.declared.bucket.Bucket.{Bucket}
 use Rattle.object_words.specs.declared.entry.Guard.{Guard}
 use Rattle.object_words.specs.declared.why.Why.{Why}
 use Rattle.object_words.specs.declared.why.Why.TheVariants as whys
 use Rattle.object_words.specs.Hashes.{shard_of}
+use Rattle.object_words.specs.Rows.{RowView}
 use Rattle.object_words.specs.Keys.{shard_key, container_of, instance_of, number_of}
 use Rattle.realm_model.specs.Accounts.{is_left}
 use Rattle.realm_model.specs.declared.op.Op.{Op}
@@ -32,6 +32,7 @@ use Rattle.task_put.specs.declared.stage.Target.{Target}
 use Rattle.task_put.specs.declared.stage.Draft.{Draft}
 use Rattle.task_put.specs.declared.stage.Content.{Content}
 use Rattle.task_put.specs.declared.stage.Change.{Change}
+use Rattle.task_put.specs.declared.stage.Unfinished.{Unfinished}
 use Rattle.task_put.specs.declared.stage.Tried.{Tried}
 use Rattle.task_put.specs.declared.stage.After.{After}
 use Rattle.task_put.specs.declared.stage.After.TheVariants.{Again, End}
@@ -119,7 +120,8 @@ rest_of (Preparing key content) = Prepare key content
 rest_of (Announcing key guard content) = Announce key guard content
 rest_of (Writing key guard content) = Write key guard content.new.etag
 rest_of (Cancelling key tag after) = Cancel after
-rest_of (Completing key change) = Complete change.home change.tag change.version change.etag change.stamp
+rest_of (Completing key change) =
+    Complete (record { home = change.home; tag = change.tag; version = change.version; etag = change.etag; stamp = change.stamp })
 rest_of (LookingForShard change) = LookForShard change
 rest_of (Ended outcome) = Cancel (End outcome)
 
@@ -184,18 +186,27 @@ by_tag x key content reply = look_again x content
 abbrev pub after_late : Tried → Content → After
 after_late x content = if nat_lt x.expired most_expired then Again content else End LateTag
 
--- the head was not changed
-abbrev pub by_refusal : Tried → Key → ℕ → Why → Option Op → Stage
-by_refusal x key tag (whys.Expired deadline clock) (Some (ops.HeadWrite zone container name guard new when)) =
-    Cancelling key tag (after_late x (record { new = new; when = when }))
-by_refusal x key tag (whys.NoSpace free needed) back = Cancelling key tag (End (NoSpace free needed))
-by_refusal x key tag why back = Cancelling key tag (End (Done (Refused NotMet)))
+-- the content, where the change of a head comes back
+abbrev pub content_back : Option Op → Option Content
+content_back (Some (ops.HeadWrite zone container name guard new when)) = Some (record { new = new; when = when })
+content_back back = None
+
+-- the tag's life was over
+abbrev pub by_lateness : Tried → Option Content → After
+by_lateness x None = End (Done (Refused NotMet))
+by_lateness x (Some content) = after_late x content
+
+-- what comes after the cancel of a tag under which the head was not changed
+abbrev pub by_refusal : Tried → Why → Option Op → After
+by_refusal x (whys.Expired deadline clock) back = by_lateness x (content_back back)
+by_refusal x (whys.NoSpace free needed) back = End (NoSpace free needed)
+by_refusal x why back = End (Done (Refused NotMet))
 
 -- the head was changed, or not
 abbrev pub by_change : Tried → Key → Guard → List ℕ → Reply → Option Op → Stage
 by_change x key guard etag (replies.Changed made) back =
     Completing key (record { home = key; tag = guard.tag; version = made.version; row = made.row; etag = etag; stamp = made.stamp })
-by_change x key guard etag (replies.No why) back = by_refusal x key guard.tag why back
+by_change x key guard etag (replies.No why) back = Cancelling key guard.tag (by_refusal x why back)
 by_change x key guard etag reply back = Cancelling key guard.tag (End (Done (Refused NotMet)))
 
 -- the tag was cancelled, or is left to its deadline
@@ -208,11 +219,24 @@ abbrev pub look_for_shard : Tried → Change → Stage
 look_for_shard x change =
     if nat_lt x.moved most_moved then LookingForShard change else Ended (Done (Stored change.etag change.stamp))
 
+-- the row, where a completion comes back
+abbrev pub row_back : Option Op → Option RowView
+row_back (Some (ops.Complete zone key name tag version row)) = Some row
+row_back back = None
+
+-- the change, with the row that is to be told
+abbrev pub change_of : Unfinished → RowView → Change
+change_of u row = record { home = u.home; tag = u.tag; version = u.version; row = row; etag = u.etag; stamp = u.stamp }
+
+-- the shard moved
+abbrev pub by_move : Tried → Unfinished → Option RowView → Stage
+by_move x u None = Ended (Done (Stored u.etag u.stamp))
+by_move x u (Some row) = look_for_shard x (change_of u row)
+
 -- the change was completed, or not
-abbrev pub by_completion : Tried → Key → ℕ → ℕ → List ℕ → Stamp → Reply → Option Op → Stage
-by_completion x home tag version etag stamp (replies.No (whys.Moved instance)) (Some (ops.Complete zone key name t v row)) =
-    look_for_shard x (record { home = home; tag = tag; version = version; row = row; etag = etag; stamp = stamp })
-by_completion x home tag version etag stamp reply back = Ended (Done (Stored etag stamp))
+abbrev pub by_completion : Tried → Unfinished → Reply → Option Op → Stage
+by_completion x u (replies.No (whys.Moved instance)) back = by_move x u (row_back back)
+by_completion x u reply back = Ended (Done (Stored u.etag u.stamp))
 
 -- the shard that the row has now, where it is still that of the container; else the tag's own
 abbrev pub shard_now : Key → List ℕ → Option Bucket → Key
@@ -228,7 +252,7 @@ resumed t x (Prepare key content) number reply back = by_tag x key content reply
 resumed t x (Announce key guard content) number reply back = Writing key guard content
 resumed t x (Write key guard etag) number reply back = by_change x key guard etag reply back
 resumed t x (Cancel after) number reply back = by_cancel x after
-resumed t x (Complete home tag version etag stamp) number reply back = by_completion x home tag version etag stamp reply back
+resumed t x (Complete u) number reply back = by_completion x u reply back
 resumed t x (LookForShard change) number reply back = Completing (shard_now change.home t.name (row_shown reply)) change
 
 -- the stage after an answer to the operation, with the counts after it

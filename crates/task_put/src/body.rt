@@ -4,7 +4,7 @@ ghost use Rattle.task_put.specs.Bodies.{most_bytes, first_bytes, tail_bytes, no_
 
 use crate::trace::Trace;
 use md5::{Digest, Md5};
-use rgw_types::{Bytes, Manifest};
+use rgw_types::{Bytes, Manifest, PartNumber};
 use std::alloc::{AllocError, Global};
 use std::marker::Model;
 use std::mem::replace;
@@ -146,6 +146,15 @@ impl PutBody {
         ensures { result ≡ has_tail self.now }
     {
         self.hand.len() == self.stripe as usize || (self.etag().is_some() && !self.hand.is_empty())
+    }
+
+    /// The number of the tail that waits.
+    #[tactic(auto, using(crate::proofs::Cutting::part_within))]
+    pub fn next_part(&self) -> PartNumber
+        requires waits { has_tail self.now ≡ true }
+        ensures { result ≡ self.now.tails + 1 }
+    {
+        PartNumber::new(self.tails + 1)
     }
 
     /// Takes out the tail that waits, the one after those taken out before.

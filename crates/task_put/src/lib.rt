@@ -1,10 +1,15 @@
 //! A PUT of an object: its body so far, stripe by stripe, and the task that makes its events.
 #![tactic(auto)]
 
+mod advancing;
 mod body;
+mod closing;
 mod etag;
+mod keeping;
 mod laws;
+mod splitting;
 mod stage;
+mod task;
 mod trace;
 
 pub use body::{Progress, PutBody};
@@ -13,9 +18,11 @@ pub use laws::{
     a_body_in_tails_is_shown, a_body_is_its_parts, a_changed_head_is_the_answer,
     a_row_names_its_shard,
 };
+pub use keeping::others_keep_where_a_put_stands;
 pub use stage::{
-    After, Change, Content, Draft, PutRequest, Rest, Split, Stage, Target, Tried,
+    After, Change, Content, Draft, PutRequest, Rest, Split, Stage, Target, Tried, Unfinished,
 };
+pub use task::PutTask;
 pub use trace::Trace;
 
 #[cfg(test)]

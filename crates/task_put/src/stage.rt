@@ -56,6 +56,16 @@ pub struct Change {
     pub stamp: Stamp,
 }
 
+/// What is kept of a change while it is completed.
+#[derive(Drop)]
+pub struct Unfinished {
+    pub home: ShardKey,
+    pub tag: u64,
+    pub version: u64,
+    pub etag: [u8; 16],
+    pub stamp: Stamp,
+}
+
 /// How many answers were Moved or Closed, and how many Expired.
 #[derive(Clone, Copy, Debug, PartialEq, Eq)]
 pub struct Tried {
@@ -144,13 +154,7 @@ pub enum Rest {
         etag: [u8; 16],
     },
     Cancel(After),
-    Complete {
-        home: ShardKey,
-        tag: u64,
-        version: u64,
-        etag: [u8; 16],
-        stamp: Stamp,
-    },
+    Complete(Unfinished),
     LookForShard(Change),
 }
 
