@@ -3,3 +3,5 @@ pub mod Showing
 pub mod Answering
 pub mod Rows
 pub mod Knowing
+pub mod Counting
+pub mod Ordering

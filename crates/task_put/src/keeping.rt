@@ -1,11 +1,17 @@
 //! Laws of the stages of a PUT: the functions here do nothing.
-ghost use Rattle.std.specs.Prelude.{◌≡◌, ◌≤◌, ◌<◌, ℕ, List, Some, true};
+ghost use Rattle.std.specs.Prelude.{◌≡◌, ◌≤◌, ℕ, List, [], ◌∷◌, ◌++◌, Some};
 ghost use Rattle.realm_model.specs.Settings.{SettingsView};
 ghost use Rattle.realm_model.specs.Maps.{Made};
 ghost use Rattle.task_put.specs.declared.stage.PutRequest.{PutRequest as PutRequestOf};
 ghost use Rattle.task_put.specs.declared.stage.Stage.{Stage as StageOf};
 ghost use Rattle.task_put.specs.declared.stage.Tried.{Tried as TriedOf};
-ghost use Rattle.task_put.specs.Fits.{Known, known_later, FitsAt};
+ghost use Rattle.realm_model.specs.Owns.{OwnEvent};
+ghost use Rattle.realm_model.specs.Suits.{Suits};
+ghost use Rattle.realm_model.specs.declared.event.Reply.{Reply as ReplyOf};
+ghost use Rattle.task_put.specs.declared.stage.Target.{Target as TargetOf};
+ghost use Rattle.task_put.specs.Orders.{Path, path_of, path_after};
+ghost use Rattle.task_put.specs.Stages.{IsReady, op_of, step_of, settled};
+ghost use Rattle.task_put.specs.Fits.{Known, known_later, IsAt, FitsAt};
 
 /// A PUT stands where it stood when others made events.
 pub fn others_keep_where_a_put_stands()
@@ -13,4 +19,13 @@ pub fn others_keep_where_a_put_stands()
         → k.last ≤ last
         → ((zone write part : ℕ) (bytes : List ℕ) → k.made zone write part ≡ Some bytes → made zone write part ≡ Some bytes)
         → (stage : StageOf) → FitsAt settings r x stage k → FitsAt settings r x stage (known_later k last made) }
+{}
+
+/// Each event of a PUT comes where it may come.
+pub fn puts_make_their_events_in_order()
+    ensures more { (events : List OwnEvent) (e : OwnEvent) → path_of (events ++ e ∷ []) ≡ path_after (path_of events) e.op e.reply }
+    ensures order { (t : TargetOf) (x : TriedOf) (stage : StageOf) (path : Path) (number : ℕ) (reply : ReplyOf)
+        → IsReady stage → Suits (op_of t stage) reply → IsAt stage path
+        → IsAt (step_of t x stage number reply) (path_after path (op_of t stage) reply) }
+    ensures settled { (stage : StageOf) (path : Path) → IsAt stage path → IsAt (settled stage) path }
 {}
