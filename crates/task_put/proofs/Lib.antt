@@ -5,3 +5,4 @@ pub mod Rows
 pub mod Knowing
 pub mod Counting
 pub mod Ordering
+pub mod Looking

@@ -9,9 +9,12 @@ ghost use Rattle.realm_model.specs.Owns.{OwnEvent};
 ghost use Rattle.realm_model.specs.Suits.{Suits};
 ghost use Rattle.realm_model.specs.declared.event.Reply.{Reply as ReplyOf};
 ghost use Rattle.task_put.specs.declared.stage.Target.{Target as TargetOf};
+ghost use Rattle.task_put.specs.declared.stage.Draft.{Draft as DraftOf};
+ghost use Rattle.task_put.specs.declared.stage.Content.{Content as ContentOf};
+ghost use Rattle.task_put.specs.declared.stage.Stage.TheVariants.{Looking, LookingAgain};
 ghost use Rattle.task_put.specs.Orders.{Path, path_of, path_after};
 ghost use Rattle.task_put.specs.Stages.{IsReady, op_of, step_of, settled};
-ghost use Rattle.task_put.specs.Fits.{Known, known_later, IsAt, FitsAt};
+ghost use Rattle.task_put.specs.Fits.{Known, known_later, IsAt, FitsAt, IsKept};
 
 /// A PUT stands where it stood when others made events.
 pub fn others_keep_where_a_put_stands()
@@ -28,4 +31,12 @@ pub fn puts_make_their_events_in_order()
         → IsReady stage → Suits (op_of t stage) reply → IsAt stage path
         → IsAt (step_of t x stage number reply) (path_after path (op_of t stage) reply) }
     ensures settled { (stage : StageOf) (path : Path) → IsAt stage path → IsAt (settled stage) path }
+{}
+
+/// A read of the row brings a PUT to where its events bring it.
+pub fn reads_of_the_row_keep_where_a_put_stands()
+    ensures first { (settings : SettingsView) (r : PutRequestOf) (x : TriedOf) (draft : DraftOf) (k : Known) (reply : ReplyOf)
+        → FitsAt settings r x (Looking draft) k → IsKept settings r x (Looking draft) k reply }
+    ensures again { (settings : SettingsView) (r : PutRequestOf) (x : TriedOf) (content : ContentOf) (k : Known) (reply : ReplyOf)
+        → FitsAt settings r x (LookingAgain content) k → IsKept settings r x (LookingAgain content) k reply }
 {}

@@ -18,7 +18,10 @@ pub use laws::{
     a_body_in_tails_is_shown, a_body_is_its_parts, a_changed_head_is_the_answer,
     a_row_names_its_shard,
 };
-pub use keeping::{others_keep_where_a_put_stands, puts_make_their_events_in_order};
+pub use keeping::{
+    others_keep_where_a_put_stands, puts_make_their_events_in_order,
+    reads_of_the_row_keep_where_a_put_stands,
+};
 pub use stage::{
     After, Change, Content, Draft, PutRequest, Rest, Split, Stage, Target, Tried, Unfinished,
 };
