@@ -6,3 +6,4 @@ pub mod Knowing
 pub mod Counting
 pub mod Ordering
 pub mod Looking
+pub mod Tailing

@@ -1,5 +1,5 @@
 //! Laws of the stages of a PUT: the functions here do nothing.
-ghost use Rattle.std.specs.Prelude.{◌≡◌, ◌≤◌, ℕ, List, [], ◌∷◌, ◌++◌, Some};
+ghost use Rattle.std.specs.Prelude.{◌≡◌, ◌≤◌, ℕ, true, List, [], ◌∷◌, ◌++◌, Some};
 ghost use Rattle.realm_model.specs.Settings.{SettingsView};
 ghost use Rattle.realm_model.specs.Maps.{Made};
 ghost use Rattle.task_put.specs.declared.stage.PutRequest.{PutRequest as PutRequestOf};
@@ -11,10 +11,12 @@ ghost use Rattle.realm_model.specs.declared.event.Reply.{Reply as ReplyOf};
 ghost use Rattle.task_put.specs.declared.stage.Target.{Target as TargetOf};
 ghost use Rattle.task_put.specs.declared.stage.Draft.{Draft as DraftOf};
 ghost use Rattle.task_put.specs.declared.stage.Content.{Content as ContentOf};
-ghost use Rattle.task_put.specs.declared.stage.Stage.TheVariants.{Looking, LookingAgain};
+ghost use Rattle.task_put.specs.declared.stage.Stage.TheVariants.{Looking, Feeding, LookingAgain};
+ghost use Rattle.rgw_types.specs.declared.pool_key.Key.{Key};
+ghost use Rattle.task_put.specs.Bodies.{has_tail};
 ghost use Rattle.task_put.specs.Orders.{Path, path_of, path_after};
 ghost use Rattle.task_put.specs.Stages.{IsReady, op_of, step_of, settled};
-ghost use Rattle.task_put.specs.Fits.{Known, known_later, IsAt, FitsAt, IsKept};
+ghost use Rattle.task_put.specs.Fits.{Known, known_later, IsAt, FitsAt, MayCome, IsKept};
 
 /// A PUT stands where it stood when others made events.
 pub fn others_keep_where_a_put_stands()
@@ -39,4 +41,16 @@ pub fn reads_of_the_row_keep_where_a_put_stands()
         → FitsAt settings r x (Looking draft) k → IsKept settings r x (Looking draft) k reply }
     ensures again { (settings : SettingsView) (r : PutRequestOf) (x : TriedOf) (content : ContentOf) (k : Known) (reply : ReplyOf)
         → FitsAt settings r x (LookingAgain content) k → IsKept settings r x (LookingAgain content) k reply }
+{}
+
+/// A tail that is made brings a PUT to where its events bring it, and so does the end of its body.
+pub fn tails_keep_where_a_put_stands()
+    ensures may { (settings : SettingsView) (r : PutRequestOf) (x : TriedOf) (write : ℕ) (key : Key) (draft : DraftOf) (k : Known)
+        → FitsAt settings r x (Feeding write key draft) k → has_tail draft.body ≡ true
+        → 1 ≤ r.zone → r.zone ≤ settings.zones → MayCome settings r (Feeding write key draft) k }
+    ensures tail { (settings : SettingsView) (r : PutRequestOf) (x : TriedOf) (write : ℕ) (key : Key) (draft : DraftOf) (k : Known)
+        → FitsAt settings r x (Feeding write key draft) k → has_tail draft.body ≡ true
+        → (reply : ReplyOf) → IsKept settings r x (Feeding write key draft) k reply }
+    ensures end { (settings : SettingsView) (r : PutRequestOf) (x : TriedOf) (stage : StageOf) (k : Known)
+        → FitsAt settings r x stage k → FitsAt settings r x (settled stage) k }
 {}

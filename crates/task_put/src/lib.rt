@@ -20,7 +20,7 @@ pub use laws::{
 };
 pub use keeping::{
     others_keep_where_a_put_stands, puts_make_their_events_in_order,
-    reads_of_the_row_keep_where_a_put_stands,
+    reads_of_the_row_keep_where_a_put_stands, tails_keep_where_a_put_stands,
 };
 pub use stage::{
     After, Change, Content, Draft, PutRequest, Rest, Split, Stage, Target, Tried, Unfinished,
