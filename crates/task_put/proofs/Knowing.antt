@@ -117,10 +117,10 @@ module _ (settings : SettingsView) (r : PutRequest) (x : Tried) (k : Known) (las
 -- ---- an own event
 
 module _ (settings : SettingsView) (d e : DoorView) (op : Op) (moment : ℕ) (a : Answered) (x : Extends settings d op moment a e) where
-  abbrev front : List Event
+  abbrev pub front : List Event
   front = d.seen ++ x.between
 
-  abbrev made : Made
+  abbrev pub made : Made
   made = (world_of settings front).stripes.made
 
   -- what is known just before it

@@ -7,3 +7,7 @@ pub mod Counting
 pub mod Ordering
 pub mod Looking
 pub mod Tailing
+pub mod Readying
+pub mod Taking
+pub mod Tasking
+pub mod Turning

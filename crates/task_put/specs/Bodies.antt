@@ -1,5 +1,5 @@
 -- The body of a PUT as it comes, and how it is cut: its first stripe is for the head, each further one for a tail.
-use Rattle.std.specs.Prelude.{ℕ, ◌+◌, ◌-◌, ◌*◌, ◌==◌, ◌||◌, ◌&&◌, not, nat_lt, Bool, true, false, List, [], ◌++◌, map, take, drop, length, Option, Some, None, if◌then◌else◌}
+use Rattle.std.specs.Prelude.{ℕ, ◌+◌, ◌-◌, ◌*◌, ◌==◌, ◌||◌, ◌&&◌, not, nat_lt, min, Bool, true, false, List, [], ◌++◌, map, take, drop, length, Option, Some, None, if◌then◌else◌}
 use Rattle.md5.specs.Md5.{md5}
 use Rattle.rgw_types.specs.Stripes.{ManifestView}
 use Rattle.manifest.specs.Ranges.{part_numbers}
@@ -73,11 +73,15 @@ abbrev pub whole_etag : BodyView → Option (List ℕ)
 whole_etag b = if is_whole b.end then Some (md5 b.bytes) else None
 
 -- how many bytes the present stripe still takes
+abbrev pub stripe_room : BodyView → ℕ
+stripe_room b =
+    if nat_lt (length (first_bytes b.stripe b.bytes)) b.stripe
+    then b.stripe - length (first_bytes b.stripe b.bytes)
+    else b.stripe - length (hand_of b)
+
+-- how many bytes are taken now: as many as the present stripe does, and none behind the largest body
 abbrev pub room_of : BodyView → ℕ
-room_of b =
-    if is_open b.end
-    then (if nat_lt (length (first_bytes b.stripe b.bytes)) b.stripe then b.stripe - length (first_bytes b.stripe b.bytes) else b.stripe - length (hand_of b))
-    else 0
+room_of b = if is_open b.end then min (stripe_room b) (most_bytes - length b.bytes) else 0
 
 -- the tail at hand is full, or is what is left of a body that was read whole
 abbrev pub has_tail : BodyView → Bool

@@ -29,7 +29,6 @@ use Rattle.realm_model.specs.declared.op.Op.TheVariants as ops
 use Rattle.realm_model.specs.declared.event.Reply.{Reply}
 use Rattle.realm_model.specs.declared.event.Reply.TheVariants as replies
 use Rattle.swift_auth.specs.declared.policy.Deed.TheVariants.{ChangeThing}
-use Rattle.task_words.specs.declared.command.PutCommand.{PutCommand}
 use Rattle.task_words.specs.declared.reply.MapReply.TheVariants.{Stored, Refused}
 use Rattle.task_words.specs.declared.reply.Refusal.TheVariants.{NotMet}
 use Rattle.task_words.specs.declared.outcome.Outcome.{Outcome}
@@ -292,6 +291,14 @@ pub record Fits (settings : SettingsView) (r : PutRequest) (x : Tried) (stage : 
 
 -- ---- one event more
 
+<<<<<<< HEAD
+-- a row that is shown has shards
+abbrev pub HasShards : Reply → Type 0
+HasShards (replies.Row row) = 0 < row.shards
+HasShards reply = Unit {0}
+
+=======
+>>>>>>> 8264b93275a23b84bcbd24848b9ed853c7e0305e
 -- a row that an answer shows has shards; what the answer to a head change says of the slot before it
 abbrev pub IsAnswer : Maps → ℕ → Op → Reply → Type 0
 IsAnswer maps clock (ops.BucketRead zone name) (replies.Row row) = 0 < row.shards

@@ -4,4 +4,5 @@ pub mod Changes
 pub mod Stages
 pub mod Orders
 pub mod Fits
+pub mod Taking
 pub mod Tasks

@@ -1,6 +1,6 @@
-ghost use Rattle.std.specs.Prelude.{◌≡◌, ◌+◌, ◌≤◌, ◌<◌, [], min, true, false, take, length, IfOk, OnErr, IsSome};
+ghost use Rattle.std.specs.Prelude.{◌≡◌, ◌+◌, ◌≤◌, ◌<◌, [], min, true, false, take, length, IfOk, OnErr, IsSome, None};
 ghost use Rattle.rgw_types.specs.Stripes.{tails_of as tails_needed};
-ghost use Rattle.task_put.specs.Bodies.{most_bytes, first_bytes, tail_bytes, no_bytes, with_bytes, without_tail, ended, whole_etag, room_of, has_tail};
+ghost use Rattle.task_put.specs.Bodies.{most_bytes, first_bytes, tail_bytes, no_bytes, with_bytes, without_tail, ended, whole_etag, stripe_room, room_of, has_tail};
 
 use crate::trace::Trace;
 use md5::{Digest, Md5};
@@ -62,22 +62,35 @@ impl PutBody {
         }
     }
 
-    /// How many bytes the present stripe still takes: none once the body has ended, or while a tail waits.
+    /// The most bytes of a body.
+    pub const MOST: u64 = 5_368_709_120;
+
+    /// How many bytes are taken now: as many as the present stripe does, and none behind the largest body,
+    /// once the body has ended, or while a tail waits.
     pub fn room(&self) -> usize
         ensures { result ≡ room_of self.now }
     {
-        let stripe = self.stripe as usize;
         match self.progress {
-            Progress::Open(_) if self.first.len() < stripe => stripe - self.first.len(),
-            Progress::Open(_) => stripe.saturating_sub(self.hand.len()),
+            Progress::Open(_) => self.stripe_room().min((Self::MOST - self.size) as usize),
             Progress::Whole { .. } | Progress::Failed => 0,
         }
     }
 
-    /// Takes as many bytes of the piece as the present stripe does, and says how many. After an error
-    /// nothing has changed. No body has more than 5368709120 bytes.
+    /// How many bytes the present stripe still takes.
+    fn stripe_room(&self) -> usize
+        ensures { result ≡ stripe_room self.now }
+    {
+        let stripe = self.stripe as usize;
+        if self.first.len() < stripe {
+            stripe - self.first.len()
+        } else {
+            stripe.saturating_sub(self.hand.len())
+        }
+    }
+
+    /// Takes as many bytes of the piece as there is room for, and says how many. After an error nothing
+    /// has changed.
     pub fn feed(&mut self, piece: &[u8]) -> Result<usize, AllocError>
-        requires few { length self.old.bytes + length piece.now ≤ most_bytes }
         ensures taken { IfOk result (λ n. n ≡ min (length piece.now) (room_of self.old)) }
         ensures fed { IfOk result (λ n. self.new ≡ with_bytes self.old (take n piece.now)) }
         ensures err { OnErr result (self.new ≡ self.old) }
@@ -143,7 +156,8 @@ impl PutBody {
 
     /// Whether a tail waits to be taken out: a full one, or what is left of a body that was read whole.
     pub fn has_tail(&self) -> bool
-        ensures { result ≡ has_tail self.now }
+        ensures waits { result ≡ has_tail self.now }
+        ensures room { result ≡ false → self.now.end ≡ None → length self.now.bytes < most_bytes → 1 ≤ room_of self.now }
     {
         self.hand.len() == self.stripe as usize || (self.etag().is_some() && !self.hand.is_empty())
     }
