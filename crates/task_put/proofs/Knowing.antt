@@ -7,6 +7,7 @@ use Rattle.realm_model.specs.Doors.{DoorView, actor_at}
 use Rattle.realm_model.specs.Histories.{world_of, Legal}
 use Rattle.realm_model.specs.Maps.{Made, heads}
 use Rattle.realm_model.specs.Owns.{own_events}
+use Rattle.realm_model.specs.Phases.{Stage as TagStage, pending, tried, over}
 use Rattle.realm_model.specs.Worlds.{World, start}
 use Rattle.realm_model.specs.declared.op.Op.{Op}
 use Rattle.realm_model.specs.declared.event.Event.{Event}
@@ -22,7 +23,7 @@ use Rattle.task_put.specs.declared.stage.After.{After}
 use Rattle.task_put.specs.declared.stage.After.TheVariants.{Again, End}
 use Rattle.task_put.specs.declared.stage.Stage.{Stage}
 use Rattle.task_put.specs.declared.stage.Stage.TheVariants.{Looking, Feeding, LookingAgain, Preparing, Announcing, Writing, Cancelling, Completing, LookingForShard, Ended}
-use Rattle.task_put.specs.Fits.{Known, known_at, known_later, known_next, Trying, AtRow, InTails, IsContent, IsAfter, HasTag, HasChanged, ReadSince, WasMoved, FitsAt}
+use Rattle.task_put.specs.Fits.{Known, known_at, known_later, known_next, Trying, AtRow, InTails, IsContent, IsAfter, HasTag, HasChanged, IsTriedBy, ReadSince, FitsAt}
 
 -- ---- others' events
 
@@ -50,6 +51,7 @@ module _ (settings : SettingsView) (r : PutRequest) (x : Tried) (k : Known) (las
     looked = a.looked;
     read = a.read;
     granted = a.granted;
+    some = a.some;
     names = a.names;
     later = a.later;
     before = (let was = a.before in omega (arith, was, low));
@@ -73,7 +75,12 @@ module _ (settings : SettingsView) (r : PutRequest) (x : Tried) (k : Known) (las
     tails = in_tails r.zone _ _ _ r.bytes i.tails;
   }
 
-  changed : (change : Change) (stage : _) → HasChanged r x change stage k → HasChanged r x change stage later
+  tried_by_later : (stage : TagStage) → IsTriedBy stage k.last → IsTriedBy stage last
+  tried_by_later pending by = tt
+  tried_by_later (tried first) by = omega (arith, by, low)
+  tried_by_later over by = tt
+
+  changed : (change : Change) (stage : TagStage) → HasChanged r x change stage k → HasChanged r x change stage later
   changed change stage h = record {
     is_taken = h.is_taken;
     by_map = h.by_map;
@@ -84,6 +91,7 @@ module _ (settings : SettingsView) (r : PutRequest) (x : Tried) (k : Known) (las
     numbered = h.numbered;
     tag = h.tag;
     waits = h.waits;
+    tried_by = tried_by_later stage h.tried_by;
   }
 
   after : (key : Key) (a : After) → IsAfter r x key a k → IsAfter r x key a later
@@ -103,7 +111,7 @@ module _ (settings : SettingsView) (r : PutRequest) (x : Tried) (k : Known) (las
   fits_later (Writing key guard c) f = (trying f.0, at_row key f.1, content c f.2, f.3, f.4)
   fits_later (Cancelling key tag a) f = (record { guard = f.0.guard; numbered = f.0.numbered; tag = f.0.tag }, after key a f.1)
   fits_later (Completing key change) f = (f.0, changed change f.0 f.1, since change.home key f.0 f.2)
-  fits_later (LookingForShard change) f = (f.0, changed change f.0 f.1, record { first = f.2.first; is_tried = f.2.is_tried; before = (let was = f.2.before in omega (arith, was, low)) })
+  fits_later (LookingForShard change) f = (f.0, changed change f.0 f.1, f.2)
   fits_later (Ended outcome) f = f
 
 -- ---- an own event

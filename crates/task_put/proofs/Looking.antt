@@ -112,13 +112,14 @@ module _ (settings : SettingsView) (r : PutRequest) (x : Tried) (k : Known) (map
     unchanged = t.unchanged;
   }
 
-  row_now : (row : Bucket) → k.account.moved.last ≤ k.last → row_refusal r.asker (Some row) ChangeThing ≡ None → AtRow r (shard_for row r.command.name) (now (Row row))
-  row_now row low granted = record {
+  row_now : (row : Bucket) → 0 < row.shards → k.account.moved.last ≤ k.last → row_refusal r.asker (Some row) ChangeThing ≡ None → AtRow r (shard_for row r.command.name) (now (Row row))
+  row_now row some low granted = record {
     row = row;
     number = number;
     looked = refl;
     read = row_known_now k.phase.rows r.zone r.command.container (record { row = Some row; at = number });
     granted = granted;
+    some = some;
     names = refl;
     later = omega (arith, low, before);
     before = omega arith;
@@ -139,11 +140,11 @@ module _ (settings : SettingsView) (r : PutRequest) (x : Tried) (k : Known) (map
   no_row_grants is = some_refusal (verdict_of r.asker.user r.asker.account None ChangeThing) is
 
   -- ---- the row again
-  again_row : (content : Content) (row : Bucket) → FitsAt settings r x (LookingAgain content) k → FitsAt settings r x (by_place content (place_of (target_of r) (Some row))) (now (Row row))
-  again_row content row f =
+  again_row : (content : Content) (row : Bucket) → 0 < row.shards → FitsAt settings r x (LookingAgain content) k → FitsAt settings r x (by_place content (place_of (target_of r) (Some row))) (now (Row row))
+  again_row content row some f =
       let t = f.0 in
       elim (row_refusal r.asker (Some row) ChangeThing) as (λ o. row_refusal r.asker (Some row) ChangeThing ≡ o → FitsAt settings r x (by_place content (place_by o (Some row) r.command.name)) (now (Row row))) [
-        | None ↦ λ is. (trying_on (Row row) refl refl t, row_now row t.moved_before is, content_on (Row row) content f.1, f.2)
+        | None ↦ λ is. (trying_on (Row row) refl refl t, row_now row some t.moved_before is, content_on (Row row) content f.1, f.2)
         | Some refusal ↦ λ is. refused_now (Row row) (Some row) refusal t.undecided t.unchanged refl is
       ] refl
     where
@@ -198,10 +199,10 @@ module _ (settings : SettingsView) (r : PutRequest) (draft : Draft) (last : ℕ)
     made = λ part one most. (let nowhere : ◌≡◌ {A = ℕ} 0 1 = omega (arith, one, most) in absurd (not_one nowhere));
   })
 
-  first_row : (row : Bucket) → FitsAt settings r none_yet (by_first_place number draft (place_of (target_of r) (Some row))) (known_next start maps (BucketRead r.zone r.command.container) (Row row) number clock)
-  first_row row =
+  first_row : (row : Bucket) → 0 < row.shards → FitsAt settings r none_yet (by_first_place number draft (place_of (target_of r) (Some row))) (known_next start maps (BucketRead r.zone r.command.container) (Row row) number clock)
+  first_row row some =
       elim (row_refusal r.asker (Some row) ChangeThing) as (λ o. row_refusal r.asker (Some row) ChangeThing ≡ o → FitsAt settings r none_yet (by_first_place number draft (place_by o (Some row) r.command.name)) (known_next start maps (BucketRead r.zone r.command.container) (Row row) number clock)) [
-        | None ↦ λ is. (d, trying_on settings r none_yet start maps number clock before (Row row) refl refl trying_at_first, row_now settings r none_yet start maps number clock before row (omega arith) is, refl, no_tails row)
+        | None ↦ λ is. (d, trying_on settings r none_yet start maps number clock before (Row row) refl refl trying_at_first, row_now settings r none_yet start maps number clock before row some (omega arith) is, refl, no_tails row)
         | Some refusal ↦ λ is. refused_now settings r none_yet start maps number clock before (Row row) (Some row) refusal refl refl refl is
       ] refl
 
@@ -215,12 +216,12 @@ module _ (settings : SettingsView) (r : PutRequest) (draft : Draft) (last : ℕ)
 -- ---- by stage
 
 pub looking_again_kept : (settings : SettingsView) (r : PutRequest) (x : Tried) (content : Content) (k : Known) (reply : Reply) → FitsAt settings r x (LookingAgain content) k → IsKept settings r x (LookingAgain content) k reply
-looking_again_kept settings r x content k (Row row) f maps number clock before suits answers = again_row settings r x k maps number clock before content row f
+looking_again_kept settings r x content k (Row row) f maps number clock before suits answers = again_row settings r x k maps number clock before content row answers f
 looking_again_kept settings r x content k (No Absent) f maps number clock before suits answers = again_none settings r x k maps number clock before content f
 looking_again_kept settings r x content k reply f maps number clock before suits answers = absurd suits
 
 fresh_kept : (settings : SettingsView) (r : PutRequest) (draft : Draft) (last : ℕ) (made : Made) (reply : Reply) → IsDraft settings r draft → draft.body.tails ≡ 0 → IsKept settings r (record { moved = 0; expired = 0 }) (Looking draft) (fresh_known last made) reply
-fresh_kept settings r draft last made (Row row) d none maps number clock before suits answers = first_row settings r draft last made maps number clock before d none row
+fresh_kept settings r draft last made (Row row) d none maps number clock before suits answers = first_row settings r draft last made maps number clock before d none row answers
 fresh_kept settings r draft last made (No Absent) d none maps number clock before suits answers = first_none settings r draft last made maps number clock before d none
 fresh_kept settings r draft last made reply d none maps number clock before suits answers = absurd suits
 

@@ -29,7 +29,6 @@ use Rattle.realm_model.specs.declared.op.Op.TheVariants as ops
 use Rattle.realm_model.specs.declared.event.Reply.{Reply}
 use Rattle.realm_model.specs.declared.event.Reply.TheVariants as replies
 use Rattle.swift_auth.specs.declared.policy.Deed.TheVariants.{ChangeThing}
-use Rattle.task_words.specs.declared.command.PutCommand.{PutCommand}
 use Rattle.task_words.specs.declared.reply.MapReply.TheVariants.{Stored, Refused}
 use Rattle.task_words.specs.declared.reply.Refusal.TheVariants.{NotMet}
 use Rattle.task_words.specs.declared.outcome.Outcome.{Outcome}
@@ -115,6 +114,7 @@ pub record AtRow (r : PutRequest) (key : Key) (k : Known) : Type 0 where
   pub looked : k.account.looked ≡ Some (record { zone = r.zone; name = r.command.container; row = Some row; number = number })
   pub read : at (k.phase.rows r.zone) r.command.container ≡ Some (record { row = Some row; at = number })
   pub granted : row_refusal r.asker (Some row) ChangeThing ≡ None
+  pub some : 0 < row.shards
   pub names : key ≡ shard_for row r.command.name
   pub later : k.account.moved.last < number
   pub before : number ≤ k.last
@@ -209,6 +209,11 @@ IsAfter r x key (End outcome) k =
 
 -- ---- after the head was changed
 
+-- the first answer Moved or Closed to a completion has at most this number
+abbrev pub IsTriedBy : TagStage → ℕ → Type 0
+IsTriedBy (tried first) last = first ≤ last
+IsTriedBy stage last = Unit {0}
+
 -- the one own change of a head is the answer of the bucket map, the tag is still there, and not too much was refused
 pub record HasChanged (r : PutRequest) (x : Tried) (change : Change) (stage : TagStage) (k : Known) : Type 0 where
   pub is_taken : IsTaken r.command (body_of r)
@@ -220,6 +225,7 @@ pub record HasChanged (r : PutRequest) (x : Tried) (change : Change) (stage : Ta
   pub numbered : guard.tag ≡ change.tag
   pub tag : k.phase.tag ≡ Some (changed_tag r change guard stage)
   pub waits : is_over stage ≡ false
+  pub tried_by : IsTriedBy stage k.last
 
 -- a completion was answered Moved, and a read of the row after it showed this shard of the container
 pub record ReadSince (r : PutRequest) (home key : Key) (stage : TagStage) (k : Known) : Type 0 where
@@ -233,10 +239,9 @@ pub record ReadSince (r : PutRequest) (home key : Key) (stage : TagStage) (k : K
   pub names : key ≡ shard_for row r.command.name
 
 -- a completion was answered Moved
-pub record WasMoved (stage : TagStage) (k : Known) : Type 0 where
+pub record WasMoved (stage : TagStage) : Type 0 where
   pub first : ℕ
   pub is_tried : stage ≡ tried first
-  pub before : first ≤ k.last
 
 -- ---- by stage
 
@@ -274,7 +279,7 @@ FitsAt settings r x (Writing key guard content) k =
 FitsAt settings r x (Cancelling key tag after) k = HasTag r key tag k × IsAfter r x key after k
 FitsAt settings r x (Completing key change) k =
     (stage : TagStage) × HasChanged r x change stage k × ((key ≡ change.home) ⊎ ReadSince r change.home key stage k)
-FitsAt settings r x (LookingForShard change) k = (stage : TagStage) × HasChanged r x change stage k × WasMoved stage k
+FitsAt settings r x (LookingForShard change) k = (stage : TagStage) × HasChanged r x change stage k × WasMoved stage
 FitsAt settings r x (Ended outcome) k = IsPutOutcome r.zone r.asker r.command (body_of r) outcome k.account k.events
 
 -- the stage is what the own events came to, and these came in their order
@@ -286,8 +291,9 @@ pub record Fits (settings : SettingsView) (r : PutRequest) (x : Tried) (stage : 
 
 -- ---- one event more
 
--- what the answer to a head change says of the slot before it
+-- a row that an answer shows has shards; what the answer to a head change says of the slot before it
 abbrev pub IsAnswer : Maps → ℕ → Op → Reply → Type 0
+IsAnswer maps clock (ops.BucketRead zone name) (replies.Row row) = 0 < row.shards
 IsAnswer maps clock (ops.HeadWrite zone container name guard new when) (replies.Changed made) =
     (fails when (etag_of (slot_at (maps zone container) name)) ≡ false)
     × (made.stamp ≡ stamp_above (seen_stamp (slot_at (maps zone container) name)) clock zone)
