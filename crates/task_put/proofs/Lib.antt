@@ -6,3 +6,8 @@ pub mod Knowing
 pub mod Counting
 pub mod Ordering
 pub mod Looking
+pub mod Carrying
+pub mod ChangingTags
+pub mod ChangingHeads
+pub mod ChangingEnds
+pub mod ChangingNeeds
