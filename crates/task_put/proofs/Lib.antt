@@ -11,3 +11,4 @@ pub mod ChangingTags
 pub mod ChangingHeads
 pub mod ChangingEnds
 pub mod ChangingNeeds
+pub mod ChangingAnswers

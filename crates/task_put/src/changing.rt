@@ -2,15 +2,18 @@
 ghost use Rattle.rgw_types.specs.declared.pool_key.Key.{Key as KeyOf};
 ghost use Rattle.object_words.specs.declared.entry.Guard.{Guard as GuardOf};
 ghost use Rattle.realm_model.specs.Settings.{SettingsView};
+ghost use Rattle.realm_model.specs.Histories.{state_of, Legal};
+ghost use Rattle.realm_model.specs.Maps.{heads};
+ghost use Rattle.realm_model.specs.declared.event.Event.{Event as EventOf};
 ghost use Rattle.realm_model.specs.declared.event.Reply.{Reply as ReplyOf};
-ghost use Rattle.std.specs.Prelude.{ℕ, ◌≤◌};
+ghost use Rattle.std.specs.Prelude.{◌≡◌, ℕ, ◌≤◌, List, [], ◌∷◌, ◌++◌};
 ghost use Rattle.task_put.specs.declared.stage.After.{After as AfterOf};
 ghost use Rattle.task_put.specs.declared.stage.Change.{Change as ChangeOf};
 ghost use Rattle.task_put.specs.declared.stage.Content.{Content as ContentOf};
 ghost use Rattle.task_put.specs.declared.stage.PutRequest.{PutRequest as PutRequestOf};
 ghost use Rattle.task_put.specs.declared.stage.Stage.TheVariants.{Preparing, Announcing, Writing, Cancelling, Completing, LookingForShard};
 ghost use Rattle.task_put.specs.declared.stage.Tried.{Tried as TriedOf};
-ghost use Rattle.task_put.specs.Fits.{Known, FitsAt, MayCome, IsKept};
+ghost use Rattle.task_put.specs.Fits.{Known, FitsAt, HasShards, IsAnswer, MayCome, IsKept};
 
 /// An answer to a preparation, an announcement or a cancel brings a PUT to where its events bring it.
 pub fn tags_keep_where_a_put_stands()
@@ -57,4 +60,12 @@ pub fn a_put_may_go_on()
     ensures look { (settings : SettingsView) (r : PutRequestOf) (x : TriedOf) (change : ChangeOf) (k : Known)
         → 1 ≤ r.zone → r.zone ≤ settings.zones
         → FitsAt settings r x (LookingForShard change) k → MayCome settings r (LookingForShard change) k }
+{}
+
+/// In a legal history an answer says of the slot before it what the bucket map has, and of the row what its
+/// type says.
+pub fn answers_are_of_the_map()
+    ensures { (settings : SettingsView) (before : List EventOf) (e : EventOf) (clock : ℕ)
+        → Legal settings (before ++ e ∷ []) → clock ≡ (state_of settings (before ++ e ∷ [])).clock
+        → HasShards e.reply → IsAnswer (heads before) clock e.op e.reply }
 {}

@@ -15,8 +15,8 @@ mod trace;
 
 pub use body::{Progress, PutBody};
 pub use changing::{
-    a_put_may_go_on, changes_keep_where_a_put_stands, completions_keep_where_a_put_stands,
-    tags_keep_where_a_put_stands,
+    a_put_may_go_on, answers_are_of_the_map, changes_keep_where_a_put_stands,
+    completions_keep_where_a_put_stands, tags_keep_where_a_put_stands,
 };
 pub use etag::has_other_etag;
 pub use keeping::{
