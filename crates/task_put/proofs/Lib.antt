@@ -10,4 +10,10 @@ pub mod Tailing
 pub mod Readying
 pub mod Taking
 pub mod Tasking
+pub mod Carrying
+pub mod ChangingAnswers
+pub mod ChangingEnds
+pub mod ChangingHeads
+pub mod ChangingNeeds
+pub mod ChangingTags
 pub mod Turning

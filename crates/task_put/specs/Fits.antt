@@ -291,14 +291,11 @@ pub record Fits (settings : SettingsView) (r : PutRequest) (x : Tried) (stage : 
 
 -- ---- one event more
 
-<<<<<<< HEAD
 -- a row that is shown has shards
 abbrev pub HasShards : Reply → Type 0
 HasShards (replies.Row row) = 0 < row.shards
 HasShards reply = Unit {0}
 
-=======
->>>>>>> 8264b93275a23b84bcbd24848b9ed853c7e0305e
 -- a row that an answer shows has shards; what the answer to a head change says of the slot before it
 abbrev pub IsAnswer : Maps → ℕ → Op → Reply → Type 0
 IsAnswer maps clock (ops.BucketRead zone name) (replies.Row row) = 0 < row.shards

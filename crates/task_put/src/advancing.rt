@@ -1,12 +1,13 @@
 // Where an answer brings a PUT.
 ghost use Rattle.std.specs.Prelude.{◌≡◌, option_copied};
 ghost use Rattle.task_put.specs.Stages.{tried_after, row_shown, place_of, by_first_place, by_place, by_tail, look_again, by_tag, after_late, content_back, by_lateness, by_refusal, by_change, by_cancel, look_for_shard, row_back, change_of, by_move, by_completion, shard_for, shard_now, resumed};
-ghost use Rattle.task_put.specs.declared.stage.Stage.TheVariants.{Completing, Ended};
+ghost use Rattle.task_put.specs.declared.stage.Stage.TheVariants.{Writing, Completing, Ended};
+ghost use Rattle.task_put.specs.declared.stage.After.TheVariants.{End};
 ghost use Rattle.task_words.specs.declared.outcome.Outcome.TheVariants.{Done};
 ghost use Rattle.task_words.specs.declared.reply.MapReply.TheVariants.{Stored};
 
 use crate::stage::{After, Change, Content, Draft, Rest, Stage, Target, Tried, Unfinished};
-use object_words::{Bucket, EntryRow, Guard, ObjectName, ShardKey, Why, shard_of};
+use object_words::{Bucket, Changed, EntryRow, Guard, ObjectName, ShardKey, Why, shard_of};
 use realm_door::Answered;
 use realm_model::{Op, Reply};
 use swift_auth::Deed;
@@ -42,20 +43,16 @@ pub(crate) fn resumed(target: &Target, tried: Tried, rest: Rest, answered: Answe
 {
     match rest {
         Rest::Look(draft) => looked(target, draft, answered),
-        Rest::Tail { write, key, draft } => by_tail(write, key, draft, answered.reply),
+        Rest::Tail { write, key, draft } => tail_made(write, key, draft, answered),
         Rest::LookAgain(content) => looked_again(target, content, answered),
-        Rest::Prepare { key, content } => by_tag(tried, key, content, answered.reply),
+        Rest::Prepare { key, content } => prepared(tried, key, content, answered),
         Rest::Announce {
             key,
             guard,
             content,
-        } => Stage::Writing {
-            key,
-            guard,
-            content,
-        },
+        } => announced(key, guard, content, answered),
         Rest::Write { key, guard, etag } => written(tried, key, guard, etag, answered),
-        Rest::Cancel(after) => by_cancel(tried, after),
+        Rest::Cancel(after) => cancelled(tried, after, answered),
         Rest::Complete(unfinished) => completed(tried, unfinished, answered),
         Rest::LookForShard(change) => shard_looked(target, change, answered),
     }
@@ -68,6 +65,38 @@ fn looked(target: &Target, draft: Draft, answered: Answered) -> Stage
     let number = answered.number;
     let row = row_in(answered.reply);
     by_first_place(number, draft, place_of(target, row.as_ref()))
+}
+
+/// A tail was made, or found no room.
+fn tail_made(write: u64, key: ShardKey, draft: Draft, answered: Answered) -> Stage
+    ensures { result ≡ by_tail write key draft answered.reply }
+{
+    by_tail(write, key, draft, answered.reply)
+}
+
+/// A tag was given, or the shard refused it.
+fn prepared(tried: Tried, key: ShardKey, content: Content, answered: Answered) -> Stage
+    ensures { result ≡ by_tag tried key content answered.reply }
+{
+    by_tag(tried, key, content, answered.reply)
+}
+
+/// The shard was announced.
+fn announced(key: ShardKey, guard: Guard, content: Content, _answered: Answered) -> Stage
+    ensures { result ≡ Writing key guard content }
+{
+    Stage::Writing {
+        key,
+        guard,
+        content,
+    }
+}
+
+/// The tag was cancelled, or is left to its deadline.
+fn cancelled(tried: Tried, after: After, _answered: Answered) -> Stage
+    ensures { result ≡ by_cancel tried after }
+{
+    by_cancel(tried, after)
 }
 
 /// The row was read again.
@@ -211,17 +240,7 @@ fn by_change(
     ensures { result ≡ by_change tried key guard etag reply back }
 {
     match reply {
-        Reply::Changed(made) => Stage::Completing {
-            key,
-            change: Change {
-                home: key,
-                tag: guard.tag,
-                version: made.version,
-                row: made.row,
-                etag,
-                stamp: made.stamp,
-            },
-        },
+        Reply::Changed(made) => changed(key, guard.tag, etag, made, back),
         Reply::No(why) => Stage::Cancelling {
             key,
             tag: guard.tag,
@@ -230,7 +249,30 @@ fn by_change(
         _ => Stage::Cancelling {
             key,
             tag: guard.tag,
-            after: After::End(Outcome::Done(MapReply::Refused(Refusal::NotMet))),
+            after: ended_by(Outcome::Done(MapReply::Refused(Refusal::NotMet)), back),
+        },
+    }
+}
+
+/// The head was changed.
+fn changed(key: ShardKey, tag: u64, etag: [u8; 16], made: Changed, _back: Option<Op>) -> Stage
+    ensures { result ≡ Completing key (record { home = key; tag = tag; version = made.version; row = made.row; etag = etag; stamp = made.stamp }) }
+{
+    let Changed {
+        version,
+        stamp,
+        row,
+        ..
+    } = made;
+    Stage::Completing {
+        key,
+        change: Change {
+            home: key,
+            tag,
+            version,
+            row,
+            etag,
+            stamp,
         },
     }
 }
@@ -241,9 +283,16 @@ fn by_refusal(tried: Tried, why: Why, back: Option<Op>) -> After
 {
     match why {
         Why::Expired { .. } => by_lateness(tried, content_back(back)),
-        Why::NoSpace { free, needed } => After::End(Outcome::NoSpace { free, needed }),
-        _ => After::End(Outcome::Done(MapReply::Refused(Refusal::NotMet))),
+        Why::NoSpace { free, needed } => ended_by(Outcome::NoSpace { free, needed }, back),
+        _ => ended_by(Outcome::Done(MapReply::Refused(Refusal::NotMet)), back),
     }
+}
+
+/// The task ends so, and what came back is let go.
+fn ended_by(outcome: Outcome, _back: Option<Op>) -> After
+    ensures { result ≡ End outcome }
+{
+    After::End(outcome)
 }
 
 /// The content, where the change of a head comes back.
@@ -293,8 +342,15 @@ fn by_completion(tried: Tried, unfinished: Unfinished, reply: Reply, back: Optio
 {
     match reply {
         Reply::No(Why::Moved { .. }) => by_move(tried, unfinished, row_back(back)),
-        _ => stored(unfinished),
+        _ => stood(unfinished, back),
     }
+}
+
+/// The change stands, and what came back is let go.
+fn stood(unfinished: Unfinished, _back: Option<Op>) -> Stage
+    ensures { result ≡ Ended (Done (Stored unfinished.etag unfinished.stamp)) }
+{
+    stored(unfinished)
 }
 
 /// The row, where a completion comes back.
