@@ -2,3 +2,16 @@ pub mod Cutting
 pub mod Showing
 pub mod Answering
 pub mod Rows
+pub mod Knowing
+pub mod Counting
+pub mod Ordering
+pub mod Looking
+pub mod Tailing
+pub mod Readying
+pub mod Taking
+pub mod Carrying
+pub mod ChangingAnswers
+pub mod ChangingEnds
+pub mod ChangingHeads
+pub mod ChangingNeeds
+pub mod ChangingTags
