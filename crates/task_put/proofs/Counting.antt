@@ -1,18 +1,15 @@
 -- One own event more.
-use Rattle.std.proofs.Common.{◌≡◌, ℕ, ◌+◌, ◌<◌, ◌≤◌, Bool, true, false, cond, List, [], ◌∷◌, ◌++◌, length, min, Option, Some, None, refl, sym, ◌∙◌, ap, subst, arith}
+use Rattle.std.proofs.Common.{◌≡◌, ℕ, ◌+◌, Bool, true, false, cond, List, [], ◌∷◌, ◌++◌, length, Some, refl, ◌∙◌, ap, arith}
 use Rattle.std.specs.Prelude.{filter}
 use Rattle.std.proofs.lemmas.List.{length-append}
 use Rattle.std.proofs.lemmas.List.Elements.{filter-append}
-use Rattle.object_words.specs.declared.bucket.Bucket.{Bucket}
 use Rattle.object_words.specs.Keys.{put}
 use Rattle.object_words.specs.Names.{Named, at, with_name}
 use Rattle.object_words.proofs.KeyLemmas.{number_itself}
 use Rattle.object_words.proofs.NameLemmas.{at-with_name, name_itself}
-use Rattle.realm_model.specs.Accounts.{Account, accounted, is_left}
+use Rattle.realm_model.specs.Accounts.{is_left}
 use Rattle.realm_model.specs.Owns.{OwnEvent}
 use Rattle.realm_model.specs.Phases.{RowRead}
-use Rattle.realm_model.specs.declared.op.Op.{Op}
-use Rattle.realm_model.specs.declared.event.Reply.{Reply}
 use Rattle.task_words.specs.Outcomes.{left_count}
 use Rattle.task_put.specs.Orders.{Path, path_after, path_from, path_of}
 

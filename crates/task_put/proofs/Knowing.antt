@@ -1,5 +1,5 @@
 -- What is known after others' events, and after an own one.
-use Rattle.std.proofs.Common.{◌≡◌, ℕ, ◌+◌, ◌<◌, ◌≤◌, ◌⊎◌, inl, inr, List, [], ◌∷◌, ◌++◌, length, Option, Some, None, refl, sym, ◌∙◌, ap, subst, arith}
+use Rattle.std.proofs.Common.{◌≡◌, ℕ, ◌<◌, ◌≤◌, ◌⊎◌, inl, inr, List, [], ◌∷◌, ◌++◌, length, Some, sym, ◌∙◌, ap, subst, arith}
 use Rattle.std.proofs.lemmas.List.{length-append}
 use Rattle.rgw_types.specs.declared.pool_key.Key.{Key}
 use Rattle.realm_model.specs.Settings.{SettingsView}
@@ -23,7 +23,7 @@ use Rattle.task_put.specs.declared.stage.After.{After}
 use Rattle.task_put.specs.declared.stage.After.TheVariants.{Again, End}
 use Rattle.task_put.specs.declared.stage.Stage.{Stage}
 use Rattle.task_put.specs.declared.stage.Stage.TheVariants.{Looking, Feeding, LookingAgain, Preparing, Announcing, Writing, Cancelling, Completing, LookingForShard, Ended}
-use Rattle.task_put.specs.Fits.{Known, known_at, known_later, known_next, Trying, AtRow, InTails, IsContent, IsAfter, HasTag, HasChanged, ReadSince, IsTriedBy, FitsAt}
+use Rattle.task_put.specs.Fits.{Known, known_at, known_later, known_next, Trying, AtRow, InTails, IsContent, IsAfter, HasChanged, ReadSince, IsTriedBy, FitsAt}
 
 -- ---- others' events
 

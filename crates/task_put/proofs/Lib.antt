@@ -9,11 +9,9 @@ pub mod Looking
 pub mod Tailing
 pub mod Readying
 pub mod Taking
-pub mod Tasking
 pub mod Carrying
 pub mod ChangingAnswers
 pub mod ChangingEnds
 pub mod ChangingHeads
 pub mod ChangingNeeds
 pub mod ChangingTags
-pub mod Turning

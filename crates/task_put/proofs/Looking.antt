@@ -1,22 +1,17 @@
 -- A PUT after reads of the row.
-use Rattle.std.proofs.Common.{◌≡◌, ℕ, ◌+◌, ◌<◌, ◌≤◌, ◌⊎◌, inl, Bool, true, false, cond, List, [], ◌∷◌, ◌++◌, length, min, Option, Some, None, refl, sym, ◌∙◌, ap, subst, arith, nat_le}
-use Rattle.std.specs.Prelude.{◌&&◌}
-use Rattle.std.specs.declared.result.Result.{Result}
-use Rattle.std.specs.declared.result.Result.TheVariants.{Ok, Err}
+use Rattle.std.proofs.Common.{◌≡◌, ℕ, ◌<◌, ◌≤◌, true, false, List, [], Option, Some, None, refl, sym, ◌∙◌, ap, subst, arith, nat_le}
 use Rattle.std.proofs.lemmas.Bool.Decides.{nat_tests}
-use Rattle.rgw_types.specs.declared.pool_key.Key.{Key}
 use Rattle.object_words.specs.declared.bucket.Bucket.{Bucket}
 use Rattle.object_words.specs.declared.why.Why.TheVariants.{Absent}
 use Rattle.realm_model.specs.Settings.{SettingsView}
-use Rattle.realm_model.specs.Accounts.{Account, Looked, MovedCount, blank, is_left}
+use Rattle.realm_model.specs.Accounts.{Account, MovedCount, blank, is_left}
 use Rattle.realm_model.specs.Allowed.{allowed, meets_need}
 use Rattle.realm_model.specs.Learnt.{first_after}
 use Rattle.realm_model.specs.Maps.{Maps, Made}
 use Rattle.realm_model.specs.Needs.{is_between}
 use Rattle.realm_model.specs.Ops.{zone_of}
 use Rattle.realm_model.specs.Owns.{OwnEvent}
-use Rattle.realm_model.specs.Phases.{FirstEvent, Phase, fresh}
-use Rattle.realm_model.specs.Suits.{Suits}
+use Rattle.realm_model.specs.Phases.{Phase, fresh}
 use Rattle.realm_model.specs.declared.op.Op.{Op}
 use Rattle.realm_model.specs.declared.op.Op.TheVariants.{BucketRead}
 use Rattle.realm_model.specs.declared.event.Reply.{Reply}
@@ -29,17 +24,15 @@ use Rattle.task_words.specs.declared.reply.Refusal.{Refusal}
 use Rattle.task_words.specs.declared.reply.Refusal.TheVariants.{Unauthorized, Denied, NoContainer, NoObject, NotMet, NoRange, OtherEtag}
 use Rattle.task_words.specs.declared.reply.MapReply.TheVariants.{Refused}
 use Rattle.task_words.specs.declared.outcome.Outcome.TheVariants.{Done}
-use Rattle.task_words.specs.Outcomes.{most_moved, most_expired, ByRow, Granted, left_count, IsPutReply, IsPutOutcome}
+use Rattle.task_words.specs.Outcomes.{ByRow, IsPutReply}
 use Rattle.task_words.specs.Rows.{refusal_by, row_refusal}
-use Rattle.task_put.specs.Bodies.{tail_bytes}
 use Rattle.task_put.specs.declared.stage.PutRequest.{PutRequest}
 use Rattle.task_put.specs.declared.stage.Draft.{Draft}
 use Rattle.task_put.specs.declared.stage.Content.{Content}
 use Rattle.task_put.specs.declared.stage.Tried.{Tried}
-use Rattle.task_put.specs.declared.stage.Stage.{Stage}
-use Rattle.task_put.specs.declared.stage.Stage.TheVariants.{Looking, Feeding, LookingAgain, Preparing, Ended}
-use Rattle.task_put.specs.Stages.{shard_for, op_of, place_by, place_of, by_first_place, by_place, tried_after, step_of}
-use Rattle.task_put.specs.Fits.{target_of, body_of, Known, known_next, Trying, AtRow, InTails, IsDraft, IsContent, IsTagFree, FitsAt, MayCome, IsKept}
+use Rattle.task_put.specs.declared.stage.Stage.TheVariants.{Looking, LookingAgain, Ended}
+use Rattle.task_put.specs.Stages.{shard_for, place_by, place_of, by_first_place, by_place}
+use Rattle.task_put.specs.Fits.{target_of, body_of, Known, known_next, Trying, AtRow, InTails, IsDraft, IsContent, FitsAt, IsKept}
 use Rattle.task_put.proofs.Counting.{left_same, row_known_now}
 
 -- ---- what may come next

@@ -1,13 +1,10 @@
 -- Each event of a PUT comes where it may come.
-use Rattle.std.proofs.Common.{◌≡◌, ℕ, Bool, true, false, cond, List, Option, Some, None, refl, subst, nat_lt}
+use Rattle.std.proofs.Common.{ℕ, true, false, cond, Option, Some, None, nat_lt}
 use Rattle.std.specs.declared.result.Result.{Result}
 use Rattle.std.specs.declared.result.Result.TheVariants.{Ok, Err}
 use Rattle.rgw_types.specs.declared.pool_key.Key.{Key}
-use Rattle.object_words.specs.declared.bucket.Bucket.{Bucket}
-use Rattle.object_words.specs.declared.why.Why.{Why}
 use Rattle.object_words.specs.declared.why.Why.TheVariants as whys
 use Rattle.realm_model.specs.Suits.{Suits}
-use Rattle.realm_model.specs.declared.op.Op.{Op}
 use Rattle.realm_model.specs.declared.event.Reply.{Reply}
 use Rattle.realm_model.specs.declared.event.Reply.TheVariants as replies
 use Rattle.task_words.specs.declared.command.BodyEnd.{BodyEnd}
@@ -24,12 +21,11 @@ use Rattle.task_put.specs.declared.stage.Draft.{Draft}
 use Rattle.task_put.specs.declared.stage.Content.{Content}
 use Rattle.task_put.specs.declared.stage.Change.{Change}
 use Rattle.task_put.specs.declared.stage.Tried.{Tried}
-use Rattle.task_put.specs.declared.stage.After.{After}
 use Rattle.task_put.specs.declared.stage.After.TheVariants.{Again, End}
 use Rattle.task_put.specs.declared.stage.Stage.{Stage}
 use Rattle.task_put.specs.declared.stage.Stage.TheVariants.{Looking, Feeding, LookingAgain, Preparing, Announcing, Writing, Cancelling, Completing, LookingForShard, Ended}
-use Rattle.task_put.specs.Orders.{Path, begun, feeding, turned, ready, prepared, announced, changed, refused, adrift, finished, astray, path_after, tried_to_prepare, IsOrdered}
-use Rattle.task_put.specs.Stages.{IsReady, op_of, place_of, by_first_place, by_place, look_again, look_for_shard, by_move, row_back, change_of, step_of, settled, closed, taken, content_of}
+use Rattle.task_put.specs.Orders.{Path, begun, feeding, turned, ready, prepared, announced, changed, refused, adrift, path_after}
+use Rattle.task_put.specs.Stages.{IsReady, op_of, place_of, by_first_place, by_place, look_again, look_for_shard, step_of, settled, closed, taken, content_of}
 use Rattle.task_put.specs.Fits.{IsAt}
 
 first : (number : ℕ) (draft : Draft) (place : Result Key Refusal) → IsAt (by_first_place number draft place) feeding

@@ -1,5 +1,5 @@
 -- A PUT after its tails, and at the end of its body.
-use Rattle.std.proofs.Common.{◌≡◌, ◌≢◌, ℕ, zero, suc, ◌+◌, ◌-◌, ◌*◌, ◌==◌, ◌<◌, ◌≤◌, ◌⊎◌, inl, inr, ◌&&◌, ◌||◌, not, Bool, true, false, cond, List, [], ◌∷◌, ◌++◌, map, length, min, take, drop, Option, Some, None, refl, sym, ◌∙◌, ap, subst, arith, nat_le}
+use Rattle.std.proofs.Common.{◌≡◌, ℕ, zero, suc, ◌+◌, ◌*◌, ◌==◌, ◌<◌, ◌≤◌, inr, ◌&&◌, ◌||◌, not, Bool, true, false, cond, List, [], ◌∷◌, map, length, Option, Some, None, refl, sym, ◌∙◌, ap, subst, arith, nat_le}
 use Rattle.std.specs.List.{range_with_len}
 use Rattle.std.proofs.lemmas.Bool.Decides.{nat_tests}
 use Rattle.std.proofs.lemmas.List.{length-take, length-drop, length-map, map-append}
@@ -17,29 +17,25 @@ use Rattle.object_words.specs.declared.why.Why.TheVariants.{NoSpace as no_space}
 use Rattle.object_words.specs.Keys.{put}
 use Rattle.object_words.proofs.KeyLemmas.{number_itself}
 use Rattle.realm_model.specs.Settings.{SettingsView}
-use Rattle.realm_model.specs.Accounts.{MovedCount, is_left}
-use Rattle.realm_model.specs.Allowed.{allowed}
 use Rattle.realm_model.specs.Learnt.{first_after, put_bundle, with_part}
-use Rattle.realm_model.specs.Maps.{Maps, Made}
+use Rattle.realm_model.specs.Maps.{Maps}
 use Rattle.realm_model.specs.Needs.{is_between, is_first, is_own_write, is_next_part}
-use Rattle.realm_model.specs.Owns.{OwnEvent}
-use Rattle.realm_model.specs.Phases.{FirstEvent, Bundle, unused, opened, Phase}
+use Rattle.realm_model.specs.Phases.{unused, opened, Phase}
 use Rattle.realm_model.specs.Tests.{is_so}
 use Rattle.realm_model.specs.declared.op.Op.{Op}
 use Rattle.realm_model.specs.declared.op.Op.TheVariants.{TailMake}
 use Rattle.realm_model.specs.declared.event.Reply.{Reply}
 use Rattle.realm_model.specs.declared.event.Reply.TheVariants.{Done, No}
-use Rattle.task_words.specs.Outcomes.{most_moved, most_expired, left_count, Granted}
+use Rattle.task_words.specs.Outcomes.{Granted}
 use Rattle.swift_auth.specs.declared.policy.Deed.TheVariants.{ChangeThing}
-use Rattle.task_put.specs.Bodies.{BodyView, first_bytes, tail_bytes, hand_of, has_tail, without_tail, is_whole}
+use Rattle.task_put.specs.Bodies.{first_bytes, tail_bytes, hand_of, has_tail, without_tail, is_whole}
 use Rattle.task_put.specs.declared.stage.PutRequest.{PutRequest}
 use Rattle.task_put.specs.declared.stage.Draft.{Draft}
 use Rattle.task_put.specs.declared.stage.Tried.{Tried}
 use Rattle.task_put.specs.declared.stage.Stage.{Stage}
-use Rattle.task_put.specs.declared.stage.Content.{Content}
 use Rattle.task_put.specs.declared.stage.Stage.TheVariants.{Looking, Feeding, LookingAgain, Preparing, Announcing, Writing, Cancelling, Completing, LookingForShard, Ended}
-use Rattle.task_put.specs.Stages.{op_of, rest_of, step_of, content_of, taken, closed, settled}
-use Rattle.task_put.specs.Fits.{target_of, Known, known_next, Trying, AtRow, bundle_of, InTails, IsCut, IsDraft, IsContent, IsTagFree, FitsAt, MayCome, IsKept}
+use Rattle.task_put.specs.Stages.{step_of, content_of, taken, closed, settled}
+use Rattle.task_put.specs.Fits.{target_of, Known, known_next, Trying, AtRow, bundle_of, InTails, IsDraft, IsContent, IsTagFree, FitsAt, MayCome, IsKept}
 use Rattle.task_put.proofs.Counting.{left_same}
 use Rattle.task_put.proofs.Cutting.{tails_counted, taken_out}
 use Rattle.task_put.proofs.Looking.{in_realm}
@@ -254,9 +250,9 @@ module _ (settings : SettingsView) (r : PutRequest) (x : Tried) (write : ℕ) (k
           is_first = ap (λ o. first_after o number clock) t.is_first;
           numbered = t.numbered;
           own = bundle_here k.phase.stripes.own r.zone write write (with_part (k.phase.stripes.own r.zone write write) (length tail))
-          ∙ ap (λ b. with_part b (length tail)) t.own
-          ∙ ap (λ bs. with_part (bundle_of stripe r.bytes tails) (length (tail_bytes stripe bs (tails + 1)))) f.0.bytes
-          ∙ one_more_size stripe r.bytes tails;
+              ∙ ap (λ b. with_part b (length tail)) t.own
+              ∙ ap (λ bs. with_part (bundle_of stripe r.bytes tails) (length (tail_bytes stripe bs (tails + 1)))) f.0.bytes
+              ∙ one_more_size stripe r.bytes tails;
           made = made_here;
         }
 
@@ -326,10 +322,10 @@ module _ (settings : SettingsView) (r : PutRequest) (x : Tried) (write : ℕ) (k
         let d = f.0 in
         elim (is_other_etag draft.etag draft.body.bytes) as (λ b. is_other_etag draft.etag draft.body.bytes ≡ b → FitsAt settings r x (cond b (Ended (outcomes.Done (Refused OtherEtag))) (Preparing key (content_of write draft))) k) [
           | true ↦ λ other. (
-              record { whole = whole; wrong = subst (λ e. is_other_etag e r.bytes ≡ true) d.etag (subst (λ bs. is_other_etag draft.etag bs ≡ true) d.bytes other) },
-              granted,
-              f.1.undecided,
-            )
+            record { whole = whole; wrong = subst (λ e. is_other_etag e r.bytes ≡ true) d.etag (subst (λ bs. is_other_etag draft.etag bs ≡ true) d.bytes other) },
+            granted,
+            f.1.undecided,
+          )
           | false ↦ λ right. (f.1, f.2, content right, subst IsTagFree (sym f.3) tt)
         ] refl
 

@@ -1,5 +1,5 @@
 -- A PUT that takes bytes, and whose body ends.
-use Rattle.std.proofs.Common.{◌≡◌, ℕ, zero, suc, ◌+◌, ◌-◌, ◌*◌, ◌<◌, ◌≤◌, ◌⊎◌, inl, inr, ⊎_elim, Bool, true, false, cond, List, [], ◌∷◌, ◌++◌, map, length, take, drop, Option, Some, None, refl, sym, ◌∙◌, ap, subst, arith}
+use Rattle.std.proofs.Common.{◌≡◌, ℕ, zero, suc, ◌+◌, ◌*◌, ◌<◌, ◌≤◌, ◌⊎◌, inl, inr, ⊎_elim, List, [], ◌∷◌, ◌++◌, map, length, take, drop, Option, Some, None, refl, sym, ◌∙◌, ap, subst, arith}
 use Rattle.std.specs.List.{range_with_len}
 use Rattle.std.proofs.lemmas.List.{append-nil, length-append, length-drop, take-append-le, drop-append-le}
 use Rattle.std.proofs.Math.Nat.{mul-le-mul_left}
@@ -9,26 +9,23 @@ use Rattle.realm_model.specs.Owns.{OwnEvent}
 use Rattle.realm_model.specs.Accounts.{Account}
 use Rattle.task_words.specs.declared.command.BodyEnd.{BodyEnd}
 use Rattle.task_words.specs.declared.command.BodyEnd.TheVariants as ends
-use Rattle.task_words.specs.declared.command.PutCommand.{PutCommand}
-use Rattle.task_words.specs.declared.asker.Asker.{Asker}
 use Rattle.task_words.specs.declared.reply.MapReply.{MapReply}
-use Rattle.task_words.specs.declared.reply.MapReply.TheVariants.{Stored, Shown, Same, Counted, Refused}
-use Rattle.task_words.specs.declared.reply.Refusal.TheVariants.{Unauthorized, Denied, NoContainer, NoObject, NotMet, NoRange, OtherEtag}
+use Rattle.task_words.specs.declared.reply.MapReply.TheVariants.{Stored, Refused}
+use Rattle.task_words.specs.declared.reply.Refusal.TheVariants.{Unauthorized, Denied, NoContainer, NotMet, OtherEtag}
 use Rattle.task_words.specs.declared.outcome.Outcome.{Outcome}
-use Rattle.task_words.specs.declared.outcome.Outcome.TheVariants.{Done, BodyFailed, Busy, MovedOften, RacedOften, LateTag, LateRead, NoSpace}
-use Rattle.task_words.specs.Outcomes.{Body, IsTaken, IsOther, IsPutReply, IsPutOutcome}
-use Rattle.task_put.specs.Bodies.{BodyView, first_bytes, tail_bytes, with_bytes, first_end, ended}
+use Rattle.task_words.specs.declared.outcome.Outcome.TheVariants.{Done, BodyFailed, Busy, MovedOften, LateTag, NoSpace}
+use Rattle.task_words.specs.Outcomes.{IsPutReply, IsPutOutcome}
+use Rattle.task_put.specs.Bodies.{BodyView, tail_bytes, with_bytes, first_end}
 use Rattle.task_put.specs.declared.stage.PutRequest.{PutRequest}
 use Rattle.task_put.specs.declared.stage.Draft.{Draft}
 use Rattle.task_put.specs.declared.stage.Tried.{Tried}
-use Rattle.task_put.specs.declared.stage.Content.{Content}
 use Rattle.task_put.specs.declared.stage.After.{After}
 use Rattle.task_put.specs.declared.stage.After.TheVariants.{Again, End}
 use Rattle.task_put.specs.declared.stage.Stage.{Stage}
 use Rattle.task_put.specs.declared.stage.Stage.TheVariants.{Looking, Feeding, LookingAgain, Preparing, Announcing, Writing, Cancelling, Completing, LookingForShard, Ended}
 use Rattle.task_put.specs.Taking.{fed_request, fed_draft, fed_stage, ended_request, ended_draft, ended_stage, IsTaking}
 use Rattle.task_put.proofs.Tailing.{some_tails, not_none}
-use Rattle.task_put.specs.Fits.{body_of, Known, Trying, AtRow, bundle_of, InTails, IsCut, IsDraft, IsContent, IsAfter, FitsAt}
+use Rattle.task_put.specs.Fits.{body_of, Known, AtRow, bundle_of, InTails, IsCut, IsDraft, FitsAt}
 
 -- ---- more bytes
 

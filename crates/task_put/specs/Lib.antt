@@ -5,4 +5,3 @@ pub mod Stages
 pub mod Orders
 pub mod Fits
 pub mod Taking
-pub mod Tasks

@@ -23,14 +23,14 @@ pub enum Next {
 
 /// A stage, and what comes next there.
 #[derive(Drop)]
-pub(crate) struct Standing {
+pub struct Standing {
     pub stage: Stage,
     pub next: Next,
 }
 
 /// The stage, or the one that the end of the body brings it to, once no tail waits.
 #[tactic(auto, using(crate::proofs::Readying::ready_of))]
-pub(crate) fn settled(stage: Stage) -> Standing
+pub fn settled(stage: Stage) -> Standing
     ensures stage { result.stage ≡ settled stage }
     ensures ready { result.next ≡ nexts.Event → IsReady result.stage }
     ensures wants { result.next ≡ nexts.Wants → WantsBytes result.stage }

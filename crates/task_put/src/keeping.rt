@@ -1,5 +1,5 @@
 //! Laws of the stages of a PUT: the functions here do nothing.
-ghost use Rattle.std.specs.Prelude.{◌≡◌, ◌≤◌, ℕ, true, List, [], ◌∷◌, ◌++◌, Some};
+ghost use Rattle.std.specs.Prelude.{◌≡◌, ◌≤◌, ◌⊎◌, ℕ, true, List, [], ◌∷◌, ◌++◌, Some};
 ghost use Rattle.realm_model.specs.Settings.{SettingsView};
 ghost use Rattle.realm_model.specs.Maps.{Made};
 ghost use Rattle.task_put.specs.declared.stage.PutRequest.{PutRequest as PutRequestOf};
@@ -15,6 +15,8 @@ ghost use Rattle.task_put.specs.declared.stage.Stage.TheVariants.{Looking, Feedi
 ghost use Rattle.rgw_types.specs.declared.pool_key.Key.{Key};
 ghost use Rattle.task_put.specs.Bodies.{has_tail};
 ghost use Rattle.task_put.specs.Orders.{Path, path_of, path_after};
+ghost use Rattle.task_words.specs.declared.command.BodyEnd.{BodyEnd as BodyEndOf};
+ghost use Rattle.task_put.specs.Taking.{IsTaking, fed_request, fed_stage, ended_request, ended_stage};
 ghost use Rattle.task_put.specs.Stages.{IsReady, op_of, step_of, settled};
 ghost use Rattle.task_put.specs.Fits.{Known, known_later, IsAt, FitsAt, MayCome, IsKept};
 
@@ -53,4 +55,13 @@ pub fn tails_keep_where_a_put_stands()
         → (reply : ReplyOf) → IsKept settings r x (Feeding write key draft) k reply }
     ensures end { (settings : SettingsView) (r : PutRequestOf) (x : TriedOf) (stage : StageOf) (k : Known)
         → FitsAt settings r x stage k → FitsAt settings r x (settled stage) k }
+{}
+
+/// A PUT that takes more bytes stands where its events brought it, and so does one whose body ends.
+pub fn bodies_keep_where_a_put_stands()
+    ensures fed { (settings : SettingsView) (r : PutRequestOf) (x : TriedOf) (more : List ℕ) (stage : StageOf) (k : Known)
+        → (more ≡ []) ⊎ IsTaking stage → FitsAt settings r x stage k
+        → FitsAt settings (fed_request r more) x (fed_stage stage more) k }
+    ensures ended { (settings : SettingsView) (r : PutRequestOf) (x : TriedOf) (end : BodyEndOf) (k : Known) (stage : StageOf)
+        → FitsAt settings r x stage k → FitsAt settings (ended_request r end) x (ended_stage stage end) k }
 {}

@@ -1,4 +1,5 @@
-//! A PUT of an object: its body so far, stripe by stripe, and the task that makes its events.
+//! A PUT of an object: its body so far, stripe by stripe, the stages of its task, and how each answer brings
+//! it on. The task that takes turns by them is still to come.
 #![tactic(auto)]
 
 mod advancing;
@@ -10,27 +11,29 @@ mod keeping;
 mod laws;
 mod splitting;
 mod stage;
-mod task;
 mod trace;
 
+pub use advancing::{resumed, tried_after};
 pub use body::{Progress, PutBody};
 pub use changing::{
     a_put_may_go_on, answers_are_of_the_map, changes_keep_where_a_put_stands,
     completions_keep_where_a_put_stands, tags_keep_where_a_put_stands,
 };
+pub use closing::{Next, Standing, settled};
 pub use etag::has_other_etag;
 pub use keeping::{
-    others_keep_where_a_put_stands, puts_make_their_events_in_order,
-    reads_of_the_row_keep_where_a_put_stands, tails_keep_where_a_put_stands,
+    bodies_keep_where_a_put_stands, others_keep_where_a_put_stands,
+    puts_make_their_events_in_order, reads_of_the_row_keep_where_a_put_stands,
+    tails_keep_where_a_put_stands,
 };
 pub use laws::{
     a_body_in_tails_is_shown, a_body_is_its_parts, a_changed_head_is_the_answer,
     a_row_names_its_shard,
 };
+pub use splitting::split;
 pub use stage::{
     After, Change, Content, Draft, PutRequest, Rest, Split, Stage, Target, Tried, Unfinished,
 };
-pub use task::PutTask;
 pub use trace::Trace;
 
 #[cfg(test)]
