@@ -15,3 +15,5 @@ pub mod ChangingEnds
 pub mod ChangingHeads
 pub mod ChangingNeeds
 pub mod ChangingTags
+pub mod Tasking
+pub mod Turning

@@ -5,3 +5,4 @@ pub mod Stages
 pub mod Orders
 pub mod Fits
 pub mod Taking
+pub mod Tasks

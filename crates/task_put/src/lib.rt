@@ -11,6 +11,7 @@ mod keeping;
 mod laws;
 mod splitting;
 mod stage;
+mod task;
 mod trace;
 
 pub use advancing::{resumed, tried_after};
@@ -34,6 +35,7 @@ pub use splitting::split;
 pub use stage::{
     After, Change, Content, Draft, PutRequest, Rest, Split, Stage, Target, Tried, Unfinished,
 };
+pub use task::PutTask;
 pub use trace::Trace;
 
 #[cfg(test)]
