@@ -16,4 +16,4 @@ pub mod ChangingHeads
 pub mod ChangingNeeds
 pub mod ChangingTags
 pub mod Tasking
-pub mod Turning
+pub mod Stepping

@@ -13,6 +13,7 @@ mod splitting;
 mod stage;
 mod task;
 mod trace;
+mod turning;
 
 pub use advancing::{resumed, tried_after};
 pub use body::{Progress, PutBody};
@@ -37,6 +38,7 @@ pub use stage::{
 };
 pub use task::PutTask;
 pub use trace::Trace;
+pub use turning::steps_keep_where_a_put_stands;
 
 #[cfg(test)]
 mod tests;

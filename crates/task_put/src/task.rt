@@ -226,7 +226,7 @@ impl PutTask {
     }
 
     /// Makes one event.
-    #[tactic(auto, using(crate::proofs::Turning::fits_next, crate::proofs::Turning::may_step))]
+    #[tactic(auto, using(crate::proofs::Stepping::fits_next, crate::proofs::Stepping::may_step))]
     fn event<D: Door>(
         &mut self,
         alloc: Global,
@@ -304,7 +304,7 @@ impl Task for PutTask {
 
     ghost wants = { λ t. WantsBytes t.stage };
 
-    #[tactic(auto, using(crate::proofs::Turning::settled_task))]
+    #[tactic(auto, using(crate::proofs::Stepping::settled_task))]
     fn turn<D: Door>(
         &mut self,
         alloc: Global,
