@@ -111,11 +111,11 @@ fits_next settings d e t op moment a going sound op_is suits back shards f step 
     fits_of (at_stage t (resumed t.target x (rest_of t.stage) a.number a.reply a.back) x) settings e sound
     (record { target = target; known = subst (λ g. Fits settings r x g (known_at settings e)) (sym stage) known })
 
-pub may_step : (settings : SettingsView) (d : DoorView) (t : PutTask) (op : Op) → IsReady t.stage → t.fault ≡ None → op ≡ op_of t.target t.stage → fits t settings d → allowed settings (phase_of settings d.seen (actor_at d)) op ≡ true
-may_step settings d t op going sound op_is f =
+pub may_step : (settings : SettingsView) (d : DoorView) (t : PutTask) (next : Op) → IsReady t.stage → t.fault ≡ None → next ≡ op_of t.target t.stage → fits t settings d → allowed settings (phase_of settings d.seen (actor_at d)) next ≡ true
+may_step settings d t next going sound next_is f =
     let s = stands_of t settings d sound f in
     let r : PutRequest = request_of t in
-    subst (λ o. allowed settings (phase_of settings d.seen (actor_at d)) o ≡ true) (sym (op_is ∙ ap (λ g. op_of g t.stage) s.target))
+    subst (λ o. allowed settings (phase_of settings d.seen (actor_at d)) o ≡ true) (sym (next_is ∙ ap (λ g. op_of g t.stage) s.target))
     (may_come settings r t.tried (known_at settings d) t.stage s.known.low s.known.high going s.known.stands)
 
 pub settled_task : (settings : SettingsView) (d : DoorView) (t : PutTask) → fits t settings d → fits (at_stage t (settled t.stage) t.tried) settings d

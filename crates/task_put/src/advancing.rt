@@ -20,7 +20,7 @@ const MOST_MOVED: u32 = 16;
 const MOST_EXPIRED: u32 = 3;
 
 /// With one answer more.
-pub fn tried_after(tried: Tried, reply: &Reply) -> Tried
+pub(crate) fn tried_after(tried: Tried, reply: &Reply) -> Tried
     ensures { result ≡ tried_after tried reply.now }
 {
     let Tried { moved, expired } = tried;
@@ -38,7 +38,7 @@ pub fn tried_after(tried: Tried, reply: &Reply) -> Tried
 }
 
 /// The stage after an answer. The operation comes back where it was refused.
-pub fn resumed(target: &Target, tried: Tried, rest: Rest, answered: Answered) -> Stage
+pub(crate) fn resumed(target: &Target, tried: Tried, rest: Rest, answered: Answered) -> Stage
     ensures { result ≡ resumed target.now tried rest answered.number answered.reply answered.back }
 {
     match rest {

@@ -30,7 +30,7 @@ pub struct Standing {
 
 /// The stage, or the one that the end of the body brings it to, once no tail waits.
 #[tactic(auto, using(crate::proofs::Readying::ready_of))]
-pub fn settled(stage: Stage) -> Standing
+pub(crate) fn settled(stage: Stage) -> Standing
     ensures stage { result.stage ≡ settled stage }
     ensures ready { result.next ≡ nexts.Event → IsReady result.stage }
     ensures wants { result.next ≡ nexts.Wants → WantsBytes result.stage }

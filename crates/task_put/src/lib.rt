@@ -1,5 +1,5 @@
-//! A PUT of an object: its body so far, stripe by stripe, the stages of its task, and how each answer brings
-//! it on. The task that takes turns by them is still to come.
+//! A PUT of an object: its body, stripe by stripe, its stages, and the task that makes its events through a
+//! door.
 #![tactic(auto)]
 
 mod advancing;
@@ -15,13 +15,12 @@ mod task;
 mod trace;
 mod turning;
 
-pub use advancing::{resumed, tried_after};
 pub use body::{Progress, PutBody};
 pub use changing::{
     a_put_may_go_on, answers_are_of_the_map, changes_keep_where_a_put_stands,
     completions_keep_where_a_put_stands, tags_keep_where_a_put_stands,
 };
-pub use closing::{Next, Standing, settled};
+pub use closing::Next;
 pub use etag::has_other_etag;
 pub use keeping::{
     bodies_keep_where_a_put_stands, others_keep_where_a_put_stands,
@@ -32,7 +31,6 @@ pub use laws::{
     a_body_in_tails_is_shown, a_body_is_its_parts, a_changed_head_is_the_answer,
     a_row_names_its_shard,
 };
-pub use splitting::split;
 pub use stage::{
     After, Change, Content, Draft, PutRequest, Rest, Split, Stage, Target, Tried, Unfinished,
 };

@@ -11,7 +11,7 @@ use realm_model::Op;
 use std::alloc::{AllocError, Global};
 
 /// The operation that comes next, and what is kept while it is done.
-pub fn split(alloc: Global, target: &Target, stage: Stage) -> Result<Split, AllocError>
+pub(crate) fn split(alloc: Global, target: &Target, stage: Stage) -> Result<Split, AllocError>
     requires ready { IsReady stage }
     ensures op { IfOk result (λ s. s.op ≡ op_of target.now stage) }
     ensures rest { IfOk result (λ s. s.rest ≡ rest_of stage) }
