@@ -4,7 +4,7 @@ use Rattle.std.specs.Int.{div_ceil}
 use Rattle.std.specs.List.{concat, range_with_len}
 use Rattle.std.proofs.lemmas.List.{take_all, drop-drop, length-take, length-drop}
 use Rattle.std.proofs.Math.Seq.{take-add}
-use Rattle.std.proofs.Math.Nat.{lt_of_mul-lt-mul_left}
+use Rattle.std.proofs.Math.Nat.{lt_of_mul-lt-mul_left, mul-le-mul_right}
 use Rattle.std.proofs.lemmas.Grind.{div_ceil_times}
 use Rattle.rgw_types.specs.Stripes.{ManifestView, tails_of}
 use Rattle.manifest.specs.Ranges.{part_size, part_numbers, AreContents}
@@ -68,3 +68,10 @@ tails_counted s t n low enough needed =
     many_of s t n c low (inr some) high =
         let more : s * t < s * (c + 1) = omega (arith, some, high) in
         lt_of_mul-lt-mul_left s more
+
+-- the tail of this number is one that an object may have
+pub part_within : (s t : ℕ) (bytes : List ℕ) → 16 ≤ s → 1 ≤ length (drop (s * (t + 1)) bytes) → length bytes ≤ 5368709120 → t + 1 ≤ 335544319
+part_within s t bytes low some high =
+    let least : 16 * (t + 1) ≤ s * (t + 1) = mul-le-mul_right (t + 1) low in
+    let dropped = length-drop (s * (t + 1)) bytes in
+    omega (arith, least, dropped, some, high)

@@ -28,13 +28,17 @@ found_any test name (e ∷ es) read found passes =
 both_true : (a b : Bool) → a ≡ true → b ≡ true → (a && b) ≡ true
 both_true a b one two = rw one two
 
-later : (n : ℕ) → 0 < n → nat_lt 0 n ≡ true
-later n some = grind (arith, nat_tests)
+later : (since n : ℕ) → since < n → nat_lt since n ≡ true
+later since n more = grind (arith, nat_tests)
 
-pub row_names : (rows : Named RowRead) (container name : List ℕ) (read : RowRead) (row : Bucket) → at rows container ≡ Some read → read.row ≡ Some row → 0 < read.at → has_read rows 0 (names_shard (shard_key row.id row.instance (shard_of name row.shards)) name) ≡ true
+-- a read after the event of this number
+pub row_names_since : (rows : Named RowRead) (container name : List ℕ) (read : RowRead) (row : Bucket) (since : ℕ) → at rows container ≡ Some read → read.row ≡ Some row → since < read.at → has_read rows since (names_shard (shard_key row.id row.instance (shard_of name row.shards)) name) ≡ true
 unfolding at entries
-row_names rows container name read row found showed some =
+row_names_since rows container name read row since found showed more =
     let key = shard_key row.id row.instance (shard_of name row.shards) in
     let shown : is_so read.row (names_shard key name) ≡ true = ap (λ o. is_so o (names_shard key name)) showed ∙ key_itself key in
-    found_any (λ r. nat_lt 0 r.at && is_so r.row (names_shard key name)) container rows.list read found
-    (both_true (nat_lt 0 read.at) (is_so read.row (names_shard key name)) (later read.at some) shown)
+    found_any (λ r. nat_lt since r.at && is_so r.row (names_shard key name)) container rows.list read found
+    (both_true (nat_lt since read.at) (is_so read.row (names_shard key name)) (later since read.at more) shown)
+
+pub row_names : (rows : Named RowRead) (container name : List ℕ) (read : RowRead) (row : Bucket) → at rows container ≡ Some read → read.row ≡ Some row → 0 < read.at → has_read rows 0 (names_shard (shard_key row.id row.instance (shard_of name row.shards)) name) ≡ true
+row_names rows container name read row found showed some = row_names_since rows container name read row 0 found showed some

@@ -1,0 +1,34 @@
+// Bytes that only contracts see.
+ghost use Rattle.std.specs.Prelude.{◌≡◌, ℕ, List, [], ◌++◌};
+ghost use Rattle.std.specs.Borrow.{ftrue};
+
+use std::marker::Model;
+
+/// Bytes in the order in which they came. It takes no memory, and its calls do nothing when the program
+/// runs. A clause reads them as `numbers`.
+#[derive(Drop)]
+pub struct Trace {
+    pub ghost numbers: { List ℕ },
+}
+
+impl Model for Trace {
+    ghost also_owns = { λ _. ftrue };
+}
+
+// It owns nothing.
+unsafe impl Send for Trace {}
+
+impl Trace {
+    pub(crate) fn new() -> Trace
+        ensures { result.numbers ≡ [] }
+    {
+        Trace {}
+    }
+
+    /// With these bytes at the end.
+    pub(crate) fn with_bytes(&self, _bytes: &[u8]) -> Trace
+        ensures { result.numbers ≡ self.now.numbers ++ _bytes.now }
+    {
+        Trace {}
+    }
+}
