@@ -1,6 +1,5 @@
 -- A step through a door brings a PUT on.
-use Rattle.std.proofs.Common.{◌≡◌, ℕ, ◌<◌, ◌≤◌, true, List, [], ◌∷◌, ◌++◌, Option, Some, None, refl, sym, ◌∙◌, ap, subst}
-use Rattle.turn_cell.specs.declared.machine.DoorFault.{DoorFault}
+use Rattle.std.proofs.Common.{◌≡◌, ℕ, ◌≤◌, true, [], ◌∷◌, ◌++◌, None, sym, ◌∙◌, ap, subst}
 use Rattle.realm_model.specs.Settings.{SettingsView}
 use Rattle.realm_model.specs.Allowed.{allowed}
 use Rattle.realm_model.specs.Doors.{DoorView, actor_at}
@@ -14,14 +13,13 @@ use Rattle.realm_door.specs.declared.door.Answered.{Answered}
 use Rattle.realm_door.specs.Steps.{Extends, event_at, back_of}
 use Rattle.task_words.specs.declared.outcome.Outcome.{Outcome}
 use Rattle.task_put.specs.declared.stage.PutRequest.{PutRequest}
-use Rattle.task_put.specs.declared.stage.Target.{Target}
 use Rattle.task_put.specs.declared.stage.Tried.{Tried}
 use Rattle.task_put.specs.declared.stage.Stage.{Stage}
 use Rattle.task_put.specs.declared.stage.Stage.TheVariants.{Looking, Feeding, LookingAgain, Preparing, Announcing, Writing, Cancelling, Completing, LookingForShard, Ended}
 use Rattle.task_put.specs.declared.task.PutTask.{PutTask}
-use Rattle.task_put.specs.Orders.{path_of, path_after}
+use Rattle.task_put.specs.Orders.{path_of}
 use Rattle.task_put.specs.Stages.{IsReady, op_of, rest_of, settled, tried_after, resumed, step_of}
-use Rattle.task_put.specs.Fits.{target_of, Known, known_at, known_next, FitsAt, IsAt, Fits, HasShards, IsAnswer, MayCome, IsKept}
+use Rattle.task_put.specs.Fits.{target_of, Known, known_at, FitsAt, IsAt, Fits, HasShards, IsAnswer, MayCome, IsKept}
 use Rattle.task_put.specs.Tasks.{request_of, at_stage, UnlessFaulted, Stands, fits, IsPutEnd}
 use Rattle.task_put.proofs.Counting.{path_more}
 use Rattle.task_put.proofs.Ordering.{in_order, settled_in_order}

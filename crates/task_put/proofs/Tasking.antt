@@ -1,5 +1,5 @@
 -- The task of a PUT that takes bytes.
-use Rattle.std.proofs.Common.{◌≡◌, ℕ, ◌-◌, ◌⊎◌, inl, inr, min, List, [], length, take, Option, Some, None, refl, sym, ◌∙◌, ap, subst, arith}
+use Rattle.std.proofs.Common.{◌≡◌, ℕ, ◌⊎◌, inl, inr, min, List, [], take, Option, Some, None, refl, ap, subst, arith}
 use Rattle.turn_cell.specs.declared.machine.DoorFault.{DoorFault}
 use Rattle.realm_model.specs.Settings.{SettingsView}
 use Rattle.realm_model.specs.Doors.{DoorView}

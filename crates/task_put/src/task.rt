@@ -227,12 +227,7 @@ impl PutTask {
 
     /// Makes one event.
     #[tactic(auto, using(crate::proofs::Stepping::fits_next, crate::proofs::Stepping::may_step))]
-    fn event<D: Door>(
-        &mut self,
-        alloc: Global,
-        door: &mut D,
-        moment: u64,
-    ) -> Result<(), DoorFault>
+    fn event<D: Door>(&mut self, alloc: Global, door: &mut D, moment: u64) -> Result<(), DoorFault>
         requires ready { IsReady self.old.stage }
         requires sound { self.old.fault ≡ None }
         requires fits { D.tells →

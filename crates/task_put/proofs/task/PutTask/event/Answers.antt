@@ -1,4 +1,4 @@
-use Rattle.std.proofs.Common.{rules, ◌≡◌, ◌≤◌, ◌<◌, ◌^◌, refl, sym, ◌∙◌, ap, subst}
+use Rattle.std.proofs.Common.{◌≡◌, ◌≤◌, ◌<◌, ◌^◌, refl, sym, ◌∙◌, ap, subst}
 use Rattle.realm_model.specs.Histories.{Legal}
 use Rattle.task_words.specs.declared.outcome.Outcome.TheVariants.{MovedOften}
 use Rattle.task_put.specs.declared.stage.Stage.TheVariants.{Ended}
@@ -23,7 +23,7 @@ returns-in-Ok-step g c =
       kept = λ tells. (
         (made tells).legal,
         subst (λ u. fits u (g.D.Door.settings c.args.door.now) (g.D.Door.told c.step.new.self)) (sym now_is)
-        (fits_next (g.D.Door.settings c.args.door.now) (g.D.Door.told c.args.door.now) (g.D.Door.told c.step.new.self) t c.in-Ok.field-0.op c.args.moment a c.requires.ready c.requires.sound op_is c.in-Ok-step.ensures.suits c.in-Ok-step.ensures.back c.take.ensures.sound (c.requires.fits tells).1 (made tells)),
+            (fits_next (g.D.Door.settings c.args.door.now) (g.D.Door.told c.args.door.now) (g.D.Door.told c.step.new.self) t c.in-Ok.field-0.op c.args.moment a c.requires.ready c.requires.sound op_is c.in-Ok-step.ensures.suits c.in-Ok-step.ensures.back c.take.ensures.sound (c.requires.fits tells).1 (made tells)),
       );
       made = λ tells. record { op = c.in-Ok.field-0.op; answered = a; extends = made tells };
       counts = (subst (λ k. g.D.Door.last c.args.door.now < k) (sym n.2) n.0, subst (λ k. k ≤ 2 ^ 62) (sym n.2) n.1);
