@@ -66,13 +66,13 @@ module _ (settings : SettingsView) (r : PutRequest) (x : Tried) (k : Known) (low
 
   pub may_prepare : (key : Key) (content : Content) → FitsAt settings r x (Preparing key content) k → MayCome settings r (Preparing key content) k
   may_prepare key content fits =
-      let row = (fits.1).row in
-      let read : RowRead = record { row = Some row; at = (fits.1).number } in
+      let bucket = (fits.1).row in
+      let read : RowRead = record { row = Some bucket; at = (fits.1).number } in
       let later = (fits.1).later in
       let some : 0 < (fits.1).number = omega (arith, later) in
       let named : has_read (k.phase.rows r.zone) 0 (names_shard key r.command.name) ≡ true =
       ap (λ q. has_read (k.phase.rows r.zone) 0 (names_shard q r.command.name)) (fits.1).names
-      ∙ row_names_since (k.phase.rows r.zone) r.command.container r.command.name read row 0 (fits.1).read refl some in
+      ∙ row_names_since (k.phase.rows r.zone) r.command.container r.command.name read bucket 0 (fits.1).read refl some in
       in_realm settings k.phase (op_of (target_of r) (Preparing key content)) low high
       (both (has_no_tag k.phase.tag) (has_read (k.phase.rows r.zone) 0 (names_shard key r.command.name)) (free k.phase.tag fits.3) named)
 
