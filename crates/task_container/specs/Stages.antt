@@ -1,5 +1,6 @@
 -- Where a task of a container stands, and how an answer brings it on.
 use Rattle.std.specs.Prelude.{◌≡◌, ℕ, ◌+◌, ◌-◌, ◌^◌, ◌<◌, ◌≤◌, nat_lt, min, List, length, Option, Some, None, if◌then◌else◌}
+use Rattle.turn_cell.specs.declared.machine.DoorFault.{DoorFault}
 use Rattle.object_words.specs.declared.bucket.Bucket.{Bucket}
 use Rattle.object_words.specs.declared.shard.ShardStats.{ShardStats}
 use Rattle.object_words.specs.Numbers.{greatest}
@@ -134,6 +135,10 @@ abbrev pub fits : ContainerTask → SettingsView → DoorView → Type 0
 fits t settings d =
     (1 ≤ t.request.zone) × (t.request.zone ≤ settings.zones)
     × FitsAt t.request t.stage t.moved (account_of settings d.seen (actor_at d)) (own_events d.seen (actor_at d)) (length d.seen)
+
+-- the fault with which a step stopped
+abbrev pub fault_of : ContainerTask → Option DoorFault
+fault_of t = t.fault
 
 -- what the task is asked
 abbrev pub request_of : ContainerTask → ContainerRequest

@@ -1,7 +1,7 @@
 ghost use Rattle.std.specs.Prelude.{◌≡◌, ◌≤◌, IfOk, None};
 ghost use Rattle.realm_model.specs.Settings.{SettingsView};
 ghost use Rattle.realm_model.specs.Doors.{DoorView, actor_at};
-ghost use Rattle.task_container.specs.Stages.{IsOpen, op_of, step_of, row_shown, header_shown, header_step, after_look, after_header, after_left, request_of, fits};
+ghost use Rattle.task_container.specs.Stages.{IsOpen, op_of, step_of, row_shown, header_shown, header_step, after_look, after_header, after_left, request_of, fault_of, fits};
 ghost use Rattle.realm_model.specs.Accounts.{blank};
 ghost use Rattle.realm_model.specs.Histories.{account_of};
 
@@ -46,6 +46,7 @@ impl ContainerTask {
         ensures request { request_of result ≡ request }
         ensures fits { (settings : SettingsView) (d : DoorView) → 1 ≤ request.zone → request.zone ≤ settings.zones
             → account_of settings d.seen (actor_at d) ≡ blank → fits result settings d }
+        ensures sound { fault_of result ≡ None }
     {
         ContainerTask {
             request,

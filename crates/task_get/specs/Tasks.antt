@@ -1,5 +1,6 @@
 -- What a task of a GET shows to its callers.
 use Rattle.std.specs.Prelude.{◌≡◌, ℕ, ◌≤◌, List, length, Option, Some, None}
+use Rattle.turn_cell.specs.declared.machine.DoorFault.{DoorFault}
 use Rattle.realm_model.specs.Settings.{SettingsView}
 use Rattle.realm_model.specs.Phases.{Phase}
 use Rattle.realm_model.specs.Accounts.{Account}
@@ -31,6 +32,10 @@ events_at d = own_events d.seen (actor_at d)
 -- what the task is asked
 abbrev pub request_of : GetTask → GetRequest
 request_of t = t.request
+
+-- the fault with which a step stopped
+abbrev pub fault_of : GetTask → Option DoorFault
+fault_of t = t.fault
 
 -- the bytes of its last piece
 abbrev pub bytes_of : GetTask → List ℕ

@@ -1,4 +1,4 @@
-ghost use Rattle.std.specs.Prelude.{◌≡◌, ◌≤◌, [], IfOk, true, false, length, option_copied};
+ghost use Rattle.std.specs.Prelude.{◌≡◌, ◌≤◌, [], IfOk, true, false, length, None, option_copied};
 ghost use Rattle.realm_model.specs.Settings.{SettingsView};
 ghost use Rattle.realm_model.specs.Accounts.{blank};
 ghost use Rattle.realm_model.specs.Histories.{account_of};
@@ -8,7 +8,7 @@ ghost use Rattle.realm_model.specs.Suits.{Suits};
 ghost use Rattle.task_get.specs.Pieces.{piece_bytes};
 ghost use Rattle.realm_door.specs.declared.task.TaskTurn.TheVariants.{More, Gives};
 ghost use Rattle.task_get.specs.Stages.{IsOver, IsOpen, op_of, step_of};
-ghost use Rattle.task_get.specs.Tasks.{request_of, bytes_of, shown_in, shown_of, Fits};
+ghost use Rattle.task_get.specs.Tasks.{request_of, fault_of, bytes_of, shown_in, shown_of, Fits};
 
 use crate::piece;
 use crate::piece::Piece;
@@ -40,6 +40,7 @@ impl GetTask {
         ensures fits { (settings : SettingsView) (d : DoorView) → 1 ≤ request.zone → request.zone ≤ settings.zones
             → account_of settings d.seen (actor_at d) ≡ blank → own_events d.seen (actor_at d) ≡ []
             → Fits result settings d }
+        ensures sound { fault_of result ≡ None }
     {
         GetTask {
             request,

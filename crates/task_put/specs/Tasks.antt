@@ -21,6 +21,10 @@ use Rattle.task_put.specs.declared.task.PutTask.{PutTask}
 abbrev pub request_of : PutTask → PutRequest
 request_of t = record { zone = t.target.zone; asker = t.target.asker; command = t.sent.value; bytes = t.came.numbers; end = t.end }
 
+-- the fault with which a step stopped
+abbrev pub fault_of : PutTask → Option DoorFault
+fault_of t = t.fault
+
 -- the task at another stage
 abbrev pub at_stage : PutTask → Stage → Tried → PutTask
 at_stage t stage x = record { target = t.target; stage = stage; tried = x; end = t.end; fault = t.fault; sent = t.sent; came = t.came }

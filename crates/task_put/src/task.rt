@@ -8,7 +8,7 @@ ghost use Rattle.realm_model.specs.Accounts.{blank};
 ghost use Rattle.realm_model.specs.Owns.{own_events};
 ghost use Rattle.task_put.specs.Bodies.{first_end};
 ghost use Rattle.task_put.specs.Taking.{room_at};
-ghost use Rattle.task_put.specs.Tasks.{request_of, fed, body_ended, fits};
+ghost use Rattle.task_put.specs.Tasks.{request_of, fault_of, fed, body_ended, fits};
 ghost use Rattle.task_put.specs.Fits.{HasShards};
 
 use crate::advancing::{resumed, tried_after};
@@ -56,6 +56,7 @@ impl PutTask {
             → phase_of settings.now d.seen (actor_at d) ≡ fresh
             → own_events d.seen (actor_at d) ≡ []
             → fits t settings.now d) }
+        ensures sound { IfOk result (λ t. fault_of t ≡ None) }
     {
         let sent = Snapshot::of(&put);
         let PutCommand {
