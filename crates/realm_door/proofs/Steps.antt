@@ -20,7 +20,7 @@ use Rattle.realm_model.proofs.Doing.{doings-next}
 use Rattle.realm_model.proofs.Minding.{mine-next}
 use Rattle.realm_door.specs.declared.door.Answered.{Answered}
 use Rattle.realm_door.specs.Steps.{doings_at, actor_of_pass, next_count, IsCounted, begun, event_at, Shows, view_after, own_event, IsSame, IsLater, Grows, Extends}
-use Rattle.realm_door.specs.Turns.{Turned}
+use Rattle.realm_door.specs.Turns.{IsOneMore, Turned}
 use Rattle.realm_door.specs.declared.task.TaskTurn.{TaskTurn}
 use Rattle.realm_door.specs.declared.task.TaskTurn.TheVariants.{More, Wants, Gives, Done}
 use Rattle.realm_door.proofs.Others.{same_both, same_other_pass, same_other_count, events-next}
@@ -176,3 +176,11 @@ pub grows_by_turn : (settings now : SettingsView) (turn : TaskTurn) (moment : �
 grows_by_turn settings now turn moment d e f same grown turned =
     let last : Turned settings turn moment e f = subst (λ s. Turned s turn moment e f) same turned in
     grows_both settings d e f grown (turned_grows settings turn moment e f last)
+
+-- ---- one event more
+
+pub one_more : (d e : DoorView) (event : Event) → e.seen ≡ d.seen ++ event ∷ [] → IsOneMore d e
+one_more d e event grown = omega (arith, ap length grown ∙ length-append d.seen (event ∷ []))
+
+pub none_more : (d e : DoorView) → e ≡ d → IsOneMore d e
+none_more d e same = omega (arith, ap (λ (x : DoorView). length x.seen) same)

@@ -21,6 +21,17 @@ Turned settings Gives moment d e = MakesEvent settings moment d e
 Turned settings Wants moment d e = e ≡ d
 Turned settings Done moment d e = e ≡ d
 
+-- at most one event came, of whomever
+abbrev pub IsOneMore : DoorView → DoorView → Type 0
+IsOneMore d e = length e.seen ≤ length d.seen + 1
+
+-- the turn makes an event
+abbrev pub IsActing : TaskTurn → Type 0
+IsActing More = Unit {0}
+IsActing Gives = Unit {0}
+IsActing Wants = ⊥
+IsActing Done = ⊥
+
 -- a turn that makes an event has a greater number than any event before
 abbrev pub Counts : TaskTurn → ℕ → ℕ → Type 0
 Counts More last next = (last < next) × (next ≤ 2 ^ 62)

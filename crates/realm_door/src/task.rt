@@ -25,7 +25,7 @@ pub trait Task {
     ghost use Rattle.realm_model.specs.Settings.{SettingsView};
     ghost use Rattle.realm_model.specs.Histories.{Legal};
     ghost use Rattle.realm_model.specs.Doors.{DoorView};
-    ghost use Rattle.realm_door.specs.Turns.{Turned, Counts, Given};
+    ghost use Rattle.realm_door.specs.Turns.{Turned, Counts, Given, IsOneMore};
     ghost use Rattle.realm_door.specs.declared.task.TaskTurn.TheVariants.{Wants, Done};
 
     /// What is asked. No value of it is made.
@@ -75,6 +75,7 @@ pub trait Task {
             × fits self.new (D.settings door.old) (D.told door.new) }
         ensures turned { IfOk result (λ turn.
             D.tells → Turned (D.settings door.old) turn moment (D.told door.old) (D.told door.new)) }
+        ensures alone { IfOk result (λ turn. D.tells → D.alone → IsOneMore (D.told door.old) (D.told door.new)) }
         ensures counts { IfOk result (λ turn. Counts turn (D.last door.old) (D.last door.new)) }
         ensures given { IfOk result (λ turn. Given turn (given self.old) (piece self.new) (given self.new)) }
         ensures wants { IfOk result (λ turn. turn ≡ Wants → wants self.new) }

@@ -33,6 +33,10 @@ events_at d = own_events d.seen (actor_at d)
 abbrev pub request_of : GetTask → GetRequest
 request_of t = t.request
 
+-- where it stands
+abbrev pub stage_of : GetTask → Stage
+stage_of t = t.stage
+
 -- the fault with which a step stopped
 abbrev pub fault_of : GetTask → Option DoorFault
 fault_of t = t.fault

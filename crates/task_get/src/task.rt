@@ -1,4 +1,4 @@
-ghost use Rattle.std.specs.Prelude.{◌≡◌, ◌≤◌, [], IfOk, true, false, length, None, option_copied};
+ghost use Rattle.std.specs.Prelude.{◌≡◌, ◌≤◌, ◌^◌, [], IfOk, IfErr, OnOk, OnErr, true, false, length, Some, None, option_copied};
 ghost use Rattle.realm_model.specs.Settings.{SettingsView};
 ghost use Rattle.realm_model.specs.Accounts.{blank};
 ghost use Rattle.realm_model.specs.Histories.{account_of};
@@ -6,9 +6,12 @@ ghost use Rattle.realm_model.specs.Owns.{own_events};
 ghost use Rattle.realm_model.specs.Doors.{DoorView, actor_at};
 ghost use Rattle.realm_model.specs.Suits.{Suits};
 ghost use Rattle.task_get.specs.Pieces.{piece_bytes};
+ghost use Rattle.turn_cell.specs.declared.machine.DoorFault.TheVariants.{Worn};
+ghost use Rattle.realm_model.specs.Histories.{Legal};
 ghost use Rattle.realm_door.specs.declared.task.TaskTurn.TheVariants.{More, Gives};
+ghost use Rattle.realm_door.specs.Turns.{Turned, IsActing, IsOneMore, Counts, Given};
 ghost use Rattle.task_get.specs.Stages.{IsOver, IsOpen, op_of, step_of};
-ghost use Rattle.task_get.specs.Tasks.{request_of, fault_of, bytes_of, shown_in, shown_of, Fits};
+ghost use Rattle.task_get.specs.Tasks.{request_of, stage_of, fault_of, bytes_of, given_of, shown_in, shown_of, Fits};
 
 use crate::piece;
 use crate::piece::Piece;
@@ -110,6 +113,52 @@ impl GetTask {
         self.stage = stage;
         self.piece = piece;
     }
+
+    /// Makes the event that comes next.
+    #[tactic(auto, using(crate::proofs::Turning::fits_next, crate::proofs::Turning::may_step))]
+    pub fn event<D: Door>(
+        &mut self,
+        alloc: Global,
+        door: &mut D,
+        moment: u64,
+    ) -> Result<TaskTurn, DoorFault>
+        requires ready { IsOpen (stage_of self.old) }
+        requires sound { fault_of self.old ≡ None }
+        requires fits { D.tells →
+            Legal (D.settings door.old) (D.told door.old).seen
+            × Fits self.old (D.settings door.old) (D.told door.old) }
+        ensures kept { D.tells →
+            Legal (D.settings door.old) (D.told door.new).seen
+            × Fits self.new (D.settings door.old) (D.told door.new) }
+        ensures turned { IfOk result (λ turn.
+            D.tells → Turned (D.settings door.old) turn moment (D.told door.old) (D.told door.new)) }
+        ensures acts { IfOk result IsActing }
+        ensures alone { IfOk result (λ turn. D.tells → D.alone → IsOneMore (D.told door.old) (D.told door.new)) }
+        ensures counts { IfOk result (λ turn. Counts turn (D.last door.old) (D.last door.new)) }
+        ensures given { IfOk result (λ turn. Given turn (given_of self.old) (bytes_of self.new) (given_of self.new)) }
+        ensures request { request_of self.new ≡ request_of self.old }
+        ensures stopped { OnErr result ((D.tells → D.told door.new ≡ D.told door.old) × (D.last door.new ≡ D.last door.old)) }
+        ensures sound { OnOk result (fault_of self.new ≡ None) }
+        ensures faulted { IfErr result (λ f. fault_of self.new ≡ Some f) }
+        ensures worn { IfErr result (λ f. D.tells → f ≡ Worn → length (D.found door.new) ≡ 2 ^ 62) }
+        ensures settings { D.settings door.new ≡ D.settings door.old }
+        ensures home { D.home door.new ≡ D.home door.old }
+    {
+        let Ok(op) = self.next_op() else {
+            self.fault = Some(DoorFault::OutOfMemory);
+            return Err(DoorFault::OutOfMemory);
+        };
+        match door.step(alloc, op, moment) {
+            Ok(answered) => {
+                self.take(answered.reply, answered.clock);
+                Ok(turn_giving(self.piece()))
+            }
+            Err(stopped) => {
+                self.fault = Some(stopped.fault);
+                Err(stopped.fault)
+            }
+        }
+    }
 }
 
 /// The reply of an outcome, where it shows bytes.
@@ -170,6 +219,7 @@ impl Task for GetTask {
 
     ghost wants = { λ t. ⊥ };
 
+    #[tactic(auto, using(crate::proofs::Turning::not_over))]
     fn turn<D: Door>(
         &mut self,
         alloc: Global,
@@ -182,20 +232,7 @@ impl Task for GetTask {
         if is_over(&self.stage) {
             return Ok(TaskTurn::Done);
         }
-        let Ok(op) = self.next_op() else {
-            self.fault = Some(DoorFault::OutOfMemory);
-            return Err(DoorFault::OutOfMemory);
-        };
-        match door.step(alloc, op, moment) {
-            Ok(answered) => {
-                self.take(answered.reply, answered.clock);
-                Ok(turn_giving(self.piece()))
-            }
-            Err(stopped) => {
-                self.fault = Some(stopped.fault);
-                Err(stopped.fault)
-            }
-        }
+        self.event(alloc, door, moment)
     }
 
     fn outcome(&self) -> Option<&Outcome> {

@@ -11,6 +11,7 @@ use Rattle.task_words.specs.declared.command.BodyEnd.{BodyEnd}
 use Rattle.task_put.specs.Bodies.{first_end}
 use Rattle.task_put.specs.Taking.{fed_stage, ended_stage}
 use Rattle.task_put.specs.Orders.{path_of, IsOrdered}
+use Rattle.task_put.specs.Stages.{settled}
 use Rattle.task_put.specs.Fits.{target_of, body_of, known_at, Fits}
 use Rattle.task_put.specs.declared.stage.PutRequest.{PutRequest}
 use Rattle.task_put.specs.declared.stage.Stage.{Stage}
@@ -21,6 +22,10 @@ use Rattle.task_put.specs.declared.task.PutTask.{PutTask}
 abbrev pub request_of : PutTask → PutRequest
 request_of t = record { zone = t.target.zone; asker = t.target.asker; command = t.sent.value; bytes = t.came.numbers; end = t.end }
 
+-- where it stands
+abbrev pub stage_of : PutTask → Stage
+stage_of t = t.stage
+
 -- the fault with which a step stopped
 abbrev pub fault_of : PutTask → Option DoorFault
 fault_of t = t.fault
@@ -28,6 +33,10 @@ fault_of t = t.fault
 -- the task at another stage
 abbrev pub at_stage : PutTask → Stage → Tried → PutTask
 at_stage t stage x = record { target = t.target; stage = stage; tried = x; end = t.end; fault = t.fault; sent = t.sent; came = t.came }
+
+-- the task, where the end of its body has decided if that was next
+abbrev pub decided : PutTask → PutTask
+decided t = at_stage t (settled t.stage) t.tried
 
 -- the task, whose body took more bytes
 abbrev pub fed : PutTask → List ℕ → PutTask

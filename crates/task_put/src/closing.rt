@@ -13,11 +13,13 @@ use crate::stage::{Content, Draft, Stage};
 use object_words::{NewHead, ShardKey};
 use task_words::{BodyEnd, MapReply, Outcome, Refusal};
 
-/// What comes next.
+/// What a PUT does next.
 #[derive(Clone, Copy, Debug, PartialEq, Eq)]
 pub enum Next {
     Event,
+    /// More bytes are wanted.
     Wants,
+    /// The outcome is there.
     Done,
 }
 

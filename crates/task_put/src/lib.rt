@@ -37,6 +37,3 @@ pub use stage::{
 pub use task::PutTask;
 pub use trace::Trace;
 pub use turning::steps_keep_where_a_put_stands;
-
-#[cfg(test)]
-mod tests;

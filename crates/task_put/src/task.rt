@@ -175,12 +175,12 @@ fn default_kind(alloc: Global) -> Result<MediaType, AllocError>
 }
 
 impl PutTask {
-    ghost use Rattle.std.specs.Prelude.{◌≡◌, ◌<◌, ◌≤◌, ◌^◌, length, Some, None, IfOk, IfErr, OnErr, true};
+    ghost use Rattle.std.specs.Prelude.{◌≡◌, ◌<◌, ◌≤◌, ◌^◌, length, Some, None, IfOk, IfErr, OnOk, OnErr, true};
     ghost use Rattle.object_words.specs.declared.bucket.Bucket.{Bucket};
     ghost use Rattle.realm_model.specs.Histories.{Legal};
     ghost use Rattle.realm_model.specs.Suits.{Suits};
     ghost use Rattle.realm_door.specs.Steps.{back_of};
-    ghost use Rattle.realm_door.specs.Turns.{MakesEvent};
+    ghost use Rattle.realm_door.specs.Turns.{MakesEvent, IsOneMore};
     ghost use Rattle.turn_cell.specs.declared.machine.DoorFault.TheVariants.{Worn};
     ghost use Rattle.task_words.specs.declared.outcome.Outcome.TheVariants.{MovedOften};
     ghost use Rattle.task_put.specs.declared.closing.Next.TheVariants as nexts;
@@ -188,14 +188,15 @@ impl PutTask {
     ghost use Rattle.task_put.specs.Stages.{IsOver, IsReady, op_of, rest_of, settled, tried_after, resumed};
     ghost use Rattle.task_put.specs.Taking.{WantsBytes};
     ghost use Rattle.task_put.specs.Fits.{HasShards};
-    ghost use Rattle.task_put.specs.Tasks.{request_of, fits, at_stage};
+    ghost use Rattle.task_put.specs.Tasks.{request_of, stage_of, fault_of, fits, at_stage, decided};
 
-    /// Lets the body's end decide, once no tail waits, and says what comes next.
-    fn settle(&mut self) -> Next
-        ensures task { self.new ≡ at_stage self.old (settled self.old.stage) self.old.tried }
-        ensures ready { result ≡ nexts.Event → IsReady self.new.stage }
-        ensures wants { result ≡ nexts.Wants → WantsBytes self.new.stage }
-        ensures done { result ≡ nexts.Done → IsOver self.new.stage }
+    /// Lets the body's end decide, once no tail waits, and says what comes next. It makes no event, so that a
+    /// caller may ask its clock only where one comes.
+    pub fn settle(&mut self) -> Next
+        ensures task { self.new ≡ decided self.old }
+        ensures ready { result ≡ nexts.Event → IsReady (stage_of self.new) }
+        ensures wants { result ≡ nexts.Wants → WantsBytes (stage_of self.new) }
+        ensures done { result ≡ nexts.Done → IsOver (stage_of self.new) }
     {
         let stage = replace(&mut self.stage, Stage::Ended(Outcome::MovedOften));
         let Standing { stage, next } = settled(stage);
@@ -226,11 +227,16 @@ impl PutTask {
         self.stage = resumed(&self.target, self.tried, rest, answered);
     }
 
-    /// Makes one event.
+    /// Makes the event that comes next.
     #[tactic(auto, using(crate::proofs::Stepping::fits_next, crate::proofs::Stepping::may_step))]
-    fn event<D: Door>(&mut self, alloc: Global, door: &mut D, moment: u64) -> Result<(), DoorFault>
-        requires ready { IsReady self.old.stage }
-        requires sound { self.old.fault ≡ None }
+    pub fn event<D: Door>(
+        &mut self,
+        alloc: Global,
+        door: &mut D,
+        moment: u64,
+    ) -> Result<(), DoorFault>
+        requires ready { IsReady (stage_of self.old) }
+        requires sound { fault_of self.old ≡ None }
         requires fits { D.tells →
             Legal (D.settings door.old) (D.told door.old).seen
             × fits self.old (D.settings door.old) (D.told door.old) }
@@ -239,11 +245,13 @@ impl PutTask {
             × fits self.new (D.settings door.old) (D.told door.new) }
         ensures made { IfOk result (λ made.
             D.tells → MakesEvent (D.settings door.old) moment (D.told door.old) (D.told door.new)) }
+        ensures alone { IfOk result (λ made. D.tells → D.alone → IsOneMore (D.told door.old) (D.told door.new)) }
         ensures counts { IfOk result (λ made.
             (D.last door.old < D.last door.new) × (D.last door.new ≤ 2 ^ 62)) }
         ensures command { request_of self.new ≡ request_of self.old }
         ensures stopped { OnErr result ((D.tells → D.told door.new ≡ D.told door.old) × (D.last door.new ≡ D.last door.old)) }
-        ensures faulted { IfErr result (λ f. self.new.fault ≡ Some f) }
+        ensures sound { OnOk result (fault_of self.new ≡ None) }
+        ensures faulted { IfErr result (λ f. fault_of self.new ≡ Some f) }
         ensures worn { IfErr result (λ f. D.tells → f ≡ Worn → length (D.found door.new) ≡ 2 ^ 62) }
         ensures settings { D.settings door.new ≡ D.settings door.old }
         ensures home { D.home door.new ≡ D.home door.old }

@@ -4,7 +4,9 @@ use Rattle.task_words.specs.declared.outcome.Outcome.TheVariants.{MovedOften}
 use Rattle.task_put.specs.declared.stage.Stage.TheVariants.{Ended}
 use Rattle.task_put.specs.declared.task.PutTask.{PutTask}
 use Rattle.task_put.specs.Stages.{op_of, rest_of, tried_after, resumed}
-use Rattle.task_put.specs.Tasks.{request_of, at_stage, fits}
+use Rattle.task_put.specs.Tasks.{request_of, fault_of, at_stage, fits}
+use Rattle.realm_door.specs.Steps.{event_at}
+use Rattle.realm_door.proofs.Steps.{one_more}
 use Rattle.task_put.proofs.Stepping.{fits_next}
 use Rattle.task_put.proofs.task.PutTask.event.Goals as goal
 
@@ -26,9 +28,11 @@ returns-in-Ok-step g c =
             (fits_next (g.D.Door.settings c.args.door.now) (g.D.Door.told c.args.door.now) (g.D.Door.told c.step.new.self) t c.in-Ok.field-0.op c.args.moment a c.requires.ready c.requires.sound op_is c.in-Ok-step.ensures.suits c.in-Ok-step.ensures.back c.take.ensures.sound (c.requires.fits tells).1 (made tells)),
       );
       made = λ tells. record { op = c.in-Ok.field-0.op; answered = a; extends = made tells };
+      alone = λ tells alone. one_more (g.D.Door.told c.args.door.now) (g.D.Door.told c.step.new.self) (event_at (g.D.Door.told c.args.door.now) c.in-Ok.field-0.op c.args.moment a.reply) (c.in-Ok-step.ensures.alone tells alone);
       counts = (subst (λ k. g.D.Door.last c.args.door.now < k) (sym n.2) n.0, subst (λ k. k ≤ 2 ^ 62) (sym n.2) n.1);
       command = ap request_of now_is;
       stopped = tt;
+      sound = ap fault_of now_is ∙ c.requires.sound;
       faulted = tt;
       worn = tt;
       settings = c.in-Ok-step.ensures.settings;
@@ -39,9 +43,11 @@ pub returns-in-Err : goal.returns-in-Err
 returns-in-Err g c = record {
   kept = λ tells. subst (λ d. Legal (g.D.Door.settings c.args.door.now) d.seen × Unit {0}) (sym (c.in-Err.ensures.stopped tells)) ((c.requires.fits tells).0, tt);
   made = tt;
+  alone = tt;
   counts = tt;
   command = ap request_of c.split.ensures.task;
   stopped = (c.in-Err.ensures.stopped, c.in-Err.ensures.unnumbered);
+  sound = tt;
   faulted = refl;
   worn = λ tells worn. (c.in-Err.ensures.worn tells).0 worn;
   settings = c.in-Err.ensures.settings;
