@@ -1,0 +1,195 @@
+-- What serving one request on an object comes to: its reply, the events that it rests on, the moments that were told for
+-- them, and what a fault leaves.
+use Rattle.std.specs.Prelude.{◌≡◌, ◌≢◌, ◌⊎◌, ◌×◌, ℕ, ◌^◌, Bool, true, false, List, [], ◌∷◌, ◌++◌, length, map, filter, Option, Some, None, Result, Err, ⊥}
+use Rattle.std.specs.List.{AllByRecursion}
+use Rattle.std.specs.Io.KnownBytes.{Appends}
+use Rattle.gw_io.specs.Ends.{EndsState}
+use Rattle.gw_io.specs.Outside.{Rose}
+use Rattle.http_model.specs.declared.reply.ReplyForm.{ReplyForm}
+use Rattle.http_intake.specs.Intake.{IntakeState}
+use Rattle.realm_model.specs.Doors.{DoorView, actor_at}
+use Rattle.realm_model.specs.Histories.{Legal, account_of, phase_of}
+use Rattle.realm_model.specs.Accounts.{blank}
+use Rattle.realm_model.specs.Phases.{ActorId, fresh}
+use Rattle.realm_model.specs.Owns.{own_events}
+use Rattle.realm_model.specs.Settings.{SettingsView}
+use Rattle.realm_model.specs.Worlds.{actor_of, same_actor}
+use Rattle.realm_model.specs.declared.event.Event.{Event}
+use Rattle.realm_door.specs.Steps.{Grows}
+use Rattle.swift_requests.specs.declared.asked.Asked.{Asked}
+use Rattle.swift_requests.specs.declared.asked.Asked.TheVariants.{BadHost, Refused, Put, Get}
+use Rattle.task_words.specs.declared.asker.Asker.{Asker}
+use Rattle.task_words.specs.declared.outcome.Outcome.{Outcome}
+use Rattle.task_words.specs.declared.outcome.Outcome.TheVariants.{Done, BodyFailed, LateRead}
+use Rattle.task_words.specs.declared.reply.MapReply.TheVariants as Map
+use Rattle.task_words.specs.declared.reply.Refusal.TheVariants.{OtherEtag}
+use Rattle.task_words.specs.Outcomes.{IsGetOutcome}
+use Rattle.call_words.specs.Calls.{task, text_by, IsBorneOut}
+use Rattle.call_service.specs.Bodies.{HasGiven, HasGivenAll, IsCutIn, FailsIn}
+use Rattle.call_service.specs.declared.fault.ServeFault.{ServeFault}
+use Rattle.call_service.specs.declared.fault.ServeFault.TheVariants as faults
+use Rattle.call_service.specs.declared.served.Served.{Served}
+use Rattle.call_service.specs.declared.served.Served.TheVariants as services
+
+-- ---- where and when
+
+-- where a connection is served: the realm's settings, the zone, and who asks
+pub record Site : Type 0 where
+  pub settings : SettingsView
+  pub zone : ℕ
+  pub asker : Asker
+
+-- what stands at one moment of a connection: what the door tells, the intake, and the ends
+pub record Side : Type 0 where
+  pub door : DoorView
+  pub intake : IntakeState
+  pub ends : EndsState
+
+abbrev pub side : DoorView → IntakeState → EndsState → Side
+side door intake ends = record { door = door; intake = intake; ends = ends }
+
+-- ---- events
+
+-- the present actor made no event
+pub record IsNew (settings : SettingsView) (d : DoorView) : Type 0 where
+  pub legal : Legal settings d.seen
+  pub account : account_of settings d.seen (actor_at d) ≡ blank
+  pub phase : phase_of settings d.seen (actor_at d) ≡ fresh
+  pub events : own_events d.seen (actor_at d) ≡ []
+
+-- the moments of an actor's events
+abbrev pub own_moments : List Event → ActorId → List ℕ
+own_moments history actor = map (λ e. e.moment) (filter (λ e. same_actor actor (actor_of e)) history)
+
+-- each event that the history grew by is one of the present actor
+pub record OnlyOwn (d e : DoorView) : Type 0 where
+  pub more : List Event
+  pub grows : e.seen ≡ d.seen ++ more
+  pub own : AllByRecursion (λ x. actor_of x ≡ actor_at d) more
+
+-- the actor went on, and its events have these moments; where nobody else makes events, there are no others
+pub record Acts (alone : Type 0) (settings : SettingsView) (d e : DoorView) (moments : List ℕ) : Type 0 where
+  pub legal : Legal settings e.seen
+  pub grows : Grows settings d e
+  pub each : own_moments e.seen (actor_at d) ≡ own_moments d.seen (actor_at d) ++ moments
+  pub only : alone → OnlyOwn d e
+
+-- ---- moments
+
+-- the body's end decided, in a turn that made no event: a moment is told for it
+abbrev pub is_by_end : Outcome → Bool
+is_by_end BodyFailed = true
+is_by_end (Done (Map.Refused OtherEtag)) = true
+is_by_end outcome = false
+
+-- these moments were told: one for each event, and one more or not
+abbrev pub Tells : Bool → List ℕ → List ℕ → Type 0
+Tells true told moments = (last : ℕ) × (told ≡ moments ++ last ∷ [])
+Tells false told moments = told ≡ moments
+
+-- the clock was asked once for each event of the actor, and once more or not
+pub record Asks (tells alone : Type 0) (settings : SettingsView) (more : Bool) (d e : DoorView) (told told' : Option (List ℕ)) : Type 0 where
+  pub moments : List ℕ
+  pub clock : List ℕ
+  pub asked_clock : Appends told told' clock
+  pub each : Tells more clock moments
+  pub acts : tells → Acts alone settings d e moments
+
+-- ---- texts
+
+-- known bytes grew by some first bytes of these, all of them or not
+pub record AppendsFront (old new : Option (List ℕ)) (bytes : List ℕ) : Type 0 where
+  pub front : List ℕ
+  pub rest : List ℕ
+  pub grown : Appends old new front
+  pub whole : bytes ≡ front ++ rest
+
+-- the present actor's account and events bear out that its task ended so
+abbrev pub BearsOut : Site → Asked → List ℕ → Outcome → List ℕ → DoorView → Type 0
+BearsOut site asked body outcome shown e =
+    IsBorneOut site.zone site.asker asked body outcome shown (account_of site.settings e.seen (actor_at e)) (own_events e.seen (actor_at e))
+
+-- ---- good ends
+
+-- the body was read whole, the task ended so, and its whole reply was written
+pub record IsReplied (tells alone : Type 0) (site : Site) (form : ReplyForm) (asked : Asked) (x y : Side) : Type 0 where
+  pub body : List ℕ
+  pub given : HasGivenAll x.intake y.intake x.ends.left y.ends.left body
+  pub outcome : Outcome
+  pub shown : List ℕ
+  pub written : Appends x.ends.taken y.ends.taken (text_by form asked (task x.door.count outcome) shown)
+  pub right : tells → BearsOut site asked body outcome shown y.door
+  pub asks : Asks tells alone site.settings (is_by_end outcome) x.door y.door x.ends.told y.ends.told
+
+-- nothing was written
+pub record LeavesUnwritten (tells alone : Type 0) (site : Site) (more : Bool) (x y : Side) : Type 0 where
+  pub unwritten : Appends x.ends.taken y.ends.taken []
+  pub asks : Asks tells alone site.settings more x.door y.door x.ends.told y.ends.told
+
+-- the input ended inside the body, and nothing was written
+abbrev pub IsCutOff : Type 0 → Type 0 → Site → Side → Side → Type 0
+IsCutOff tells alone site x y =
+    (body : List ℕ) × IsCutIn x.intake x.ends.left y.ends.left body × LeavesUnwritten tells alone site false x y
+
+-- how a request was served
+abbrev pub IsServed : Type 0 → Type 0 → Site → ReplyForm → Asked → Side → Side → Served → Type 0
+IsServed tells alone site form asked x y services.Replied = IsReplied tells alone site form asked x y
+IsServed tells alone site form asked x y services.Cut = IsCutOff tells alone site x y
+
+-- ---- faults
+
+-- the body was read whole, and of the reply of a task that ended so, or will, a front was written
+pub record IsInPart (tells alone : Type 0) (site : Site) (form : ReplyForm) (asked : Asked) (x y : Side) : Type 0 where
+  pub body : List ℕ
+  pub given : HasGivenAll x.intake y.intake x.ends.left y.ends.left body
+  pub outcome : Outcome
+  pub shown : List ℕ
+  pub written : AppendsFront x.ends.taken y.ends.taken (text_by form asked (task x.door.count outcome) shown)
+  pub right : tells → BearsOut site asked body outcome shown y.door
+  pub more : Bool
+  pub asks : Asks tells alone site.settings more x.door y.door x.ends.told y.ends.told
+
+-- a step was refused: this much of the body was read, and nothing or a front of the reply was written; the clock may have
+-- been asked for the event that did not come
+abbrev pub IsLeft : Type 0 → Type 0 → Site → ReplyForm → Asked → Side → Side → Type 0
+IsLeft tells alone site form asked x y =
+    ((given : List ℕ) × HasGiven x.intake y.intake x.ends.left y.ends.left given
+    × (more : Bool) × LeavesUnwritten tells alone site more x y)
+    ⊎ IsInPart tells alone site form asked x y
+
+-- a stripe of what the GET shows was gone
+abbrev pub IsLateIn : Site → Asked → DoorView → ℕ → ℕ → Type 0
+IsLateIn site BadHost e read_at clock = ⊥
+IsLateIn site (Refused why) e read_at clock = ⊥
+IsLateIn site (Put c) e read_at clock = ⊥
+IsLateIn site (Get c) e read_at clock =
+    IsGetOutcome site.zone site.asker c (LateRead read_at clock) (account_of site.settings e.seen (actor_at e))
+
+-- what a fault leaves, where the door's last step found this history
+abbrev pub IsStopped : Type 0 → Type 0 → Site → ReplyForm → Asked → List Event → Side → Side → ServeFault → Type 0
+IsStopped tells alone site form asked found x y faults.ReadFault =
+    (body : List ℕ) × FailsIn x.intake x.ends.left y.ends.left body × LeavesUnwritten tells alone site false x y
+IsStopped tells alone site form asked found x y faults.OutOfMemory = IsLeft tells alone site form asked x y
+IsStopped tells alone site form asked found x y faults.Worn =
+    (tells → length found ≡ 2 ^ 62) × IsLeft tells alone site form asked x y
+IsStopped tells alone site form asked found x y faults.WriteFault =
+    (part : IsInPart tells alone site form asked x y) × (part.more ≡ is_by_end part.outcome)
+IsStopped tells alone site form asked found x y (faults.Late read_at clock) =
+    (tells → IsLateIn site asked y.door read_at clock)
+    × (((given : List ℕ) × HasGivenAll x.intake y.intake x.ends.left y.ends.left given × LeavesUnwritten tells alone site false x y)
+    ⊎ ((part : IsInPart tells alone site form asked x y) × (part.more ≡ false)))
+
+-- ---- counts of faults
+
+-- the sink's count of faults rose where a write failed, and stayed at every other end
+pub record WritesAtFault {T : Type 0} (before now : ℕ) (result : Result T ServeFault) : Type 0 where
+  pub rose : result ≡ Err faults.WriteFault → Rose before now
+  pub kept : result ≢ Err faults.WriteFault → now ≡ before
+
+-- each count of faults rose where its call failed, and stayed at every other end; the clock keeps its plan
+pub record HasServeCause {T : Type 0} (old new : EndsState) (result : Result T ServeFault) : Type 0 where
+  pub plan : new.plan ≡ old.plan
+  pub read_rose : result ≡ Err faults.ReadFault → Rose old.read_faults new.read_faults
+  pub read_kept : result ≢ Err faults.ReadFault → new.read_faults ≡ old.read_faults
+  pub write_rose : result ≡ Err faults.WriteFault → Rose old.write_faults new.write_faults
+  pub write_kept : result ≢ Err faults.WriteFault → new.write_faults ≡ old.write_faults

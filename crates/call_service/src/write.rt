@@ -1,0 +1,38 @@
+//! Whole texts to a sink.
+ghost use Rattle.std.specs.Prelude.{◌≡◌, ◌≢◌, ◌++◌, OnOk, OnErr, IfErr};
+ghost use Rattle.std.specs.Io.KnownBytes.{Appends};
+ghost use Rattle.call_service.specs.Serving.{AppendsFront, WritesAtFault};
+ghost use Rattle.call_service.specs.declared.fault.ServeFault.TheVariants.{WriteFault};
+
+use crate::ServeFault;
+use gw_io::{Sink, write_all};
+
+/// Writes all of these bytes. Only a write that fails stops it.
+#[tactic(auto, using(crate::proofs::Fronts::front_of_prefix))]
+pub fn send<K: Sink>(sink: &mut K, bytes: &[u8]) -> Result<(), ServeFault>
+    ensures ok { OnOk result (Appends (K.taken sink.old) (K.taken sink.new) bytes.now) }
+    ensures err { OnErr result (AppendsFront (K.taken sink.old) (K.taken sink.new) bytes.now) }
+    ensures fault { IfErr result (λ fault. fault ≡ WriteFault) }
+    ensures cause { WritesAtFault (K.faults sink.old) (K.faults sink.new) result }
+{
+    match write_all(sink, bytes) {
+        Ok(()) => Ok(()),
+        Err(_) => Err(ServeFault::WriteFault),
+    }
+}
+
+/// Writes all of these bytes and then those.
+#[tactic(auto, using(crate::proofs::Fronts::front_longer, crate::proofs::Fronts::front_behind))]
+pub fn send_both<K: Sink>(
+    sink: &mut K,
+    first: &[u8],
+    second: &[u8],
+) -> Result<(), ServeFault>
+    ensures ok { OnOk result (Appends (K.taken sink.old) (K.taken sink.new) (first.now ++ second.now)) }
+    ensures err { OnErr result (AppendsFront (K.taken sink.old) (K.taken sink.new) (first.now ++ second.now)) }
+    ensures fault { IfErr result (λ fault. fault ≡ WriteFault) }
+    ensures cause { WritesAtFault (K.faults sink.old) (K.faults sink.new) result }
+{
+    send(sink, first)?;
+    send(sink, second)
+}

@@ -1,0 +1,7 @@
+//! One PUT of an object, served through a door: its body goes from the intake into the task, which makes a tail of
+//! each stripe as it fills.
+#![tactic(auto)]
+
+mod put;
+
+pub use put::serve_put;
