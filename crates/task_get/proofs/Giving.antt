@@ -1,5 +1,5 @@
 -- What callers of a GET know: the pieces, one after another, are the bytes that its reply shows.
-use Rattle.std.proofs.Common.{◌≡◌, ℕ, ◌⊎◌, inl, inr, ⊎_elim, Bool, true, false, cond, List, [], ◌∷◌, ◌++◌, length, drop, Option, Some, None, refl, sym, ap, ◌∙◌, subst, arith, length-append, length-take, length-drop}
+use Rattle.std.proofs.Common.{◌≡◌, ℕ, ◌+◌, ◌*◌, nat_lt, ◌⊎◌, inl, inr, ⊎_elim, Bool, true, false, cond, List, [], ◌∷◌, ◌++◌, length, take, drop, Option, Some, None, refl, sym, ap, ◌∙◌, subst, arith, length-append, length-take, length-drop}
 use Rattle.std.specs.Prelude.{IfSome}
 use Rattle.std.proofs.lemmas.Grind.{flat_map-append}
 use Rattle.std.proofs.lemmas.List.{append-nil, nil_from_length}
@@ -15,6 +15,8 @@ use Rattle.realm_model.specs.Histories.{Doings}
 use Rattle.realm_model.specs.Doors.{DoorView, actor_at}
 use Rattle.realm_model.specs.Owns.{OwnEvent, own_events, NoneBy}
 use Rattle.realm_model.specs.declared.event.Event.{Event}
+use Rattle.realm_model.specs.declared.event.Reply.{Reply}
+use Rattle.realm_model.specs.declared.op.Op.TheVariants.{BucketRead}
 use Rattle.realm_door.specs.Steps.{own_event}
 use Rattle.realm_door.specs.Turns.{MakesEvent}
 use Rattle.realm_door.proofs.Others.{same_after_others}
@@ -31,12 +33,16 @@ use Rattle.task_words.specs.Outcomes.{ByMap, IsShown}
 use Rattle.task_get.specs.declared.request.GetRequest.{GetRequest}
 use Rattle.task_get.specs.declared.stage.Stage.{Stage}
 use Rattle.task_get.specs.declared.stage.Stage.TheVariants.{Look, Open, Tails, Ended, Late}
+use Rattle.task_get.specs.declared.stage.TailShown.{TailShown}
+use Rattle.task_get.specs.declared.stage.TailShown.TheVariants.{Bytes, Gone}
 use Rattle.task_get.specs.declared.task.GetTask.{GetTask}
 use Rattle.task_get.specs.Shown.{content_with}
+use Rattle.task_get.specs.Readings.{ReadingView, next_piece}
 use Rattle.task_get.specs.Replies.{reply_of}
+use Rattle.task_get.specs.Stages.{IsOpen, tail_shown, gone_on, after_tail, step_of}
 use Rattle.task_get.specs.Pieces.{brought_by, brought}
 use Rattle.task_get.specs.Gets.{ReadsRow, ReadsAll, BringsAll, BringsFront, Means, LastBrings, FitsStage}
-use Rattle.task_get.specs.Tasks.{account_at, phase_at, events_at, bytes_of, given_of, where_shown, shown_by, Fits}
+use Rattle.task_get.specs.Tasks.{account_at, phase_at, events_at, bytes_of, given_of, where_shown, shown_by, shown_of, Fits}
 use Rattle.task_get.proofs.Replies.{answer_by, Lies, taken_lies, live_is}
 use Rattle.task_get.proofs.Ends.{decided_slot, front_shown, shows_bytes}
 
@@ -110,7 +116,60 @@ none_shown r (Ended (Done reply) given) y p events fits is =
 none_shown r (Ended outcome given) y p events fits is = absurd fits.1
 none_shown r (Late x outcome) y p events fits is = let e : Some fits.1.by_map.event ≡ None = sym fits.1.by_map.is_last ∙ is in cc
 
+-- a turn leaves the reply that is shown
+going_shows : (x : ReadingView) (count : ℕ) → IsShown x.reply → shown_by (gone_on x count) ≡ Some x.reply
+going_shows x count is =
+    elim (nat_lt ((x.part + 1) * x.manifest.stripe) (x.range.start + x.range.count)) as (λ b. shown_by (cond b (Tails (record x { part = x.part + 1; given = x.given + count })) (Ended (Done x.reply) (x.given + count))) ≡ Some x.reply) [ true ↦ refl | false ↦ sym (shown_is x.reply is) ]
+
+tail_shows : (x : ReadingView) (tail : TailShown) → IsShown x.reply → shown_by (after_tail x tail).0 ≡ Some x.reply
+tail_shows x (Bytes bytes) is = going_shows x (length (take (next_piece x).count bytes)) is
+tail_shows x (Gone clock) is = refl
+
+step_shows : (r : GetRequest) (stage : Stage) (y : Account) (p : Phase) (events : List OwnEvent) (answer : Reply) (clock : ℕ) (reply : MapReply) → IsOpen stage → FitsStage r stage y p events → shown_by stage ≡ Some reply → shown_by (step_of r stage answer clock).0 ≡ Some reply
+step_shows r Look y p events answer clock reply going fits is = cc
+step_shows r (Open container) y p events answer clock reply going fits is = cc
+step_shows r (Tails x) y p events answer clock reply going fits is =
+    tail_shows x (tail_shown answer) (subst IsShown (sym fits.reply) (shows_bytes r.get.body (reply_of r.get fits.new fits.stamp) x.range fits.range)) ∙ is
+step_shows r (Ended outcome given) y p events answer clock reply going fits is = absurd going
+step_shows r (Late x outcome) y p events answer clock reply going fits is = absurd going
+
+pub still_shown : (settings : SettingsView) (d : DoorView) (t u : GetTask) (answer : Reply) (clock : ℕ) (reply : MapReply) → IsOpen t.stage → u.stage ≡ (step_of t.request t.stage answer clock).0 → Fits t settings d → shown_of t ≡ Some reply → shown_of u ≡ Some reply
+still_shown settings d t u answer clock reply going stage fits is =
+    ap shown_by stage ∙ step_shows t.request t.stage (account_at settings d) (phase_at settings d) (events_at d) answer clock reply going fits.stage is
+
 -- ---- the bytes
+
+-- only a reply that is shown has bytes
+hidden_by_cases : (unmet had : Bool) (range : Option ByteRange) (wanted : Bool) (content : Content) (now : Stamp) → where_shown (answer_by unmet had range wanted content now).reply ≡ None → (answer_by unmet had range wanted content now).shown ≡ []
+hidden_by_cases true had range wanted content now hidden = refl
+hidden_by_cases false true range wanted content now hidden = refl
+hidden_by_cases false false None wanted content now hidden = refl
+hidden_by_cases false false (Some range) wanted content now hidden = cc
+
+hidden_has_none : (c : GetCommand) (slot : Slot) → where_shown (get_answer c slot).reply ≡ None → (get_answer c slot).shown ≡ []
+hidden_has_none c Slots.Nothing hidden = refl
+hidden_has_none c (Slots.Mark old) hidden = refl
+hidden_has_none c (Slots.Live content now) hidden =
+    hidden_by_cases (is_unmet c.when.matches c.when.unmodified content.etag now) (is_had c.when.none c.when.modified content.etag now) (bytes_taken (span_of c) (length content.bytes)) c.body content now hidden
+
+row_brings_none : (c : GetCommand) (events : List OwnEvent) (look : OwnEvent) (zone : ℕ) (name : List ℕ) → events ≡ look ∷ [] → look.op ≡ BucketRead zone name → brought c events ≡ []
+row_brings_none c events look zone name stands op =
+    ap (brought c) stands ∙ append-nil (brought_by c look.op look.reply) ∙ ap (λ o. brought_by c o look.reply) op
+
+pub none_brought : (r : GetRequest) (stage : Stage) (y : Account) (p : Phase) (events : List OwnEvent) → FitsStage r stage y p events → shown_by stage ≡ None → brought r.get events ≡ []
+none_brought r Look y p events fits is = ap (brought r.get) fits.none
+none_brought r (Open container) y p events fits is = row_brings_none r.get events fits.look r.zone r.get.container fits.stands fits.granted.op
+none_brought r (Tails x) y p events fits is = cc
+none_brought r (Ended (Done reply) given) y p events fits is =
+    ⊎_elim
+    (λ row. row_brings_none r.get events row.reads.look r.zone r.get.container row.reads.stands row.reads.op)
+    (λ map.
+        let event = map.by_map.event in
+        let same = mapped_reply r reply y event map.by_map map.by_map.is_last in
+        map.brings event map.by_map.is_last ∙ hidden_has_none r.get event.before (sym (ap where_shown same) ∙ is))
+    (by_either r reply y events fits.0)
+none_brought r (Ended outcome given) y p events fits is = absurd fits.1
+none_brought r (Late x outcome) y p events fits is = cc
 
 front_meant : (r : GetRequest) (outcome : Outcome) (y : Account) (events : List OwnEvent) → Means r outcome y events → BringsFront r y events
 front_meant r (Done reply) y events m event is =

@@ -1,5 +1,5 @@
 //! Laws of a task's pieces: the functions here do nothing.
-ghost use Rattle.std.specs.Prelude.{◌≡◌, ℕ, ◌++◌, List, Some, None, length, if◌then◌else◌};
+ghost use Rattle.std.specs.Prelude.{◌≡◌, ℕ, ◌++◌, List, [], Some, None, length, if◌then◌else◌};
 ghost use Rattle.rgw_types.specs.declared.stamp.Stamp.{Stamp as StampOf};
 ghost use Rattle.realm_model.specs.Settings.{SettingsView};
 ghost use Rattle.realm_model.specs.Accounts.{Decided};
@@ -47,13 +47,15 @@ pub fn pieces_are_the_bytes_shown()
 {}
 
 /// From the event that decides on, the task shows the bucket map's reply there, where that shows bytes;
-/// before it, none.
+/// before it, none. Where none is shown nothing was brought.
 pub fn the_reply_is_shown_from_the_head_on()
     ensures shown { (settings : SettingsView) (t : GetTaskOf) (d : DoorView) (event : Decided)
         → Fits t settings d → (account_at settings d).decided ≡ Some event
         → shown_of t ≡ where_shown (answer event.before (get (request_of t).get) (request_of t).zone event.clock).reply }
     ensures not_yet { (settings : SettingsView) (t : GetTaskOf) (d : DoorView)
         → Fits t settings d → (account_at settings d).decided ≡ None → shown_of t ≡ None }
+    ensures nothing { (settings : SettingsView) (t : GetTaskOf) (d : DoorView)
+        → Fits t settings d → shown_of t ≡ None → brought (request_of t).get (events_at d) ≡ [] }
 {}
 
 /// A task stands where it did while others make events.
