@@ -45,6 +45,7 @@ impl GetTask {
             → account_of settings d.seen (actor_at d) ≡ blank → own_events d.seen (actor_at d) ≡ []
             → Fits result settings d }
         ensures sound { fault_of result ≡ None }
+        ensures open { IsOpen (stage_of result) }
     {
         GetTask {
             request,
