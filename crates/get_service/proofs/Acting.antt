@@ -8,6 +8,9 @@ use Rattle.realm_door.specs.Steps.{own_event}
 use Rattle.realm_door.specs.Turns.{MakesEvent, Turned, IsActing, Given}
 use Rattle.realm_door.specs.declared.task.TaskTurn.{TaskTurn}
 use Rattle.realm_door.specs.declared.task.TaskTurn.TheVariants.{More, Wants, Gives, Done}
+use Rattle.task_get.specs.declared.stage.Stage.{Stage}
+use Rattle.task_get.specs.declared.stage.Stage.TheVariants.{Ended, Late}
+use Rattle.task_get.specs.Stages.{IsOpen, IsOver}
 use Rattle.task_get.specs.declared.task.GetTask.{GetTask}
 use Rattle.task_get.specs.Pieces.{brought}
 use Rattle.task_get.specs.Tasks.{account_at, phase_at, events_at, request_of, stage_of, bytes_of, given_of, Fits}
@@ -39,3 +42,16 @@ first_brings_none settings t u d e moment request fits made none =
     let own = own_event made.op made.answered in
     let events : events_at e ≡ own ∷ [] = ap (own_events e.seen) actor ∙ x.events ∙ ap (λ l. l ++ own ∷ []) none in
     ap (λ r. brought_at r e) (sym request) ∙ none_at_first (request_of u) (stage_of u) (account_at settings e) (phase_at settings e) (events_at e) own fits.stage events
+
+-- another turn brings nothing
+pub nothing_else : (turn : TaskTurn) (piece : List ℕ) → (turn ≡ Gives → ⊥) → piece_in turn piece ≡ []
+nothing_else More piece other = refl
+nothing_else Wants piece other = refl
+nothing_else Done piece other = refl
+nothing_else Gives piece other = absurd (other refl)
+
+-- the outcome is not there
+pub still_open : (stage : Stage) → (IsOver stage → ⊥) → IsOpen stage
+still_open (Ended outcome given) not_over = not_over tt
+still_open (Late x outcome) not_over = not_over tt
+still_open stage not_over = tt

@@ -1,3 +1,4 @@
 pub mod Texts
 pub mod Acting
 pub mod Getting
+pub mod Stopping
