@@ -2,3 +2,4 @@ pub mod Texts
 pub mod Acting
 pub mod Getting
 pub mod Stopping
+pub mod Serving

@@ -5,7 +5,7 @@ ghost use Rattle.swift_requests.specs.declared.asked.Asked.TheVariants.{Get};
 ghost use Rattle.task_words.specs.declared.reply.MapReply.{MapReply as MapReplyOf};
 ghost use Rattle.task_words.specs.Answers.{span_of};
 ghost use Rattle.task_get.specs.Stages.{IsOpen, IsOver};
-ghost use Rattle.task_get.specs.Tasks.{request_of, stage_of, fault_of, bytes_of, shown_of, events_at};
+ghost use Rattle.task_get.specs.Tasks.{request_of, stage_of, fault_of, bytes_of, shown_of, events_at, Fits};
 ghost use Rattle.call_service.specs.Serving.{IsNew, IsServed, IsStopped, HasServeCause, Asks, WritesAtFault, side};
 ghost use Rattle.get_service.specs.Getting.{IsUpTo, brought_at, piece_in, StopsEvent, HasWritten, Replies, stand, AsksFrom, StopsReply};
 
@@ -95,7 +95,7 @@ fn send_pieces<D: Door, C: Clock, K: Sink>(
 /// Makes the events up to the outcome, and writes the reply.
 fn send_reply<D: Door, C: Clock, K: Sink>(
     alloc: Global,
-    mut task: GetTask,
+    task: &mut GetTask,
     door: &mut D,
     clock: &mut C,
     sink: &mut K,
@@ -103,26 +103,73 @@ fn send_reply<D: Door, C: Clock, K: Sink>(
     span: Option<Span>,
     form: ReplyForm,
 ) -> Result<(), ServeFault>
-    requires sound { fault_of task ≡ None }
-    requires up { IsUpTo D.tells (D.settings door.old) task (D.told door.old) }
-    requires none { D.tells → brought_at (request_of task) (D.told door.old) ≡ [] }
-    requires span { span ≡ span_of (request_of task).get }
-    ensures written { OnOk result (Replies D.tells (D.settings door.old) form (request_of task) (D.told door.new)
+    requires sound { fault_of task.old ≡ None }
+    requires up { IsUpTo D.tells (D.settings door.old) task.old (D.told door.old) }
+    requires none { D.tells → brought_at (request_of task.old) (D.told door.old) ≡ [] }
+    requires span { span ≡ span_of (request_of task.old).get }
+    ensures written { OnOk result (Replies D.tells (D.settings door.old) form (request_of task.old) (D.told door.new)
         (Appends (K.taken sink.old) (K.taken sink.new))) }
     ensures asks { OnOk result (Asks D.tells D.alone (D.settings door.old) false
         (D.told door.old) (D.told door.new) (C.told clock.old) (C.told clock.new)) }
-    ensures stopped { IfErr result (StopsReply D.tells D.alone (D.settings door.old) form (request_of task) (D.found door.new)
+    ensures stopped { IfErr result (StopsReply D.tells D.alone (D.settings door.old) form (request_of task.old) (D.found door.new)
         (stand (D.told door.old) (K.taken sink.old) (C.told clock.old)) (stand (D.told door.new) (K.taken sink.new) (C.told clock.new))) }
     ensures cause { WritesAtFault (K.faults sink.old) (K.faults sink.new) result }
     ensures settings { D.settings door.new ≡ D.settings door.old }
     ensures home { D.home door.new ≡ D.home door.old }
     ensures plan { C.plan clock.new ≡ C.plan clock.old }
 {
-    let begun = send_pieces(alloc, &mut task, door, clock, sink, out, span, form)?;
+    let begun = send_pieces(alloc, task, door, clock, sink, out, span, form)?;
     match task.outcome() {
         Some(outcome) => send_end(sink, out, outcome, span, form, begun),
         None => unreachable!(),
     }
+}
+
+/// Serves the GET or HEAD of a new task.
+fn serve_task<D: Door, C: Clock, S: Source, K: Sink>(
+    alloc: Global,
+    task: &mut GetTask,
+    span: Option<Span>,
+    form: ReplyForm,
+    door: &mut D,
+    clock: &mut C,
+    intake: &mut Intake,
+    source: &mut S,
+    sink: &mut K,
+    buffer: &mut [u8],
+    out: &mut Vec<u8>,
+) -> Result<Served, ServeFault>
+    requires room { 0 < length buffer.old }
+    requires open { IsOpen (stage_of task.old) }
+    requires sound { fault_of task.old ≡ None }
+    requires fits { D.tells → Fits task.old (D.settings door.old) (D.told door.old) }
+    requires span { span ≡ span_of (request_of task.old).get }
+    requires intake { intake.old.failed ≡ None }
+    requires plain { IsUnchunked intake.old }
+    requires new { D.tells → IsNew (D.settings door.old) (D.told door.old) }
+    ensures served { IfOk result (IsServed D.tells D.alone
+        (record { settings = D.settings door.old; zone = (request_of task.old).zone; asker = (request_of task.old).asker }) form (Get (request_of task.old).get)
+        (side (D.told door.old) intake.old (⟦<(S, K, C) as Ends>⟧.ends (source.old, sink.old, clock.old)))
+        (side (D.told door.new) intake.new (⟦<(S, K, C) as Ends>⟧.ends (source.new, sink.new, clock.new)))) }
+    ensures stopped { IfErr result (IsStopped D.tells D.alone
+        (record { settings = D.settings door.old; zone = (request_of task.old).zone; asker = (request_of task.old).asker }) form (Get (request_of task.old).get)
+        (D.found door.new)
+        (side (D.told door.old) intake.old (⟦<(S, K, C) as Ends>⟧.ends (source.old, sink.old, clock.old)))
+        (side (D.told door.new) intake.new (⟦<(S, K, C) as Ends>⟧.ends (source.new, sink.new, clock.new)))) }
+    ensures cause { HasServeCause
+        (⟦<(S, K, C) as Ends>⟧.ends (source.old, sink.old, clock.old))
+        (⟦<(S, K, C) as Ends>⟧.ends (source.new, sink.new, clock.new)) result }
+    ensures settings { D.settings door.new ≡ D.settings door.old }
+    ensures home { D.home door.new ≡ D.home door.old }
+    ensures kept { length buffer.new ≡ length buffer.old }
+{
+    act(alloc, task, door, clock)?;
+    let whole = drop_body(intake, source, buffer)?;
+    if !whole {
+        return Ok(Served::Cut);
+    }
+    send_reply(alloc, task, door, clock, sink, out, span, form)?;
+    Ok(Served::Replied)
 }
 
 /// Serves one GET or HEAD, whose head was read, as the door's present actor, which made no event: reads the row of
@@ -170,10 +217,7 @@ pub fn serve_get<D: Door, C: Clock, S: Source, K: Sink>(
 {
     let span = span_in(&request);
     let mut task = GetTask::new(request);
-    act(alloc, &mut task, door, clock)?;
-    if !drop_body(intake, source, buffer)? {
-        return Ok(Served::Cut);
-    }
-    send_reply(alloc, task, door, clock, sink, out, span, form)?;
-    Ok(Served::Replied)
+    serve_task(
+        alloc, &mut task, span, form, door, clock, intake, source, sink, buffer, out,
+    )
 }

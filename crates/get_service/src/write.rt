@@ -130,8 +130,8 @@ pub(crate) fn send_end<K: Sink>(
     form: ReplyForm,
     begun: bool,
 ) -> Result<(), ServeFault>
-    ensures in_time { OnOk result (is_late outcome.now ≡ false) }
-    ensures ok { OnOk result (Appends (K.taken sink.old) (K.taken sink.new) (end_text form span begun outcome.now)) }
+    ensures ok { OnOk result ((is_late outcome.now ≡ false)
+        × Appends (K.taken sink.old) (K.taken sink.new) (end_text form span begun outcome.now)) }
     ensures err { IfErr result (StopsEnd form span begun outcome.now (K.taken sink.old) (K.taken sink.new)) }
     ensures cause { WritesAtFault (K.faults sink.old) (K.faults sink.new) result }
 {
