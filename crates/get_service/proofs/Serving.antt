@@ -33,7 +33,7 @@ module _ (tells alone : Type 0) (settings : SettingsView) (form : ReplyForm) (r 
     in_all : (more : Bool) → Asks tells alone settings more d y.door told y.ends.told → Asks tells alone settings more x.door y.door x.ends.told y.ends.told
     in_all more asks = both_ask tells alone settings settings more x.door d y.door x.ends.told told y.ends.told refl first asks
 
-    in_part : (more : Bool) → Asks tells alone settings more d y.door told y.ends.told → Replies tells settings form r y.door (AppendsFront x.ends.taken y.ends.taken) → IsInPart tells alone site form (Get r.get) x y
+    abbrev in_part : (more : Bool) → Asks tells alone settings more d y.door told y.ends.told → Replies tells settings form r y.door (AppendsFront x.ends.taken y.ends.taken) → IsInPart tells alone site form (Get r.get) x y
     in_part more asks part = record {
       body = body;
       given = given;
