@@ -12,7 +12,6 @@ use Rattle.task_get.specs.declared.stage.Stage.{Stage}
 use Rattle.task_get.specs.declared.stage.Stage.TheVariants.{Ended, Late}
 use Rattle.task_get.specs.Stages.{IsOpen, IsOver}
 use Rattle.task_get.specs.declared.task.GetTask.{GetTask}
-use Rattle.task_get.specs.Pieces.{brought}
 use Rattle.task_get.specs.Tasks.{account_at, phase_at, events_at, request_of, stage_of, bytes_of, given_of, Fits}
 use Rattle.task_get.proofs.Giving.{next_piece_follows, no_piece, none_at_first}
 use Rattle.get_service.specs.Getting.{brought_at, piece_in}

@@ -1,7 +1,7 @@
 -- What was written, event by event.
-use Rattle.std.proofs.Common.{◌≡◌, ◌^◌, ◌⊎◌, inl, inr, ℕ, Bool, true, false, cond, List, [], ◌∷◌, ◌++◌, length, drop, Option, Some, None, refl, sym, ap, ◌∙◌, subst}
+use Rattle.std.proofs.Common.{◌≡◌, inl, inr, ℕ, Bool, true, false, cond, List, [], ◌∷◌, ◌++◌, length, drop, Option, Some, None, refl, sym, ap, ◌∙◌, subst}
 use Rattle.std.proofs.lemmas.List.{append-nil}
-use Rattle.std.proofs.KnownBytes.{Appends-nil, Appends-trans}
+use Rattle.std.proofs.KnownBytes.{Appends-trans}
 use Rattle.std.specs.Io.KnownBytes.{Appends}
 use Rattle.http_model.specs.declared.reply.ReplyForm.{ReplyForm}
 use Rattle.http_model.specs.Replies.{written_body}
@@ -12,17 +12,15 @@ use Rattle.rgw_model.specs.declared.slot.Slot.{Slot}
 use Rattle.rgw_model.specs.declared.slot.Slot.TheVariants as Slots
 use Rattle.realm_model.specs.Owns.{OwnEvent}
 use Rattle.swift_requests.specs.declared.asked.Asked.TheVariants.{Get}
-use Rattle.task_words.specs.declared.asker.Asker.{Asker}
 use Rattle.task_words.specs.declared.command.GetCommand.{GetCommand}
 use Rattle.task_words.specs.declared.outcome.Outcome.{Outcome}
 use Rattle.task_words.specs.declared.outcome.Outcome.TheVariants.{Done, LateRead}
 use Rattle.task_words.specs.declared.reply.MapReply.{MapReply}
 use Rattle.task_words.specs.declared.reply.MapReply.TheVariants.{Stored, Shown, Same, Counted, Refused}
 use Rattle.task_words.specs.declared.reply.Refusal.TheVariants as Map
-use Rattle.task_words.specs.declared.span.Span.{Span}
 use Rattle.task_words.specs.declared.span.ByteRange.{ByteRange}
 use Rattle.task_words.specs.Spans.{bytes_taken}
-use Rattle.task_words.specs.Answers.{is_unmet, is_had, span_of, get, get_answer, shown_range, answered}
+use Rattle.task_words.specs.Answers.{is_unmet, is_had, span_of, get_answer, shown_range, answered}
 use Rattle.rgw_types.specs.declared.stamp.Stamp.{Stamp}
 use Rattle.rgw_model.specs.declared.slot.Content.{Content}
 use Rattle.task_words.specs.Outcomes.{IsShown, IsGetOutcome}
@@ -30,25 +28,17 @@ use Rattle.task_get.specs.declared.request.GetRequest.{GetRequest}
 use Rattle.task_get.specs.declared.task.GetTask.{GetTask}
 use Rattle.task_get.specs.Pieces.{brought}
 use Rattle.task_get.specs.Gets.{Means, BringsAll, shown_at}
-use Rattle.task_get.specs.Tasks.{account_at, phase_at, events_at, request_of, stage_of, bytes_of, shown_of, Fits, means}
+use Rattle.task_get.specs.Tasks.{account_at, phase_at, events_at, request_of, stage_of, bytes_of, shown_of, means}
 use Rattle.task_get.proofs.Giving.{shown_rests, none_brought, front_at_once, all_brought}
-use Rattle.call_words.specs.Calls.{task, text_by, IsBorneOut, AreShown}
-use Rattle.call_words.specs.Texts.{reply_in, outcome_reply, text_if}
+use Rattle.call_words.specs.Calls.{IsBorneOut}
+use Rattle.call_words.specs.Texts.{outcome_reply, text_if}
 use Rattle.call_service.specs.Serving.{AppendsFront, is_by_end}
 use Rattle.call_service.proofs.Fronts.{whole_front, front_longer, front_behind}
-use Rattle.get_service.specs.Texts.{shows_bytes, text_up_to, begins, piece_text, ends_get, is_late, end_text}
+use Rattle.get_service.specs.Texts.{text_up_to, begins, piece_text, ends_get, is_late, end_text}
 use Rattle.get_service.specs.Getting.{IsUpTo, brought_at, IsBegun, HasWritten, Replies, IsPartly}
-use Rattle.get_service.proofs.Texts.{text_shown, text_longer, ends_reply}
+use Rattle.get_service.proofs.Texts.{text_shown, text_longer}
 
 -- ---- what is shown
-
-is_shown : (reply : MapReply) → shows_bytes reply ≡ true → IsShown reply
-is_shown (Shown kind meta etag stamp size start count) is = tt
-is_shown reply is = cc
-
-must_show : (reply : MapReply) → IsShown reply → shows_bytes reply ≡ true
-must_show (Shown kind meta etag stamp size start count) is = refl
-must_show reply is = absurd is
 
 -- the bytes that are shown at the event that decided, if one did
 abbrev shown_now : GetRequest → Option Decided → List ℕ
@@ -92,9 +82,9 @@ answer_ends c (Slots.Live content stamp) =
     elim (is_unmet c.when.matches c.when.unmodified content.etag stamp) as (λ b. ends_get (Done (cond b (answered (Refused Map.NotMet) (Slots.Live content stamp)) (cond (is_had c.when.none c.when.modified content.etag stamp) had range)).reply) ≡ true) [
       | true ↦ refl
       | false ↦ elim (is_had c.when.none c.when.modified content.etag stamp) as (λ b. ends_get (Done (cond b had range).reply) ≡ true) [
-          | true ↦ refl
-          | false ↦ range_ends c content stamp (bytes_taken (span_of c) (length content.bytes))
-        ]
+        | true ↦ refl
+        | false ↦ range_ends c content stamp (bytes_taken (span_of c) (length content.bytes))
+      ]
     ]
 
 -- the task of a GET ends as a GET may

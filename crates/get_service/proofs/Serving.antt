@@ -1,5 +1,5 @@
 -- The row, the body and the reply together.
-use Rattle.std.proofs.Common.{◌≡◌, ◌^◌, ◌⊎◌, inl, inr, ℕ, Bool, true, false, List, [], Option, refl, sym, subst}
+use Rattle.std.proofs.Common.{◌≡◌, ◌⊎◌, inl, inr, ℕ, Bool, true, false, List, [], Option, refl, sym, subst}
 use Rattle.std.specs.Io.KnownBytes.{Appends}
 use Rattle.http_model.specs.declared.reply.ReplyForm.{ReplyForm}
 use Rattle.realm_model.specs.Settings.{SettingsView}
@@ -10,7 +10,7 @@ use Rattle.task_get.specs.declared.request.GetRequest.{GetRequest}
 use Rattle.call_service.specs.Bodies.{HasGiven, HasGivenAll, LeavesBody}
 use Rattle.call_service.specs.declared.fault.ServeFault.{ServeFault}
 use Rattle.call_service.specs.declared.fault.ServeFault.TheVariants as faults
-use Rattle.call_service.specs.Serving.{Site, Side, Asks, AppendsFront, LeavesUnwritten, IsReplied, IsInPart, IsLeft, IsStopped, is_by_end}
+use Rattle.call_service.specs.Serving.{Site, Side, Asks, AppendsFront, LeavesUnwritten, IsReplied, IsInPart, IsLeft, IsStopped}
 use Rattle.call_service.proofs.Asking.{both_ask}
 use Rattle.get_service.specs.Getting.{StopsEvent, Replies, IsPartly, stand, StopsReply}
 

@@ -1,5 +1,5 @@
 -- The text of a reply, by its head and the bytes behind it.
-use Rattle.std.proofs.Common.{◌≡◌, ℕ, Bool, true, false, cond, List, [], ◌++◌, Option, Some, None, refl, sym, ap, ◌∙◌, append_assoc}
+use Rattle.std.proofs.Common.{◌≡◌, ℕ, true, false, cond, List, [], ◌++◌, Option, Some, None, refl, sym, ap, ◌∙◌, append_assoc}
 use Rattle.std.proofs.lemmas.List.{append-nil}
 use Rattle.http_model.specs.declared.reply.ReplyForm.{ReplyForm}
 use Rattle.http_model.specs.Replies.{head_text, text_of, written_body}
@@ -10,7 +10,6 @@ use Rattle.task_words.specs.declared.outcome.Outcome.{Outcome}
 use Rattle.task_words.specs.declared.outcome.Outcome.TheVariants.{Done}
 use Rattle.task_words.specs.declared.reply.MapReply.{MapReply}
 use Rattle.task_words.specs.declared.reply.MapReply.TheVariants.{Shown, Same, Refused}
-use Rattle.task_words.specs.declared.reply.Refusal.TheVariants as Map
 use Rattle.task_words.specs.declared.span.Span.{Span}
 use Rattle.task_words.specs.Outcomes.{IsShown}
 use Rattle.call_words.specs.Texts.{HasReply, outcome_reply, reply_in, front_of, front_if, text_if}

@@ -1,4 +1,3 @@
-use Rattle.std.proofs.Common.{◌≡◌}
 use Rattle.call_service.proofs.Asking.{untold_asks, event_asks}
 use Rattle.get_service.proofs.Acting.{event_made, piece_follows, first_brings_none}
 use Rattle.get_service.proofs.get.act.Goals as goal

@@ -1,4 +1,4 @@
-use Rattle.std.proofs.Common.{◌≡◌, ◌^◌, false, None, ℕ, ◌-◌}
+use Rattle.std.proofs.Common.{◌≡◌, ◌^◌, false, None, ◌-◌}
 use Rattle.task_get.specs.Tasks.{request_of, fault_of}
 use Rattle.call_service.specs.Serving.{Asks}
 use Rattle.get_service.specs.Getting.{IsUpTo, HasWritten}

@@ -1,13 +1,11 @@
-use Rattle.std.proofs.Common.{◌≡◌, false, refl, sym, ap, ◌∙◌, subst}
-use Rattle.std.proofs.lemmas.Result.{err_from_is_err_and, on_ok_weaker, IfErr-weaker}
+use Rattle.std.proofs.Common.{◌≡◌, sym, ap, ◌∙◌, subst}
+use Rattle.std.proofs.lemmas.Result.{on_ok_weaker, IfErr-weaker}
 use Rattle.std.specs.Io.KnownBytes.{Appends}
-use Rattle.realm_model.specs.Settings.{SettingsView}
 use Rattle.task_words.specs.Answers.{span_of}
 use Rattle.task_get.specs.declared.request.GetRequest.{GetRequest}
 use Rattle.task_get.specs.Tasks.{request_of, means}
-use Rattle.call_service.specs.Serving.{Asks}
 use Rattle.get_service.specs.Texts.{end_text, StopsEnd}
-use Rattle.get_service.specs.Getting.{IsUpTo, Replies, stand, StopsReply}
+use Rattle.get_service.specs.Getting.{Replies, stand, StopsReply}
 use Rattle.get_service.proofs.Getting.{ended}
 use Rattle.get_service.proofs.Stopping.{end_stops}
 use Rattle.get_service.proofs.get.send_reply.Goals as goal
@@ -27,8 +25,8 @@ returns-clause-written g c =
     let span : c.args.span ≡ span_of (request_of t).get = c.requires.span ∙ ap (λ (r : GetRequest). span_of r.get) (sym before.request) in
     on_ok_weaker c.send_end.result
     (λ ok. subst (λ r. Replies tells settings c.args.form r d (Appends taken now)) before.request
-        (ended tells settings c.args.form t d outcome before.up meant c.in_ok-begun.begun taken mid now ok.0 before.written
-            (subst (λ s. Appends mid now (end_text c.args.form s c.in_ok-begun.begun outcome)) span ok.1)))
+    (ended tells settings c.args.form t d outcome before.up meant c.in_ok-begun.begun taken mid now ok.0 before.written
+    (subst (λ s. Appends mid now (end_text c.args.form s c.in_ok-begun.begun outcome)) span ok.1)))
     c.send_end.ensures.ok
 
 pub returns-clause-asks : goal.returns-clause-asks
@@ -52,6 +50,6 @@ returns-clause-stopped g c =
     let span : c.args.span ≡ span_of (request_of t).get = c.requires.span ∙ ap (λ (r : GetRequest). span_of r.get) (sym before.request) in
     IfErr-weaker c.send_end.result (StopsEnd c.args.form c.args.span c.in_ok-begun.begun outcome mid now) (StopsReply tells g.D.Door.alone settings c.args.form (request_of c.args.task.now) found x (stand d now told))
     (λ fault stops. subst (λ r. StopsReply tells g.D.Door.alone settings c.args.form r found x (stand d now told) fault) before.request
-        (end_stops tells g.D.Door.alone settings c.args.form found t d outcome before.up meant c.in_ok-begun.begun fault x mid now told before.asks before.written
-            (subst (λ s. StopsEnd c.args.form s c.in_ok-begun.begun outcome mid now fault) span stops)))
+    (end_stops tells g.D.Door.alone settings c.args.form found t d outcome before.up meant c.in_ok-begun.begun fault x mid now told before.asks before.written
+    (subst (λ s. StopsEnd c.args.form s c.in_ok-begun.begun outcome mid now fault) span stops)))
     c.send_end.ensures.err

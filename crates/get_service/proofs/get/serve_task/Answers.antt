@@ -1,16 +1,13 @@
-use Rattle.std.proofs.Common.{rules, ◌≡◌, [], true, false, refl, sym, ap, ◌∙◌, subst}
+use Rattle.std.proofs.Common.{rules, ◌≡◌, true, false, subst}
 use Rattle.std.proofs.KnownBytes.{Appends-nil}
 use Rattle.std.proofs.lemmas.Result.{err_from_is_err_and}
 use Rattle.std.specs.Io.KnownBytes.{Appends}
 use Rattle.gw_io.specs.Ends.{EndsState}
-use Rattle.realm_model.specs.Settings.{SettingsView}
-use Rattle.task_words.specs.Answers.{span_of}
-use Rattle.task_get.specs.declared.request.GetRequest.{GetRequest}
 use Rattle.task_get.specs.Tasks.{request_of}
 use Rattle.call_service.specs.Bodies.{DropsBody}
 use Rattle.call_service.specs.Serving.{Asks, side}
 use Rattle.call_service.proofs.Passing.{none_given}
-use Rattle.get_service.specs.Getting.{IsUpTo, brought_at, Replies, stand, StopsReply}
+use Rattle.get_service.specs.Getting.{Replies, stand, StopsReply}
 use Rattle.get_service.proofs.Serving.{row_stops, body_stops, reply_stops, replied}
 use Rattle.get_service.proofs.get.serve_task.Goals as goal
 
