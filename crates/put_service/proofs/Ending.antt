@@ -1,0 +1,76 @@
+-- How the task of a PUT ended.
+use Rattle.std.proofs.Common.{◌≡◌, ◌≢◌, ℕ, true, false, List, [], ◌++◌, Option, Some, None, refl, sym, ap, ◌∙◌, subst}
+use Rattle.realm_model.specs.Accounts.{Account}
+use Rattle.realm_model.specs.Owns.{OwnEvent, own_events}
+use Rattle.realm_model.specs.Settings.{SettingsView}
+use Rattle.realm_model.specs.Doors.{DoorView, actor_at}
+use Rattle.realm_model.specs.Histories.{account_of}
+use Rattle.task_words.specs.declared.asker.Asker.{Asker}
+use Rattle.task_words.specs.declared.command.PutCommand.{PutCommand}
+use Rattle.task_words.specs.declared.command.BodyEnd.{BodyEnd}
+use Rattle.task_words.specs.declared.command.BodyEnd.TheVariants.{Whole, Failed}
+use Rattle.task_words.specs.declared.outcome.Outcome.{Outcome}
+use Rattle.task_words.specs.declared.outcome.Outcome.TheVariants.{Done, BodyFailed, Busy, MovedOften, RacedOften, LateTag, LateRead, NoSpace}
+use Rattle.task_words.specs.declared.reply.MapReply.TheVariants.{Stored, Shown, Same, Counted, Refused}
+use Rattle.task_words.specs.declared.reply.Refusal.TheVariants.{Unauthorized, Denied, NoContainer, NoObject, NotMet, NoRange, OtherEtag}
+use Rattle.task_words.specs.Outcomes.{Body, IsPutOutcome}
+use Rattle.task_put.specs.declared.stage.PutRequest.{PutRequest}
+use Rattle.task_put.specs.declared.stage.Stage.{Stage}
+use Rattle.task_put.specs.declared.stage.Stage.TheVariants.{Looking, Feeding, LookingAgain, Preparing, Announcing, Writing, Cancelling, Completing, LookingForShard, Ended}
+use Rattle.task_put.specs.declared.task.PutTask.{PutTask}
+use Rattle.task_put.specs.Stages.{IsOver}
+use Rattle.task_put.specs.Tasks.{request_of, stage_of, fault_of, fits}
+use Rattle.task_put.specs.Fits.{body_of}
+use Rattle.task_put.proofs.Stepping.{means_it}
+use Rattle.call_words.specs.Calls.{whole}
+use Rattle.call_service.specs.Serving.{is_by_end}
+use Rattle.put_service.specs.Standing.{IsEnd, IsByEvent, IsByBody, IsSteadyAt}
+
+-- an event brought the outcome
+pub by_event : (r : PutRequest) (stage : Stage) → IsSteadyAt r stage → IsOver stage → (outcome : Outcome) × (stage ≡ Ended outcome) × IsByEvent outcome
+by_event r (Ended outcome) s o = (outcome, (refl, s))
+by_event r (Looking draft) s o = absurd o
+by_event r (Feeding write key draft) s o = absurd o
+by_event r (LookingAgain c) s o = absurd o
+by_event r (Preparing key c) s o = absurd o
+by_event r (Announcing key guard c) s o = absurd o
+by_event r (Writing key guard c) s o = absurd o
+by_event r (Cancelling key tag a) s o = absurd o
+by_event r (Completing key change) s o = absurd o
+by_event r (LookingForShard change) s o = absurd o
+
+-- the end of a body that was read whole brought it
+pub by_whole_body : (end : Option BodyEnd) (stage : Stage) → end ≡ Some Whole → IsByBody end stage → stage ≡ Ended (Done (Refused OtherEtag))
+by_whole_body (Some Whole) (Ended (Done (Refused OtherEtag))) whole is = refl
+by_whole_body (Some Failed) stage whole is = let clash : Some Failed ≡ Some Whole = whole in absurd (cc)
+by_whole_body end stage whole is = absurd is
+
+-- as long as the body has not ended, its end brought nothing
+pub unended : (end : Option BodyEnd) (stage : Stage) → end ≡ None → IsByBody end stage → ⊥
+unended None stage none is = is
+unended (Some Whole) stage none is = let clash : Some Whole ≡ None = none in absurd (cc)
+unended (Some Failed) stage none is = let clash : Some Failed ≡ None = none in absurd (cc)
+
+-- ---- what an outcome means
+
+module _ (zone : ℕ) (asker : Asker) (c : PutCommand) (bytes given : List ℕ) (y : Account) (events : List OwnEvent) where
+  -- where the outcome was there before the end of the body, it says nothing of the body
+  pub before_end : (outcome : Outcome) → IsByEvent outcome → IsPutOutcome zone asker c (record { bytes = bytes; end = None }) outcome y events → IsPutOutcome zone asker c (whole given) outcome y events
+  before_end (Done (Stored etag stamp)) is m = let clash : None ≡ Some Whole = m.0.whole in absurd (cc)
+  before_end (Done (Refused NotMet)) is m = let clash : None ≡ Some Whole = m.0.whole in absurd (cc)
+  before_end (Done (Refused OtherEtag)) is m = let clash : None ≡ Some Whole = m.0.whole in absurd (cc)
+  before_end (Done (Refused Unauthorized)) is m = m
+  before_end (Done (Refused (Denied rule))) is m = m
+  before_end (Done (Refused NoContainer)) is m = m
+  before_end (Done reply) is m = absurd m
+  before_end BodyFailed is m = absurd is.0
+  before_end (Busy id) is m = m
+  before_end MovedOften is m = m
+  before_end LateTag is m = m
+  before_end (NoSpace free needed) is m = m
+  before_end outcome is m = absurd m
+
+-- what the outcome of a task says of the events of its actor
+pub means_put : (t : PutTask) (settings : SettingsView) (d : DoorView) (outcome : Outcome) → stage_of t ≡ Ended outcome → fault_of t ≡ None → fits t settings d
+    → IsPutOutcome (request_of t).zone (request_of t).asker (request_of t).command (body_of (request_of t)) outcome (account_of settings d.seen (actor_at d)) (own_events d.seen (actor_at d))
+means_put t settings d outcome ended sound f = (means_it t settings d outcome ended sound f).0
