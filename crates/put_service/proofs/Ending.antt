@@ -28,7 +28,7 @@ use Rattle.put_service.specs.Standing.{IsEnd, IsByEvent, IsByBody, IsSteadyAt}
 
 -- an event brought the outcome
 pub by_event : (r : PutRequest) (stage : Stage) → IsSteadyAt r stage → IsOver stage → (outcome : Outcome) × (stage ≡ Ended outcome) × IsByEvent outcome
-by_event r (Ended outcome) s o = (outcome, (refl, s))
+by_event r (Ended outcome) s o = (outcome, refl, s)
 by_event r (Looking draft) s o = absurd o
 by_event r (Feeding write key draft) s o = absurd o
 by_event r (LookingAgain c) s o = absurd o

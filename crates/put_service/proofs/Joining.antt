@@ -1,11 +1,14 @@
 -- The parts of the service of a PUT, one behind the other.
-use Rattle.std.proofs.Common.{◌≡◌, ℕ, ◌^◌, Bool, true, false, List, [], ◌++◌, length, Option, None, refl, sym, ap, ◌∙◌, subst, append_assoc}
+use Rattle.std.proofs.Common.{◌≡◌, ℕ, ◌+◌, ◌-◌, ◌≤◌, ◌^◌, Bool, true, false, List, [], ◌++◌, take, drop, length, Option, None, refl, sym, ap, ◌∙◌, subst, append_assoc, length-append, length-drop, take-append-drop, arith}
+use Rattle.std.proofs.lemmas.List.{take_all}
+use Rattle.std.proofs.lemmas.List.{append-nil}
 use Rattle.realm_model.specs.Settings.{SettingsView}
 use Rattle.realm_model.specs.Doors.{DoorView}
 use Rattle.realm_model.specs.declared.event.Event.{Event}
 use Rattle.http_intake.specs.Intake.{IntakeState}
 use Rattle.task_put.specs.declared.task.PutTask.{PutTask}
 use Rattle.task_put.specs.declared.stage.PutRequest.{PutRequest}
+use Rattle.task_put.specs.Bodies.{most_bytes}
 use Rattle.task_put.specs.Taking.{fed_request}
 use Rattle.task_put.specs.Tasks.{request_of}
 use Rattle.call_service.specs.Bodies.{HasGiven}
@@ -21,8 +24,8 @@ module _ (tells alone : Type 0) (settings : SettingsView) (found : List Event) w
   -- a step was refused behind so much of the body
   pub step_stops : (fault : ServeFault) (x y : Place) (given : List ℕ) (more : Bool) → StopsStep tells found fault
       → HasGiven x.intake y.intake x.left y.left given → AsksAt tells alone settings more x y → StopsBody tells alone settings found x y fault
-  step_stops faults.OutOfMemory x y given more stops has asks = (given, (has, (more, asks)))
-  step_stops faults.Worn x y given more stops has asks = (stops, (given, (has, (more, asks))))
+  step_stops faults.OutOfMemory x y given more stops has asks = (given, has, more, asks)
+  step_stops faults.Worn x y given more stops has asks = (stops, given, has, more, asks)
   step_stops fault x y given more stops has asks = absurd stops
 
   -- events were made before the body was read
@@ -31,19 +34,36 @@ module _ (tells alone : Type 0) (settings : SettingsView) (found : List Event) w
       → StopsBody tells alone settings found (place d i l a) (place f j k c) fault
   stops_behind now d e f i j l k a b c faults.ReadFault same x (fails, y) = (fails, both_ask tells alone settings now false d e f a b c same x y)
   stops_behind now d e f i j l k a b c faults.OutOfMemory same x (given, has, more, y) =
-      (given, (has, (more, both_ask tells alone settings now more d e f a b c same x y)))
+      (given, has, more, both_ask tells alone settings now more d e f a b c same x y)
   stops_behind now d e f i j l k a b c faults.Worn same x (worn, given, has, more, y) =
-      (worn, (given, (has, (more, both_ask tells alone settings now more d e f a b c same x y))))
+      (worn, given, has, more, both_ask tells alone settings now more d e f a b c same x y)
   stops_behind now d e f i j l k a b c fault same x y = absurd y
 
 -- the task took the body behind its first events
 pub takes_behind : (old mid new : PutTask) (d e f : DoorView) (i j : IntakeState) (l k : Option (List ℕ)) (a b c : Option (List ℕ)) (taken : Taken) → request_of mid ≡ request_of old
     → TakesBody mid new (place e i l b) (place f j k c) taken → TakesBody old new (place d i l a) (place f j k c) taken
-takes_behind old mid new d e f i j l k a b c takens.Whole same (given, all, steady, wants, is) =
-    (given, (all, (steady, (wants, is ∙ ap (λ r. fed_request r given) same))))
+takes_behind old mid new d e f i j l k a b c takens.Whole same (given, all, (steady, wants, is)) =
+    (given, all, (steady, wants, is ∙ ap (λ r. fed_request r given) same))
 takes_behind old mid new d e f i j l k a b c takens.Over same x = x
 takes_behind old mid new d e f i j l k a b c takens.Cut same x = x
 
 -- bytes behind bytes
 pub fed_both : (r : PutRequest) (first second : List ℕ) → fed_request (fed_request r first) second ≡ fed_request r (first ++ second)
 fed_both r first second = ap (λ l. record { zone = r.zone; asker = r.asker; command = r.command; bytes = l; end = r.end }) (append_assoc r.bytes first second)
+
+pub fed_none : (r : PutRequest) → fed_request r [] ≡ r
+fed_none r = ap (λ l. record { zone = r.zone; asker = r.asker; command = r.command; bytes = l; end = r.end }) (append-nil r.bytes)
+
+-- what is left behind the first bytes
+pub seam : (taken xs bytes : List ℕ) (n : ℕ) → taken ++ xs ≡ bytes → (taken ++ take n xs) ++ take (length xs - n) (drop n xs) ≡ bytes
+seam taken xs bytes n is =
+    append_assoc taken (take n xs) (take (length xs - n) (drop n xs))
+    ∙ ap (λ l. taken ++ (take n xs ++ l)) (take_all (length xs - n) (drop n xs) (omega (arith, length-drop n xs)))
+    ∙ ap (λ l. taken ++ l) (take-append-drop n xs) ∙ is
+
+pub few_left : (r s : PutRequest) (xs : List ℕ) (n : ℕ) → s ≡ fed_request r (take n xs) → length r.bytes + length xs ≤ most_bytes → length s.bytes + length (take (length xs - n) (drop n xs)) ≤ most_bytes
+few_left r s xs n is few =
+    let left = take (length xs - n) (drop n xs) in
+    let all : length (take n xs ++ left) ≡ length xs = ap length (seam [] xs xs n refl) in
+    subst (λ (q : PutRequest). length q.bytes + length left ≤ most_bytes) (sym is)
+    (omega (arith, length-append r.bytes (take n xs), length-append (take n xs) left, all, few))
