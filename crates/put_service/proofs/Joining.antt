@@ -25,7 +25,7 @@ module _ (tells alone : Type 0) (settings : SettingsView) (found : List Event) w
   pub step_stops : (fault : ServeFault) (x y : Place) (given : List ℕ) (more : Bool) → StopsStep tells found fault
       → HasGiven x.intake y.intake x.left y.left given → AsksAt tells alone settings more x y → StopsBody tells alone settings found x y fault
   step_stops faults.OutOfMemory x y given more stops has asks = (given, has, more, asks)
-  step_stops faults.Worn x y given more stops has asks = (stops, given, has, more, asks)
+  step_stops faults.Worn x y given more stops has asks = (stops, (given, has, more, asks))
   step_stops fault x y given more stops has asks = absurd stops
 
   -- events were made before the body was read
@@ -35,8 +35,8 @@ module _ (tells alone : Type 0) (settings : SettingsView) (found : List Event) w
   stops_behind now d e f i j l k a b c faults.ReadFault same x (fails, y) = (fails, both_ask tells alone settings now false d e f a b c same x y)
   stops_behind now d e f i j l k a b c faults.OutOfMemory same x (given, has, more, y) =
       (given, has, more, both_ask tells alone settings now more d e f a b c same x y)
-  stops_behind now d e f i j l k a b c faults.Worn same x (worn, given, has, more, y) =
-      (worn, given, has, more, both_ask tells alone settings now more d e f a b c same x y)
+  stops_behind now d e f i j l k a b c faults.Worn same x (worn, (given, has, more, y)) =
+      (worn, (given, has, more, both_ask tells alone settings now more d e f a b c same x y))
   stops_behind now d e f i j l k a b c fault same x y = absurd y
 
 -- the task took the body behind its first events
