@@ -44,7 +44,8 @@ pub takes_behind : (old mid new : PutTask) (d e f : DoorView) (i j : IntakeState
     → TakesBody mid new (place e i l b) (place f j k c) taken → TakesBody old new (place d i l a) (place f j k c) taken
 takes_behind old mid new d e f i j l k a b c takens.Whole same (given, all, (steady, wants, is)) =
     (given, all, (steady, wants, is ∙ ap (λ r. fed_request r given) same))
-takes_behind old mid new d e f i j l k a b c takens.Over same x = x
+takes_behind old mid new d e f i j l k a b c takens.Over same (given, has, (steady, over, front, is)) =
+    (given, has, (steady, over, front, is ∙ ap (λ r. fed_request r front) same))
 takes_behind old mid new d e f i j l k a b c takens.Cut same x = x
 
 -- bytes behind bytes

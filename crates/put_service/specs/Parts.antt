@@ -48,10 +48,11 @@ place door intake left told = record { door = door; intake = intake; left = left
 abbrev pub AsksAt : Type 0 → Type 0 → SettingsView → Bool → Place → Place → Type 0
 AsksAt tells alone settings more x y = Asks tells alone settings more x.door y.door x.told y.told
 
--- the task took all of these bytes, and wants more; or its outcome was there before
+-- the task took all of these bytes, and wants more; or a front of them, and its outcome was there
 abbrev pub TakesBytes : PutTask → PutTask → List ℕ → Bool → Type 0
 TakesBytes old new bytes true = IsSteady new × WantsBytes (stage_of new) × (request_of new ≡ fed_request (request_of old) bytes)
-TakesBytes old new bytes false = IsSteady new × IsOver (stage_of new) × ((request_of new).end ≡ None)
+TakesBytes old new bytes false =
+    IsSteady new × IsOver (stage_of new) × (front : List ℕ) × (request_of new ≡ fed_request (request_of old) front)
 
 -- the body was read so far, and the task took it so
 abbrev pub TakesBody : PutTask → PutTask → Place → Place → Taken → Type 0

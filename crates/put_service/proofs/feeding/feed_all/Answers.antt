@@ -63,3 +63,16 @@ parts-preserved g c =
       home = c.advance.ensures.home ∙ i.home;
       plan = c.advance.ensures.plan ∙ i.plan;
     }
+
+pub returns-in-Over-clause-taken : goal.returns-in-Over-clause-taken
+returns-in-Over-clause-taken g c =
+    let i = c.parts.invariant in
+    let pauses = subst (λ (p : Pause). PausesAt p c.advance.new.task) c.in-Over.is c.in_ok-advance.ensures.pauses in
+    let part = take c.in-Ok.count c.parts.rest.now in
+    let request : request_of c.advance.new.task ≡ fed_request (request_of c.parts.task) part = c.advance.ensures.request ∙ ap request_of c.in-Ok.ensures.task in
+    (
+      pauses.0,
+      pauses.1,
+      i.so_far.0 ++ part,
+      request ∙ ap (λ r. fed_request r part) i.so_far.2 ∙ fed_both (request_of c.args.task.now) i.so_far.0 part,
+    )

@@ -51,10 +51,16 @@ returns-then-not-branch-clause-taken g c =
     let i = c.pieces.invariant in
     let piece = take c.in-Bytes.count c.next_piece.new.buffer in
     let over : c.in_ok-feed_all-in-Bytes.field-0 ≡ false = search rules in
+    let taken = subst (λ b. TakesBytes c.pieces.task c.feed_all.new.task piece b) over c.in_ok-feed_all-in-Bytes.ensures.taken in
     (
       i.so_far.0 ++ piece,
       give_more c.args.intake.now c.pieces.intake (g.S.Source.left c.args.source.now) (g.S.Source.left c.pieces.source) (g.S.Source.left c.next_piece.new.source) i.so_far.0 piece c.next_piece.new.intake i.so_far.1 c.in-Bytes.ensures.passed.0,
-      subst (λ b. TakesBytes c.pieces.task c.feed_all.new.task piece b) over c.in_ok-feed_all-in-Bytes.ensures.taken,
+      (
+        taken.0,
+        taken.1,
+        i.so_far.0 ++ taken.2,
+        taken.3 ∙ ap (λ r. fed_request r taken.2) i.so_far.2 ∙ fed_both (request_of c.args.task.now) i.so_far.0 taken.2,
+      ),
     )
 
 pub returns-then-not-branch-clause-asks : goal.returns-then-not-branch-clause-asks
