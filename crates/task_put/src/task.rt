@@ -6,9 +6,11 @@ ghost use Rattle.realm_model.specs.Histories.{phase_of, account_of};
 ghost use Rattle.realm_model.specs.Phases.{fresh};
 ghost use Rattle.realm_model.specs.Accounts.{blank};
 ghost use Rattle.realm_model.specs.Owns.{own_events};
-ghost use Rattle.task_put.specs.Bodies.{first_end};
+ghost use Rattle.task_put.specs.Bodies.{first_end, no_bytes};
 ghost use Rattle.task_put.specs.Taking.{room_at};
-ghost use Rattle.task_put.specs.Tasks.{request_of, fault_of, fed, body_ended, fits};
+ghost use Rattle.task_put.specs.declared.stage.Draft.{Draft};
+ghost use Rattle.task_put.specs.declared.stage.Stage.TheVariants.{Looking};
+ghost use Rattle.task_put.specs.Tasks.{request_of, stage_of, fault_of, fed, body_ended, fits};
 ghost use Rattle.task_put.specs.Fits.{HasShards};
 
 use crate::advancing::{resumed, tried_after};
@@ -56,6 +58,7 @@ impl PutTask {
             → phase_of settings.now d.seen (actor_at d) ≡ fresh
             → own_events d.seen (actor_at d) ≡ []
             → fits t settings.now d) }
+        ensures looks { IfOk result (λ t. (draft : Draft) × (stage_of t ≡ Looking draft) × (draft.body ≡ no_bytes settings.now.stripe)) }
         ensures sound { IfOk result (λ t. fault_of t ≡ None) }
     {
         let sent = Snapshot::of(&put);
