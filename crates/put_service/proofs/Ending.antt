@@ -1,5 +1,5 @@
 -- How the task of a PUT ended.
-use Rattle.std.proofs.Common.{◌≡◌, ◌≢◌, ℕ, true, false, List, [], ◌++◌, Option, Some, None, refl, sym, ap, ◌∙◌, subst}
+use Rattle.std.proofs.Common.{◌≡◌, ◌≢◌, ℕ, Bool, true, false, List, [], ◌++◌, Option, Some, None, refl, sym, ap, ◌∙◌, subst}
 use Rattle.realm_model.specs.Accounts.{Account}
 use Rattle.realm_model.specs.Owns.{OwnEvent, own_events}
 use Rattle.realm_model.specs.Settings.{SettingsView}
@@ -25,11 +25,16 @@ use Rattle.task_put.specs.Tasks.{request_of, stage_of, fault_of, fits}
 use Rattle.task_put.specs.Fits.{body_of}
 use Rattle.task_put.proofs.Stepping.{means_it}
 use Rattle.call_words.specs.Calls.{whole}
-use Rattle.call_service.specs.Bodies.{HasGivenAll}
+use Rattle.http_intake.specs.Intake.{IntakeState}
+use Rattle.realm_model.specs.declared.event.Event.{Event}
+use Rattle.call_service.specs.Bodies.{HasGiven, HasGivenAll, DropsBody, LeavesBody}
+use Rattle.call_service.specs.declared.fault.ServeFault.{ServeFault}
+use Rattle.call_service.specs.declared.fault.ServeFault.TheVariants.{ReadFault}
+use Rattle.call_service.proofs.Passing.{give_all, cut_behind, fail_behind}
 use Rattle.call_service.specs.Serving.{is_by_end, Asks}
 use Rattle.call_service.proofs.Asking.{both_ask}
 use Rattle.put_service.specs.Standing.{IsEnd, IsByEvent, IsByBody, IsSteadyAt, IsSteady}
-use Rattle.put_service.specs.Parts.{Place, AsksAt, EndsSo, HasEnded}
+use Rattle.put_service.specs.Parts.{Place, AsksAt, EndsSo, HasEnded, RunsTask, StopsBody}
 
 -- an event brought the outcome
 pub by_event : (r : PutRequest) (stage : Stage) → IsSteadyAt r stage → IsOver stage → (outcome : Outcome) × (stage ≡ Ended outcome) × IsByEvent outcome
@@ -135,3 +140,18 @@ ended_behind tells alone settings now r t x y d b body same given request none u
           subst (λ (w : Body). IsPutOutcome r.zone r.asker r.command w ends.outcome account events) (λ i. record { bytes = none i ++ body; end = first_end (unended i) Whole }) at_request;
       asks = both_ask tells alone settings now (is_by_end ends.outcome) x.door d y.door x.told b y.told same first ends.asks;
     }
+
+-- what is left of a body behind the outcome is dropped, or the input ends inside it
+pub drops_behind : (tells alone : Type 0) (settings : SettingsView) (r : PutRequest) (t : PutTask) (x y : Place) (i : IntakeState) (l : Option (List ℕ)) (given front : List ℕ) (is_whole : Bool) → HasGiven x.intake i x.left l given
+    → IsSteady t → IsOver (stage_of t) → request_of t ≡ fed_request r front → r.end ≡ None → fault_of t ≡ None → (tells → fits t settings y.door) → AsksAt tells alone settings false x y
+    → DropsBody i y.intake l y.left is_whole → RunsTask tells alone settings r t x y is_whole
+drops_behind tells alone settings r t x y i l given front true has s over request unended sound up asks (more, all) =
+    ended_before tells alone settings r t x y (given ++ more) front (give_all x.intake i x.left l y.left given more y.intake has all) s over request unended sound up asks
+drops_behind tells alone settings r t x y i l given front false has s over request unended sound up asks (more, cut) =
+    ((given ++ more, cut_behind x.intake i x.left l y.left given more has cut), asks)
+
+pub leaves_behind : (tells alone : Type 0) (settings : SettingsView) (found : List Event) (x y : Place) (i : IntakeState) (l : Option (List ℕ)) (given : List ℕ) (fault : ServeFault) → HasGiven x.intake i x.left l given
+    → AsksAt tells alone settings false x y → LeavesBody i l y.left fault → StopsBody tells alone settings found x y fault
+leaves_behind tells alone settings found x y i l given ReadFault has asks (more, fails) =
+    ((given ++ more, fail_behind x.intake i x.left l y.left given more has fails), asks)
+leaves_behind tells alone settings found x y i l given fault has asks leaves = absurd leaves

@@ -3,3 +3,4 @@ pub mod Pausing
 pub mod Joining
 pub mod Ending
 pub mod Replying
+pub mod Serving

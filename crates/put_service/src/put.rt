@@ -1,4 +1,4 @@
-ghost use Rattle.std.specs.Prelude.{◌≡◌, ◌≤◌, ◌<◌, ◌⊎◌, [], Err, None, true, false, length, IfOk, IfErr, OnOk, OnErr};
+ghost use Rattle.std.specs.Prelude.{◌≡◌, ◌≤◌, ◌<◌, [], None, true, false, length, IfOk, IfErr, OnOk, OnErr};
 ghost use Rattle.std.specs.Io.KnownBytes.{Appends};
 ghost use Rattle.http_intake.specs.Intake.{IsUnchunked};
 ghost use Rattle.swift_requests.specs.declared.asked.Asked.TheVariants.{Put};
@@ -8,10 +8,9 @@ ghost use Rattle.task_put.specs.Tasks.{request_of, stage_of, fault_of};
 ghost use Rattle.task_words.specs.declared.command.BodyEnd.TheVariants.{Whole};
 ghost use Rattle.call_words.specs.Texts.{outcome_reply, text_if};
 ghost use Rattle.call_service.specs.Bodies.{ReadsAtFault};
-ghost use Rattle.call_service.specs.Serving.{Asks, AppendsFront, WritesAtFault, IsNew, IsServed, IsStopped, HasServeCause, side};
-ghost use Rattle.call_service.specs.declared.fault.ServeFault.TheVariants.{OutOfMemory, WriteFault};
+ghost use Rattle.call_service.specs.Serving.{Asks, WritesAtFault, IsNew, IsServed, IsStopped, HasServeCause, side};
 ghost use Rattle.put_service.specs.Standing.{IsUp, IsSteady, IsEnd};
-ghost use Rattle.put_service.specs.Parts.{StopsStep, StopsBody, EndsSo, RunsTask, place};
+ghost use Rattle.put_service.specs.Parts.{StopsStep, StopsBody, EndsSo, RunsTask, LeavesReply, place};
 
 use crate::feeding::{Taken, read_body};
 use crate::stepping::{Pause, advance};
@@ -107,9 +106,7 @@ fn send_reply<K: Sink>(
 ) -> Result<(), ServeFault>
     requires { IsEnd outcome.now }
     ensures ok { OnOk result (Appends (K.taken sink.old) (K.taken sink.new) (text_if form (outcome_reply None outcome.now) [])) }
-    ensures memory { result ≡ Err OutOfMemory → Appends (K.taken sink.old) (K.taken sink.new) [] }
-    ensures write { result ≡ Err WriteFault → AppendsFront (K.taken sink.old) (K.taken sink.new) (text_if form (outcome_reply None outcome.now) []) }
-    ensures fault { IfErr result (λ fault. (fault ≡ OutOfMemory) ⊎ (fault ≡ WriteFault)) }
+    ensures stopped { IfErr result (LeavesReply (K.taken sink.old) (K.taken sink.new) (text_if form (outcome_reply None outcome.now) [])) }
     ensures cause { WritesAtFault (K.faults sink.old) (K.faults sink.new) result }
 {
     out.clear();
