@@ -49,8 +49,10 @@ takes_behind old mid new d e f i j l k a b c takens.Over same (given, has, (stea
 takes_behind old mid new d e f i j l k a b c takens.Cut same x = x
 
 -- bytes behind bytes
-pub fed_both : (r : PutRequest) (first second : List ℕ) → fed_request (fed_request r first) second ≡ fed_request r (first ++ second)
-fed_both r first second = ap (λ l. record { zone = r.zone; asker = r.asker; command = r.command; bytes = l; end = r.end }) (append_assoc r.bytes first second)
+pub fed_behind : (r s t : PutRequest) (first second : List ℕ) → s ≡ fed_request r first → t ≡ fed_request s second → t ≡ fed_request r (first ++ second)
+fed_behind r s t first second before behind =
+    behind ∙ ap (λ q. fed_request q second) before
+    ∙ ap (λ l. record { zone = r.zone; asker = r.asker; command = r.command; bytes = l; end = r.end }) (append_assoc r.bytes first second)
 
 pub fed_none : (r : PutRequest) → fed_request r [] ≡ r
 fed_none r = ap (λ l. record { zone = r.zone; asker = r.asker; command = r.command; bytes = l; end = r.end }) (append-nil r.bytes)

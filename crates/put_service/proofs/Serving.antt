@@ -26,7 +26,7 @@ use Rattle.put_service.specs.Standing.{IsSteady, IsSteadyAt}
 use Rattle.put_service.specs.Parts.{place, AsksAt, StopsBody, HasEnded, RunsTask, LeavesReply}
 use Rattle.put_service.proofs.Replying.{end_has_reply}
 
-outcome_in : Stage → Outcome
+abbrev outcome_in : Stage → Outcome
 outcome_in (Ended outcome) = outcome
 outcome_in stage = MovedOften
 

@@ -7,7 +7,7 @@ use Rattle.call_service.proofs.Asking.{none_asks, both_ask}
 use Rattle.put_service.specs.Standing.{IsUp, PausesAt, is_untold}
 use Rattle.put_service.specs.declared.stepping.Pause.{Pause}
 use Rattle.put_service.specs.declared.stepping.Pause.TheVariants.{Wants, Over}
-use Rattle.put_service.proofs.Joining.{fed_none, fed_both, seam, few_left}
+use Rattle.put_service.proofs.Joining.{fed_none, fed_behind, seam, few_left}
 use Rattle.put_service.proofs.feeding.feed_all.Goals as goal
 
 pub parts-init : goal.parts-init
@@ -53,7 +53,7 @@ parts-preserved g c =
       so_far = (
         i.so_far.0 ++ part,
         seam i.so_far.0 c.parts.rest.now c.args.bytes.now c.in-Ok.count i.so_far.1,
-        request ∙ ap (λ r. fed_request r part) i.so_far.2 ∙ fed_both (request_of c.args.task.now) i.so_far.0 part,
+        fed_behind (request_of c.args.task.now) (request_of c.parts.task) (request_of c.advance.new.task) i.so_far.0 part i.so_far.2 request,
       );
       up = subst (λ (s : SettingsView). IsUp g.D.Door.tells s c.advance.new.task (g.D.Door.told c.advance.new.door)) i.settings c.advance.ensures.up;
       asks = both_ask g.D.Door.tells g.D.Door.alone (g.D.Door.settings c.args.door.now) (g.D.Door.settings c.parts.door) false (g.D.Door.told c.args.door.now) (g.D.Door.told c.parts.door) (g.D.Door.told c.advance.new.door) (g.C.Clock.told c.args.clock.now) (g.C.Clock.told c.parts.clock) (g.C.Clock.told c.advance.new.clock)
@@ -74,5 +74,5 @@ returns-in-Over-clause-taken g c =
       pauses.0,
       pauses.1,
       i.so_far.0 ++ part,
-      request ∙ ap (λ r. fed_request r part) i.so_far.2 ∙ fed_both (request_of c.args.task.now) i.so_far.0 part,
+      fed_behind (request_of c.args.task.now) (request_of c.parts.task) (request_of c.advance.new.task) i.so_far.0 part i.so_far.2 request,
     )

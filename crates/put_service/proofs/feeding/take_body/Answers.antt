@@ -9,7 +9,7 @@ use Rattle.call_service.proofs.Asking.{none_asks, both_ask}
 use Rattle.call_service.proofs.Passing.{none_given, give_more, give_all, cut_behind, fail_behind}
 use Rattle.put_service.specs.Standing.{IsUp}
 use Rattle.put_service.specs.Parts.{TakesBytes, place}
-use Rattle.put_service.proofs.Joining.{fed_none, fed_both, step_stops}
+use Rattle.put_service.proofs.Joining.{fed_none, fed_behind, step_stops}
 use Rattle.put_service.proofs.feeding.take_body.Goals as goal
 
 pub pieces-init : goal.pieces-init
@@ -59,7 +59,7 @@ returns-then-not-branch-clause-taken g c =
         taken.0,
         taken.1,
         i.so_far.0 ++ taken.2,
-        taken.3 ∙ ap (λ r. fed_request r taken.2) i.so_far.2 ∙ fed_both (request_of c.args.task.now) i.so_far.0 taken.2,
+        fed_behind (request_of c.args.task.now) (request_of c.pieces.task) (request_of c.feed_all.new.task) i.so_far.0 taken.2 i.so_far.2 taken.3,
       ),
     )
 
@@ -93,7 +93,7 @@ pieces-preserved g c =
       so_far = (
         i.so_far.0 ++ piece,
         give_more c.args.intake.now c.pieces.intake (g.S.Source.left c.args.source.now) (g.S.Source.left c.pieces.source) (g.S.Source.left c.next_piece.new.source) i.so_far.0 piece c.next_piece.new.intake i.so_far.1 gives,
-        taken.2 ∙ ap (λ r. fed_request r piece) i.so_far.2 ∙ fed_both (request_of c.args.task.now) i.so_far.0 piece,
+        fed_behind (request_of c.args.task.now) (request_of c.pieces.task) (request_of c.feed_all.new.task) i.so_far.0 piece i.so_far.2 taken.2,
       );
       up = subst (λ (s : SettingsView). IsUp g.D.Door.tells s c.feed_all.new.task (g.D.Door.told c.feed_all.new.door)) i.settings c.feed_all.ensures.up;
       asks = both_ask g.D.Door.tells g.D.Door.alone (g.D.Door.settings c.args.door.now) (g.D.Door.settings c.pieces.door) false (g.D.Door.told c.args.door.now) (g.D.Door.told c.pieces.door) (g.D.Door.told c.feed_all.new.door) (g.C.Clock.told c.args.clock.now) (g.C.Clock.told c.pieces.clock) (g.C.Clock.told c.feed_all.new.clock)
@@ -108,7 +108,7 @@ returns-in-Whole-clause-taken g c =
     let i = c.pieces.invariant in (
       i.so_far.0 ++ [],
       give_all c.args.intake.now c.pieces.intake (g.S.Source.left c.args.source.now) (g.S.Source.left c.pieces.source) (g.S.Source.left c.next_piece.new.source) i.so_far.0 [] c.next_piece.new.intake i.so_far.1 c.in-Whole.ensures.passed,
-      (i.steady, i.wants, i.so_far.2 ∙ sym (fed_none (fed_request (request_of c.args.task.now) i.so_far.0)) ∙ fed_both (request_of c.args.task.now) i.so_far.0 []),
+      (i.steady, i.wants, fed_behind (request_of c.args.task.now) (request_of c.pieces.task) (request_of c.pieces.task) i.so_far.0 [] i.so_far.2 (sym (fed_none (request_of c.pieces.task)))),
     )
 
 pub returns-in-Cut-clause-taken : goal.returns-in-Cut-clause-taken
