@@ -1,5 +1,5 @@
 -- How the task of a PUT ended.
-use Rattle.std.proofs.Common.{◌≡◌, ◌≢◌, ℕ, Bool, true, false, List, [], ◌++◌, Option, Some, None, refl, sym, ap, ◌∙◌, subst}
+use Rattle.std.proofs.Common.{◌≡◌, ℕ, Bool, true, false, List, [], ◌++◌, Option, Some, None, refl, sym, subst}
 use Rattle.realm_model.specs.Accounts.{Account}
 use Rattle.realm_model.specs.Owns.{OwnEvent, own_events}
 use Rattle.realm_model.specs.Settings.{SettingsView}
@@ -10,9 +10,9 @@ use Rattle.task_words.specs.declared.command.PutCommand.{PutCommand}
 use Rattle.task_words.specs.declared.command.BodyEnd.{BodyEnd}
 use Rattle.task_words.specs.declared.command.BodyEnd.TheVariants.{Whole, Failed}
 use Rattle.task_words.specs.declared.outcome.Outcome.{Outcome}
-use Rattle.task_words.specs.declared.outcome.Outcome.TheVariants.{Done, BodyFailed, Busy, MovedOften, RacedOften, LateTag, LateRead, NoSpace}
-use Rattle.task_words.specs.declared.reply.MapReply.TheVariants.{Stored, Shown, Same, Counted, Refused}
-use Rattle.task_words.specs.declared.reply.Refusal.TheVariants.{Unauthorized, Denied, NoContainer, NoObject, NotMet, NoRange, OtherEtag}
+use Rattle.task_words.specs.declared.outcome.Outcome.TheVariants.{Done, BodyFailed, Busy, MovedOften, LateTag, NoSpace}
+use Rattle.task_words.specs.declared.reply.MapReply.TheVariants.{Stored, Refused}
+use Rattle.task_words.specs.declared.reply.Refusal.TheVariants.{Unauthorized, Denied, NoContainer, NotMet, OtherEtag}
 use Rattle.task_words.specs.Outcomes.{Body, IsPutOutcome}
 use Rattle.task_put.specs.declared.stage.PutRequest.{PutRequest}
 use Rattle.task_put.specs.declared.stage.Stage.{Stage}
@@ -33,7 +33,7 @@ use Rattle.call_service.specs.declared.fault.ServeFault.TheVariants.{ReadFault}
 use Rattle.call_service.proofs.Passing.{give_all, cut_behind, fail_behind}
 use Rattle.call_service.specs.Serving.{is_by_end, Asks}
 use Rattle.call_service.proofs.Asking.{both_ask}
-use Rattle.put_service.specs.Standing.{IsEnd, IsByEvent, IsByBody, IsSteadyAt, IsSteady}
+use Rattle.put_service.specs.Standing.{IsByEvent, IsByBody, IsSteadyAt, IsSteady}
 use Rattle.put_service.specs.Parts.{Place, AsksAt, EndsSo, HasEnded, RunsTask, StopsBody}
 
 -- an event brought the outcome

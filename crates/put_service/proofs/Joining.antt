@@ -1,5 +1,5 @@
 -- The parts of the service of a PUT, one behind the other.
-use Rattle.std.proofs.Common.{◌≡◌, ℕ, ◌+◌, ◌-◌, ◌≤◌, ◌^◌, Bool, true, false, List, [], ◌++◌, take, drop, length, Option, None, refl, sym, ap, ◌∙◌, subst, append_assoc, length-append, length-drop, take-append-drop, arith}
+use Rattle.std.proofs.Common.{◌≡◌, ℕ, ◌+◌, ◌-◌, ◌≤◌, Bool, false, List, [], ◌++◌, take, drop, length, Option, refl, sym, ap, ◌∙◌, subst, append_assoc, length-append, length-drop, take-append-drop, arith}
 use Rattle.std.proofs.lemmas.List.{take_all}
 use Rattle.std.proofs.lemmas.List.{append-nil}
 use Rattle.realm_model.specs.Settings.{SettingsView}
@@ -10,7 +10,7 @@ use Rattle.task_put.specs.declared.task.PutTask.{PutTask}
 use Rattle.task_put.specs.declared.stage.PutRequest.{PutRequest}
 use Rattle.task_put.specs.Bodies.{most_bytes}
 use Rattle.task_put.specs.Taking.{fed_request}
-use Rattle.task_put.specs.Tasks.{request_of}
+use Rattle.task_put.specs.Tasks.{request_of, fed}
 use Rattle.call_service.specs.Bodies.{HasGiven}
 use Rattle.call_service.specs.Serving.{Asks}
 use Rattle.call_service.specs.declared.fault.ServeFault.{ServeFault}
@@ -53,6 +53,9 @@ pub fed_behind : (r s t : PutRequest) (first second : List ℕ) → s ≡ fed_re
 fed_behind r s t first second before behind =
     behind ∙ ap (λ q. fed_request q second) before
     ∙ ap (λ l. record { zone = r.zone; asker = r.asker; command = r.command; bytes = l; end = r.end }) (append_assoc r.bytes first second)
+
+pub request_fed : (t u v : PutTask) (more : List ℕ) → u ≡ fed t more → request_of v ≡ request_of u → request_of v ≡ fed_request (request_of t) more
+request_fed t u v more is same = same ∙ ap request_of is
 
 pub fed_none : (r : PutRequest) → fed_request r [] ≡ r
 fed_none r = ap (λ l. record { zone = r.zone; asker = r.asker; command = r.command; bytes = l; end = r.end }) (append-nil r.bytes)

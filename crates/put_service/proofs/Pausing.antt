@@ -1,6 +1,5 @@
 -- Where the task of a PUT pauses.
-use Rattle.std.proofs.Common.{◌≡◌, ◌≢◌, ℕ, ◌<◌, ◌≤◌, true, false, List, ◌++◌, length, Option, Some, None, refl, sym, ap, ◌∙◌, subst}
-use Rattle.rgw_types.specs.declared.pool_key.Key.{Key}
+use Rattle.std.proofs.Common.{◌≡◌, ℕ, ◌<◌, ◌≤◌, true, false, List, ◌++◌, length, Option, Some, None, refl, sym, ap, ◌∙◌, subst}
 use Rattle.task_words.specs.Answers.{is_other_etag}
 use Rattle.task_words.specs.declared.command.BodyEnd.{BodyEnd}
 use Rattle.task_words.specs.declared.command.BodyEnd.TheVariants as ends
@@ -12,12 +11,11 @@ use Rattle.task_put.proofs.Stepping.{settled_task}
 use Rattle.realm_model.specs.Settings.{SettingsView}
 use Rattle.realm_model.specs.Doors.{DoorView}
 use Rattle.task_put.specs.declared.stage.PutRequest.{PutRequest}
-use Rattle.task_put.specs.declared.stage.Draft.{Draft}
 use Rattle.task_put.specs.declared.stage.After.TheVariants.{Again, End}
 use Rattle.task_put.specs.declared.stage.Stage.{Stage}
 use Rattle.task_put.specs.declared.stage.Stage.TheVariants.{Looking, Feeding, LookingAgain, Preparing, Announcing, Writing, Cancelling, Completing, LookingForShard, Ended}
 use Rattle.task_put.specs.declared.task.PutTask.{PutTask}
-use Rattle.put_service.specs.Standing.{IsUp, IsOf, IsByBody, IsSteadyAt, IsSteady}
+use Rattle.put_service.specs.Standing.{IsUp, IsByBody, IsSteadyAt, IsSteady}
 
 pub wants_open : (stage : Stage) → WantsBytes stage → IsOver stage → ⊥
 wants_open (Ended outcome) w o = w

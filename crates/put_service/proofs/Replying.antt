@@ -1,12 +1,10 @@
 -- The reply to a PUT.
-use Rattle.std.proofs.Common.{◌≡◌, ℕ, true, false, List, [], Option, Some, None, refl, sym, ap, ◌∙◌, subst}
+use Rattle.std.proofs.Common.{◌≡◌, [], None, refl}
 use Rattle.http_model.specs.declared.reply.ReplyForm.{ReplyForm}
-use Rattle.realm_model.specs.Accounts.{Account}
-use Rattle.realm_model.specs.Owns.{OwnEvent}
 use Rattle.call_words.specs.Texts.{outcome_reply, HasReply, front_if, text_if}
 use Rattle.task_words.specs.declared.outcome.Outcome.{Outcome}
-use Rattle.task_words.specs.declared.outcome.Outcome.TheVariants.{Done, BodyFailed, Busy, MovedOften, RacedOften, LateTag, LateRead, NoSpace}
-use Rattle.task_words.specs.declared.reply.MapReply.TheVariants.{Stored, Shown, Same, Counted, Refused}
+use Rattle.task_words.specs.declared.outcome.Outcome.TheVariants.{Done, Busy, MovedOften, LateTag, NoSpace}
+use Rattle.task_words.specs.declared.reply.MapReply.TheVariants.{Stored, Refused}
 use Rattle.put_service.specs.Standing.{IsEnd}
 
 -- the end of a PUT has a reply

@@ -1,5 +1,5 @@
 -- A PUT as a whole: what its parts come to, beside what was written.
-use Rattle.std.proofs.Common.{◌≡◌, ℕ, ◌^◌, inl, Bool, true, false, List, [], length, Option, None, refl, sym, ap, ◌∙◌, subst}
+use Rattle.std.proofs.Common.{◌≡◌, ℕ, inl, Bool, true, false, List, [], None, refl, sym, ap, ◌∙◌, subst}
 use Rattle.std.specs.Io.KnownBytes.{Appends}
 use Rattle.gw_io.specs.Ends.{EndsState}
 use Rattle.http_model.specs.declared.reply.ReplyForm.{ReplyForm}
@@ -19,11 +19,11 @@ use Rattle.task_put.specs.declared.stage.Stage.TheVariants.{Looking, Ended}
 use Rattle.task_put.specs.declared.task.PutTask.{PutTask}
 use Rattle.call_words.specs.Texts.{outcome_reply, text_if}
 use Rattle.call_service.specs.Bodies.{HasGiven}
-use Rattle.call_service.specs.Serving.{Site, Side, side, Asks, is_by_end, AppendsFront, LeavesUnwritten, IsReplied, IsCutOff, IsInPart, IsLeft, IsStopped}
+use Rattle.call_service.specs.Serving.{Site, Side, side, Asks, is_by_end, AppendsFront, IsReplied, IsCutOff, IsLeft, IsStopped}
 use Rattle.call_service.specs.declared.fault.ServeFault.{ServeFault}
 use Rattle.call_service.specs.declared.fault.ServeFault.TheVariants as faults
 use Rattle.put_service.specs.Standing.{IsSteady, IsSteadyAt}
-use Rattle.put_service.specs.Parts.{place, AsksAt, StopsBody, HasEnded, RunsTask, LeavesReply}
+use Rattle.put_service.specs.Parts.{place, StopsBody, HasEnded, RunsTask, LeavesReply}
 use Rattle.put_service.proofs.Replying.{end_has_reply}
 
 abbrev outcome_in : Stage → Outcome
@@ -51,6 +51,11 @@ module _ (tells alone : Type 0) (site : Site) (form : ReplyForm) (c : PutCommand
 
   abbrev Ran : PutTask → Type 0
   Ran t = HasEnded tells alone site.settings (first_request site c) t (place d i old.left old.told) (place e j new.left new.told)
+
+  pub has_run : (t : PutTask) (r : PutRequest) (is_whole : Bool) → r ≡ first_request site c → is_whole ≡ true → RunsTask tells alone site.settings r t (place d i old.left old.told) (place e j new.left new.told) is_whole → Ran t
+  has_run t r is_whole request is ran =
+      subst (λ (q : PutRequest). RunsTask tells alone site.settings q t (place d i old.left old.told) (place e j new.left new.told) true) request
+      (subst (λ b. RunsTask tells alone site.settings r t (place d i old.left old.told) (place e j new.left new.told) b) is ran)
 
   -- nothing was written
   pub unwritten : (given : List ℕ) (more : Bool) → Appends old.taken new.taken [] → HasGiven i j old.left new.left given → Asks tells alone site.settings more d e old.told new.told → IsLeft tells alone site form (Put c) from to

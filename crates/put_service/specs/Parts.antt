@@ -1,5 +1,5 @@
 -- What each part of the service of a PUT comes to, before its reply is written.
-use Rattle.std.specs.Prelude.{◌≡◌, ℕ, ◌^◌, Bool, true, false, List, [], length, Option, Some, None}
+use Rattle.std.specs.Prelude.{◌≡◌, ℕ, ◌^◌, Bool, true, false, List, [], length, Option, None}
 use Rattle.std.specs.Io.KnownBytes.{Appends}
 use Rattle.realm_model.specs.Settings.{SettingsView}
 use Rattle.realm_model.specs.Doors.{DoorView, actor_at}

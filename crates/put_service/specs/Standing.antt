@@ -1,5 +1,5 @@
 -- Where the task of a PUT stands, and where it pauses.
-use Rattle.std.specs.Prelude.{◌≡◌, Bool, true, false, [], Option, Some, None}
+use Rattle.std.specs.Prelude.{◌≡◌, Bool, true, false, Option, Some, None}
 use Rattle.realm_model.specs.Settings.{SettingsView}
 use Rattle.realm_model.specs.Doors.{DoorView}
 use Rattle.realm_model.specs.Histories.{Legal}

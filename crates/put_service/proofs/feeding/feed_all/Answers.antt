@@ -1,13 +1,11 @@
-use Rattle.std.proofs.Common.{◌≡◌, ◌≤◌, ◌<◌, rules, true, false, Bool, List, [], ◌++◌, take, drop, length, refl, sym, ap, ◌∙◌, subst, arith}
+use Rattle.std.proofs.Common.{rules, true, false, Bool, [], ◌++◌, take, refl, sym, ◌∙◌, subst}
 use Rattle.realm_model.specs.Settings.{SettingsView}
 use Rattle.task_put.specs.Tasks.{request_of}
-use Rattle.task_put.specs.Taking.{fed_request}
 use Rattle.call_service.specs.Serving.{Asks}
 use Rattle.call_service.proofs.Asking.{none_asks, both_ask}
 use Rattle.put_service.specs.Standing.{IsUp, PausesAt, is_untold}
 use Rattle.put_service.specs.declared.stepping.Pause.{Pause}
-use Rattle.put_service.specs.declared.stepping.Pause.TheVariants.{Wants, Over}
-use Rattle.put_service.proofs.Joining.{fed_none, fed_behind, seam, few_left}
+use Rattle.put_service.proofs.Joining.{fed_none, fed_behind, request_fed, seam, few_left}
 use Rattle.put_service.proofs.feeding.feed_all.Goals as goal
 
 pub parts-init : goal.parts-init
@@ -44,7 +42,7 @@ parts-preserved g c =
     let i = c.parts.invariant in
     let pauses = subst (λ (p : Pause). PausesAt p c.advance.new.task) c.in-Wants.is c.in_ok-advance.ensures.pauses in
     let part = take c.in-Ok.count c.parts.rest.now in
-    let request : request_of c.advance.new.task ≡ fed_request (request_of c.parts.task) part = c.advance.ensures.request ∙ ap request_of c.in-Ok.ensures.task in
+    let request = request_fed c.parts.task c.feed.new.self c.advance.new.task part c.in-Ok.ensures.task c.advance.ensures.request in
     record {
       sound = c.in_ok-advance.ensures.sound;
       steady = pauses.0;
@@ -69,8 +67,7 @@ returns-in-Over-clause-taken g c =
     let i = c.parts.invariant in
     let pauses = subst (λ (p : Pause). PausesAt p c.advance.new.task) c.in-Over.is c.in_ok-advance.ensures.pauses in
     let part = take c.in-Ok.count c.parts.rest.now in
-    let request : request_of c.advance.new.task ≡ fed_request (request_of c.parts.task) part = c.advance.ensures.request ∙ ap request_of c.in-Ok.ensures.task in
-    (
+    let request = request_fed c.parts.task c.feed.new.self c.advance.new.task part c.in-Ok.ensures.task c.advance.ensures.request in (
       pauses.0,
       pauses.1,
       i.so_far.0 ++ part,

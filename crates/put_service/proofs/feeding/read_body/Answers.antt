@@ -1,4 +1,4 @@
-use Rattle.std.proofs.Common.{◌≡◌, rules, false, true, [], sym, ◌∙◌, subst}
+use Rattle.std.proofs.Common.{rules, false, true, [], sym, ◌∙◌, subst}
 use Rattle.std.proofs.lemmas.Result.{IfOk-weaker, IfErr-weaker, on_ok_weaker}
 use Rattle.call_service.specs.Serving.{Asks}
 use Rattle.call_service.proofs.Asking.{both_ask}
@@ -40,8 +40,7 @@ returns-in-Wants-clause-fault g c =
 
 pub returns-in-Over-clause-taken : goal.returns-in-Over-clause-taken
 returns-in-Over-clause-taken g c =
-    let pauses = subst (λ (p : Pause). PausesAt p c.advance.new.task) c.in-Over.is c.in_ok-advance.ensures.pauses in
-    (
+    let pauses = subst (λ (p : Pause). PausesAt p c.advance.new.task) c.in-Over.is c.in_ok-advance.ensures.pauses in (
       [],
       none_given c.args.intake.now (g.S.Source.left c.args.source.now) c.requires.intake c.requires.plain,
       (pauses.0, pauses.1, [], c.advance.ensures.request ∙ sym (fed_none (request_of c.args.task.now))),

@@ -1,5 +1,4 @@
-use Rattle.std.proofs.Common.{◌≡◌, ◌≤◌, ◌<◌, ◌+◌, rules, true, false, Bool, ℕ, List, [], ◌++◌, take, length, refl, sym, ap, ◌∙◌, subst, arith, length-append}
-use Rattle.std.proofs.lemmas.List.{length-take-le}
+use Rattle.std.proofs.Common.{◌≡◌, ◌≤◌, ◌+◌, rules, true, false, ℕ, List, [], ◌++◌, take, length, refl, sym, ◌∙◌, subst, arith, length-append}
 use Rattle.realm_model.specs.Settings.{SettingsView}
 use Rattle.task_put.specs.declared.stage.PutRequest.{PutRequest}
 use Rattle.task_put.specs.Bodies.{most_bytes}
@@ -51,8 +50,7 @@ returns-then-not-branch-clause-taken g c =
     let i = c.pieces.invariant in
     let piece = take c.in-Bytes.count c.next_piece.new.buffer in
     let over : c.in_ok-feed_all-in-Bytes.field-0 ≡ false = search rules in
-    let taken = subst (λ b. TakesBytes c.pieces.task c.feed_all.new.task piece b) over c.in_ok-feed_all-in-Bytes.ensures.taken in
-    (
+    let taken = subst (λ b. TakesBytes c.pieces.task c.feed_all.new.task piece b) over c.in_ok-feed_all-in-Bytes.ensures.taken in (
       i.so_far.0 ++ piece,
       give_more c.args.intake.now c.pieces.intake (g.S.Source.left c.args.source.now) (g.S.Source.left c.pieces.source) (g.S.Source.left c.next_piece.new.source) i.so_far.0 piece c.next_piece.new.intake i.so_far.1 c.in-Bytes.ensures.passed.0,
       (

@@ -1,8 +1,8 @@
-use Rattle.std.proofs.Common.{◌≡◌, Some, None, false, true, sym, ap, ◌∙◌, subst}
+use Rattle.std.proofs.Common.{◌≡◌, Some, ap, ◌∙◌, subst}
 use Rattle.call_service.specs.Serving.{Asks}
 use Rattle.task_words.specs.declared.command.BodyEnd.TheVariants.{Whole}
 use Rattle.task_put.specs.Bodies.{first_end}
-use Rattle.task_put.specs.Tasks.{request_of, stage_of}
+use Rattle.task_put.specs.Tasks.{request_of}
 use Rattle.put_service.specs.declared.stepping.Pause.{Pause}
 use Rattle.put_service.specs.Standing.{PausesAt, is_untold}
 use Rattle.put_service.proofs.Pausing.{steady_ended}

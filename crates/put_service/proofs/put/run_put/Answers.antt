@@ -1,4 +1,4 @@
-use Rattle.std.proofs.Common.{◌≡◌, rules, true, false, None, sym, ap, ◌∙◌, subst}
+use Rattle.std.proofs.Common.{rules, true, ap, ◌∙◌, subst}
 use Rattle.std.proofs.lemmas.Result.{IfOk-weaker, IfErr-weaker}
 use Rattle.realm_model.specs.Settings.{SettingsView}
 use Rattle.call_service.proofs.Asking.{both_ask}
@@ -56,7 +56,7 @@ returns-in-Over-clause-ran g c =
     let taken = subst (λ (t : Taken). TakesBody c.args.task.now c.read_body.new.task x m t) c.in-Over.is c.in_ok-read_body.ensures.taken in
     IfOk-weaker c.drop_body.result _ _
     (λ is_whole. drops_behind g.D.Door.tells g.D.Door.alone (g.D.Door.settings c.args.door.now) (request_of c.args.task.now) c.read_body.new.task x y m.intake m.left taken.0 taken.2.2 is_whole
-        taken.1 taken.2.0 taken.2.1 taken.2.3 c.requires.open c.in_ok-read_body.ensures.sound (λ tells. (c.read_body.ensures.up tells).1) c.in_ok-read_body.ensures.asks)
+    taken.1 taken.2.0 taken.2.1 taken.2.3 c.requires.open c.in_ok-read_body.ensures.sound (λ tells. (c.read_body.ensures.up tells).1) c.in_ok-read_body.ensures.asks)
     c.drop_body.ensures.dropped
 
 pub returns-in-Over-clause-fault : goal.returns-in-Over-clause-fault

@@ -1,13 +1,11 @@
-use Rattle.std.proofs.Common.{◌≡◌, rules, true, false, [], subst}
+use Rattle.std.proofs.Common.{◌≡◌, rules, true, false, []}
 use Rattle.std.proofs.KnownBytes.{Appends-nil}
 use Rattle.gw_io.specs.Ends.{EndsState}
 use Rattle.task_put.specs.Tasks.{request_of}
-use Rattle.task_put.specs.declared.stage.PutRequest.{PutRequest}
 use Rattle.call_service.specs.Serving.{Site}
 use Rattle.call_service.proofs.Asking.{none_asks}
 use Rattle.call_service.proofs.Passing.{none_given}
-use Rattle.put_service.specs.Parts.{RunsTask, place}
-use Rattle.put_service.proofs.Serving.{first_request, unwritten, stops_unwritten, stops_reply, replied}
+use Rattle.put_service.proofs.Serving.{has_run, unwritten, stops_unwritten, stops_reply, replied}
 use Rattle.put_service.proofs.put.serve_put.Goals as goal
 
 pub returns-in_default-clause-stopped : goal.returns-in_default-clause-stopped
@@ -67,11 +65,9 @@ returns-in_err-send_reply-in-Some-clause-stopped g c =
       read_faults = g.S.Source.faults c.run_put.new.source;
       write_faults = g.K.Sink.faults c.send_reply.new.sink;
     } in
-    let asked : c.in_ok-run_put.field-0 ≡ true = search rules in
-    let from = place (g.D.Door.told c.args.door.now) c.args.intake.now old.left old.told in
-    let to = place (g.D.Door.told c.run_put.new.door) c.run_put.new.intake new.left new.told in
-    let by_request = subst (λ b. RunsTask g.D.Door.tells g.D.Door.alone site.settings (request_of c.in-Ok.task) c.run_put.new.task from to b) asked c.in_ok-run_put.ensures.ran in
-    let ran = subst (λ (r : PutRequest). RunsTask g.D.Door.tells g.D.Door.alone site.settings r c.run_put.new.task from to true) c.in-Ok.ensures.request by_request in
+    let is_whole : c.in_ok-run_put.field-0 ≡ true = search rules in
+    let ran = has_run g.D.Door.tells g.D.Door.alone site c.args.form c.args.put (g.D.Door.told c.args.door.now) (g.D.Door.told c.run_put.new.door) c.args.intake.now c.run_put.new.intake old new
+    c.run_put.new.task (request_of c.in-Ok.task) c.in_ok-run_put.field-0 c.in-Ok.ensures.request is_whole c.in_ok-run_put.ensures.ran in
     let stops = stops_reply g.D.Door.tells g.D.Door.alone site c.args.form c.args.put (g.D.Door.told c.args.door.now) (g.D.Door.told c.run_put.new.door) c.args.intake.now c.run_put.new.intake old new
     (g.D.Door.found c.run_put.new.door) c.run_put.new.task c.in-Some.outcome.now _ ran c.in-Some.ensures.stage c.in_err-send_reply-in-Some.ensures.stopped in
     search (rules, stops)
@@ -95,10 +91,8 @@ returns-clause-served g c =
       read_faults = g.S.Source.faults c.run_put.new.source;
       write_faults = g.K.Sink.faults c.send_reply.new.sink;
     } in
-    let asked : c.in_ok-run_put.field-0 ≡ true = search rules in
-    let from = place (g.D.Door.told c.args.door.now) c.args.intake.now old.left old.told in
-    let to = place (g.D.Door.told c.run_put.new.door) c.run_put.new.intake new.left new.told in
-    let by_request = subst (λ b. RunsTask g.D.Door.tells g.D.Door.alone site.settings (request_of c.in-Ok.task) c.run_put.new.task from to b) asked c.in_ok-run_put.ensures.ran in
-    let ran = subst (λ (r : PutRequest). RunsTask g.D.Door.tells g.D.Door.alone site.settings r c.run_put.new.task from to true) c.in-Ok.ensures.request by_request in
+    let is_whole : c.in_ok-run_put.field-0 ≡ true = search rules in
+    let ran = has_run g.D.Door.tells g.D.Door.alone site c.args.form c.args.put (g.D.Door.told c.args.door.now) (g.D.Door.told c.run_put.new.door) c.args.intake.now c.run_put.new.intake old new
+    c.run_put.new.task (request_of c.in-Ok.task) c.in_ok-run_put.field-0 c.in-Ok.ensures.request is_whole c.in_ok-run_put.ensures.ran in
     replied g.D.Door.tells g.D.Door.alone site c.args.form c.args.put (g.D.Door.told c.args.door.now) (g.D.Door.told c.run_put.new.door) c.args.intake.now c.run_put.new.intake old new
     c.run_put.new.task c.in-Some.outcome.now ran c.in-Some.ensures.stage c.in_ok-send_reply-in-Some.ensures.ok

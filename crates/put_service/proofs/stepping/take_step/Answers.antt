@@ -1,6 +1,6 @@
 use Rattle.std.proofs.Common.{refl}
 use Rattle.call_service.proofs.Asking.{none_asks, untold_asks}
-use Rattle.put_service.proofs.Pausing.{up_decided, steady_ready, steady_wanting, by_body}
+use Rattle.put_service.proofs.Pausing.{up_decided, steady_ready}
 use Rattle.put_service.proofs.stepping.take_step.Goals as goal
 
 pub returns-then-is_some-clause-asks : goal.returns-then-is_some-clause-asks
