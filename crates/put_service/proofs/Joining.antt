@@ -1,24 +1,18 @@
 -- The parts of the service of a PUT, one behind the other.
-use Rattle.std.proofs.Common.{◌≡◌, ℕ, ◌+◌, ◌-◌, ◌≤◌, Bool, false, List, [], ◌++◌, take, drop, length, Option, refl, sym, ap, ◌∙◌, subst, append_assoc, length-append, length-drop, take-append-drop, arith}
+use Rattle.std.proofs.Common.{◌≡◌, ℕ, ◌+◌, ◌-◌, ◌≤◌, Bool, List, [], ◌++◌, take, drop, length, refl, sym, ap, ◌∙◌, subst, append_assoc, length-append, length-drop, take-append-drop, arith}
 use Rattle.std.proofs.lemmas.List.{take_all}
 use Rattle.std.proofs.lemmas.List.{append-nil}
 use Rattle.realm_model.specs.Settings.{SettingsView}
-use Rattle.realm_model.specs.Doors.{DoorView}
 use Rattle.realm_model.specs.declared.event.Event.{Event}
-use Rattle.http_intake.specs.Intake.{IntakeState}
 use Rattle.task_put.specs.declared.task.PutTask.{PutTask}
 use Rattle.task_put.specs.declared.stage.PutRequest.{PutRequest}
 use Rattle.task_put.specs.Bodies.{most_bytes}
 use Rattle.task_put.specs.Taking.{fed_request}
 use Rattle.task_put.specs.Tasks.{request_of, fed}
 use Rattle.call_service.specs.Bodies.{HasGiven}
-use Rattle.call_service.specs.Serving.{Asks}
 use Rattle.call_service.specs.declared.fault.ServeFault.{ServeFault}
 use Rattle.call_service.specs.declared.fault.ServeFault.TheVariants as faults
-use Rattle.call_service.proofs.Asking.{both_ask}
-use Rattle.put_service.specs.declared.feeding.Taken.{Taken}
-use Rattle.put_service.specs.declared.feeding.Taken.TheVariants as takens
-use Rattle.put_service.specs.Parts.{StopsStep, Place, place, AsksAt, TakesBody, StopsBody}
+use Rattle.put_service.specs.Parts.{StopsStep, Place, AsksAt, StopsBody}
 
 module _ (tells alone : Type 0) (settings : SettingsView) (found : List Event) where
   -- a step was refused behind so much of the body
@@ -27,26 +21,6 @@ module _ (tells alone : Type 0) (settings : SettingsView) (found : List Event) w
   step_stops faults.OutOfMemory x y given more stops has asks = (given, has, more, asks)
   step_stops faults.Worn x y given more stops has asks = (stops, (given, has, more, asks))
   step_stops fault x y given more stops has asks = absurd stops
-
-  -- events were made before the body was read
-  pub stops_behind : (now : SettingsView) (d e f : DoorView) (i j : IntakeState) (l k : Option (List ℕ)) (a b c : Option (List ℕ)) (fault : ServeFault) → now ≡ settings
-      → Asks tells alone settings false d e a b → StopsBody tells alone now found (place e i l b) (place f j k c) fault
-      → StopsBody tells alone settings found (place d i l a) (place f j k c) fault
-  stops_behind now d e f i j l k a b c faults.ReadFault same x (fails, y) = (fails, both_ask tells alone settings now false d e f a b c same x y)
-  stops_behind now d e f i j l k a b c faults.OutOfMemory same x (given, has, more, y) =
-      (given, has, more, both_ask tells alone settings now more d e f a b c same x y)
-  stops_behind now d e f i j l k a b c faults.Worn same x (worn, (given, has, more, y)) =
-      (worn, (given, has, more, both_ask tells alone settings now more d e f a b c same x y))
-  stops_behind now d e f i j l k a b c fault same x y = absurd y
-
--- the task took the body behind its first events
-pub takes_behind : (old mid new : PutTask) (d e f : DoorView) (i j : IntakeState) (l k : Option (List ℕ)) (a b c : Option (List ℕ)) (taken : Taken) → request_of mid ≡ request_of old
-    → TakesBody mid new (place e i l b) (place f j k c) taken → TakesBody old new (place d i l a) (place f j k c) taken
-takes_behind old mid new d e f i j l k a b c takens.Whole same (given, all, (steady, wants, is)) =
-    (given, all, (steady, wants, is ∙ ap (λ r. fed_request r given) same))
-takes_behind old mid new d e f i j l k a b c takens.Over same (given, has, (steady, over, front, is)) =
-    (given, has, (steady, over, front, is ∙ ap (λ r. fed_request r front) same))
-takes_behind old mid new d e f i j l k a b c takens.Cut same x = x
 
 -- bytes behind bytes
 pub fed_behind : (r s t : PutRequest) (first second : List ℕ) → s ≡ fed_request r first → t ≡ fed_request s second → t ≡ fed_request r (first ++ second)

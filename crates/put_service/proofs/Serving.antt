@@ -1,5 +1,5 @@
 -- A PUT as a whole: what its parts come to, beside what was written.
-use Rattle.std.proofs.Common.{◌≡◌, ℕ, inl, Bool, true, false, List, [], None, refl, sym, ap, ◌∙◌, subst}
+use Rattle.std.proofs.Common.{◌≡◌, ℕ, inl, Bool, true, false, List, [], Option, None, refl, sym, ap, ◌∙◌, subst}
 use Rattle.std.specs.Io.KnownBytes.{Appends}
 use Rattle.gw_io.specs.Ends.{EndsState}
 use Rattle.http_model.specs.declared.reply.ReplyForm.{ReplyForm}
@@ -41,6 +41,11 @@ steady_new t r stripe request none unended (draft, looks, new) =
 -- what a task of a PUT is asked at first
 abbrev pub first_request : Site → PutCommand → PutRequest
 first_request site c = record { zone = site.zone; asker = site.asker; command = c; bytes = []; end = None }
+
+-- the ends of a connection
+abbrev pub ends_with : (left taken told : Option (List ℕ)) (plan : Option (ℕ → ℕ)) (read_faults write_faults : ℕ) → EndsState
+ends_with left taken told plan read_faults write_faults =
+    record { left = left; taken = taken; told = told; plan = plan; read_faults = read_faults; write_faults = write_faults }
 
 module _ (tells alone : Type 0) (site : Site) (form : ReplyForm) (c : PutCommand) (d e : DoorView) (i j : IntakeState) (old new : EndsState) where
   abbrev from : Side

@@ -67,7 +67,8 @@ fn feed_all<D: Door, C: Clock>(
     Ok(true)
 }
 
-/// Reads the present body into the task, to its end, to that of the input, or to where the outcome is there.
+/// Reads the row, and behind it the present body into the task: to its end, to that of the input, or to where the outcome
+/// is there.
 pub(crate) fn take_body<D: Door, C: Clock, S: Source>(
     alloc: Global,
     task: &mut PutTask,
@@ -80,7 +81,6 @@ pub(crate) fn take_body<D: Door, C: Clock, S: Source>(
     requires room { 0 < length buffer.old }
     requires sound { fault_of task.old ≡ None }
     requires steady { IsSteady task.old }
-    requires wants { WantsBytes (stage_of task.old) }
     requires open { (request_of task.old).end ≡ None }
     requires intake { intake.old.failed ≡ None }
     requires plain { IsUnchunked intake.old }
@@ -101,6 +101,12 @@ pub(crate) fn take_body<D: Door, C: Clock, S: Source>(
     ensures plan { C.plan clock.new ≡ C.plan clock.old }
     ensures kept { length buffer.new ≡ length buffer.old }
 {
+    let pause = advance(alloc, task, door, clock)?;
+    match pause {
+        Pause::Wants => {}
+        Pause::Over => return Ok(Taken::Over),
+        Pause::ByEnd => unreachable!(),
+    }
     'pieces: loop {
         match next_piece(intake, source, buffer) {
             Piece::Bytes(count) => {
@@ -112,45 +118,5 @@ pub(crate) fn take_body<D: Door, C: Clock, S: Source>(
             Piece::Cut => return Ok(Taken::Cut),
             Piece::Failed => return Err(ServeFault::ReadFault),
         }
-    }
-}
-
-/// Reads the row, and the present body behind it into the task.
-pub(crate) fn read_body<D: Door, C: Clock, S: Source>(
-    alloc: Global,
-    task: &mut PutTask,
-    door: &mut D,
-    clock: &mut C,
-    intake: &mut Intake,
-    source: &mut S,
-    buffer: &mut [u8],
-) -> Result<Taken, ServeFault>
-    requires room { 0 < length buffer.old }
-    requires sound { fault_of task.old ≡ None }
-    requires steady { IsSteady task.old }
-    requires open { (request_of task.old).end ≡ None }
-    requires intake { intake.old.failed ≡ None }
-    requires plain { IsUnchunked intake.old }
-    requires few { length ((request_of task.old).bytes) + intake.old.body_left ≤ most_bytes }
-    requires up { IsUp D.tells (D.settings door.old) task.old (D.told door.old) }
-    ensures up { IsUp D.tells (D.settings door.old) task.new (D.told door.new) }
-    ensures taken { IfOk result (TakesBody task.old task.new
-        (place (D.told door.old) intake.old (S.left source.old) (C.told clock.old))
-        (place (D.told door.new) intake.new (S.left source.new) (C.told clock.new))) }
-    ensures asks { OnOk result (Asks D.tells D.alone (D.settings door.old) false (D.told door.old) (D.told door.new) (C.told clock.old) (C.told clock.new)) }
-    ensures sound { OnOk result (fault_of task.new ≡ None) }
-    ensures fault { IfErr result (StopsBody D.tells D.alone (D.settings door.old) (D.found door.new)
-        (place (D.told door.old) intake.old (S.left source.old) (C.told clock.old))
-        (place (D.told door.new) intake.new (S.left source.new) (C.told clock.new))) }
-    ensures cause { ReadsAtFault (S.faults source.old) (S.faults source.new) result }
-    ensures settings { D.settings door.new ≡ D.settings door.old }
-    ensures home { D.home door.new ≡ D.home door.old }
-    ensures plan { C.plan clock.new ≡ C.plan clock.old }
-    ensures kept { length buffer.new ≡ length buffer.old }
-{
-    match advance(alloc, task, door, clock)? {
-        Pause::Wants => take_body(alloc, task, door, clock, intake, source, buffer),
-        Pause::Over => Ok(Taken::Over),
-        Pause::ByEnd => unreachable!(),
     }
 }

@@ -12,7 +12,7 @@ ghost use Rattle.call_service.specs.Serving.{Asks, WritesAtFault, IsNew, IsServe
 ghost use Rattle.put_service.specs.Standing.{IsUp, IsSteady, IsEnd};
 ghost use Rattle.put_service.specs.Parts.{StopsStep, StopsBody, EndsSo, RunsTask, LeavesReply, place};
 
-use crate::feeding::{Taken, read_body};
+use crate::feeding::{Taken, take_body};
 use crate::stepping::{Pause, advance};
 use call_service::{ServeFault, Served, drop_body, send};
 use call_words::push_outcome;
@@ -86,7 +86,7 @@ fn run_put<D: Door, C: Clock, S: Source>(
     ensures plan { C.plan clock.new ≡ C.plan clock.old }
     ensures kept { length buffer.new ≡ length buffer.old }
 {
-    match read_body(alloc, task, door, clock, intake, source, buffer)? {
+    match take_body(alloc, task, door, clock, intake, source, buffer)? {
         Taken::Whole => {
             conclude(alloc, task, door, clock)?;
             Ok(true)

@@ -4,31 +4,55 @@ use Rattle.task_put.specs.declared.stage.PutRequest.{PutRequest}
 use Rattle.task_put.specs.Bodies.{most_bytes}
 use Rattle.task_put.specs.Tasks.{request_of}
 use Rattle.task_put.specs.Taking.{fed_request}
-use Rattle.call_service.proofs.Asking.{none_asks, both_ask}
+use Rattle.call_service.specs.Serving.{Asks}
+use Rattle.call_service.proofs.Asking.{both_ask}
 use Rattle.call_service.proofs.Passing.{none_given, give_more, give_all, cut_behind, fail_behind}
-use Rattle.put_service.specs.Standing.{IsUp}
+use Rattle.put_service.specs.declared.stepping.Pause.{Pause}
+use Rattle.put_service.specs.Standing.{IsUp, PausesAt, is_untold}
 use Rattle.put_service.specs.Parts.{TakesBytes, place}
 use Rattle.put_service.proofs.Joining.{fed_none, fed_behind, step_stops}
 use Rattle.put_service.proofs.feeding.take_body.Goals as goal
 
+pub returns-in_err-pause-clause-fault : goal.returns-in_err-pause-clause-fault
+returns-in_err-pause-clause-fault g c =
+    let stops = step_stops g.D.Door.tells g.D.Door.alone (g.D.Door.settings c.args.door.now) (g.D.Door.found c.advance.new.door) _
+    (place (g.D.Door.told c.args.door.now) c.args.intake.now (g.S.Source.left c.args.source.now) (g.C.Clock.told c.args.clock.now))
+    (place (g.D.Door.told c.advance.new.door) c.args.intake.now (g.S.Source.left c.args.source.now) (g.C.Clock.told c.advance.new.clock))
+    [] true c.in_err-pause.ensures.fault (none_given c.args.intake.now (g.S.Source.left c.args.source.now) c.requires.intake c.requires.plain) c.in_err-pause.ensures.stopped in
+    search (rules, stops)
+
+pub returns-in-Over-clause-taken : goal.returns-in-Over-clause-taken
+returns-in-Over-clause-taken g c =
+    let pauses = subst (λ (p : Pause). PausesAt p c.advance.new.task) c.in-Over.is c.in_ok-pause.ensures.pauses in (
+      [],
+      none_given c.args.intake.now (g.S.Source.left c.args.source.now) c.requires.intake c.requires.plain,
+      (pauses.0, pauses.1, [], c.advance.ensures.request ∙ sym (fed_none (request_of c.args.task.now))),
+    )
+
 pub pieces-init : goal.pieces-init
-pieces-init g c = record {
-  room = c.requires.room;
-  kept = refl;
-  sound = c.requires.sound;
-  steady = c.requires.steady;
-  wants = c.requires.wants;
-  intake = c.requires.intake;
-  plain = c.requires.plain;
-  few = c.requires.few;
-  faults = refl;
-  so_far = ([], none_given c.args.intake.now (g.S.Source.left c.args.source.now) c.requires.intake c.requires.plain, sym (fed_none (request_of c.args.task.now)));
-  up = c.requires.up;
-  asks = none_asks g.D.Door.tells g.D.Door.alone (g.D.Door.settings c.args.door.now) (g.D.Door.told c.args.door.now) (g.C.Clock.told c.args.clock.now) (λ tells. (c.requires.up tells).0);
-  settings = refl;
-  home = refl;
-  plan = refl;
-}
+pieces-init g c =
+    let pauses = subst (λ (p : Pause). PausesAt p c.advance.new.task) c.in-Wants.is c.in_ok-pause.ensures.pauses in
+    record {
+      room = c.requires.room;
+      kept = refl;
+      sound = c.in_ok-pause.ensures.sound;
+      steady = pauses.0;
+      wants = pauses.1;
+      intake = c.requires.intake;
+      plain = c.requires.plain;
+      few = subst (λ (q : PutRequest). length q.bytes + c.args.intake.now.body_left ≤ most_bytes) (sym c.advance.ensures.request) c.requires.few;
+      faults = refl;
+      so_far = (
+        [],
+        none_given c.args.intake.now (g.S.Source.left c.args.source.now) c.requires.intake c.requires.plain,
+        c.advance.ensures.request ∙ sym (fed_none (request_of c.args.task.now)),
+      );
+      up = c.advance.ensures.up;
+      asks = subst (λ (p : Pause). Asks g.D.Door.tells g.D.Door.alone (g.D.Door.settings c.args.door.now) (is_untold p) (g.D.Door.told c.args.door.now) (g.D.Door.told c.advance.new.door) (g.C.Clock.told c.args.clock.now) (g.C.Clock.told c.advance.new.clock)) c.in-Wants.is c.in_ok-pause.ensures.asks;
+      settings = c.advance.ensures.settings;
+      home = c.advance.ensures.home;
+      plan = c.advance.ensures.plan;
+    }
 
 pub returns-in_err-feed_all-in-Bytes-clause-fault : goal.returns-in_err-feed_all-in-Bytes-clause-fault
 returns-in_err-feed_all-in-Bytes-clause-fault g c =
