@@ -2,6 +2,8 @@
 //! each stripe as it fills.
 #![tactic(auto)]
 
+mod feeding;
 mod put;
+mod stepping;
 
 pub use put::serve_put;

@@ -6,3 +6,4 @@ pub mod Orders
 pub mod Fits
 pub mod Taking
 pub mod Tasks
+pub mod Stepped

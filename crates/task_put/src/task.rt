@@ -6,9 +6,11 @@ ghost use Rattle.realm_model.specs.Histories.{phase_of, account_of};
 ghost use Rattle.realm_model.specs.Phases.{fresh};
 ghost use Rattle.realm_model.specs.Accounts.{blank};
 ghost use Rattle.realm_model.specs.Owns.{own_events};
-ghost use Rattle.task_put.specs.Bodies.{first_end};
+ghost use Rattle.task_put.specs.Bodies.{first_end, no_bytes};
 ghost use Rattle.task_put.specs.Taking.{room_at};
-ghost use Rattle.task_put.specs.Tasks.{request_of, fault_of, fed, body_ended, fits};
+ghost use Rattle.task_put.specs.declared.stage.Draft.{Draft};
+ghost use Rattle.task_put.specs.declared.stage.Stage.TheVariants.{Looking};
+ghost use Rattle.task_put.specs.Tasks.{request_of, stage_of, fault_of, fed, body_ended, fits};
 ghost use Rattle.task_put.specs.Fits.{HasShards};
 
 use crate::advancing::{resumed, tried_after};
@@ -56,6 +58,7 @@ impl PutTask {
             → phase_of settings.now d.seen (actor_at d) ≡ fresh
             → own_events d.seen (actor_at d) ≡ []
             → fits t settings.now d) }
+        ensures looks { IfOk result (λ t. (draft : Draft) × (stage_of t ≡ Looking draft) × (draft.body ≡ no_bytes settings.now.stripe)) }
         ensures sound { IfOk result (λ t. fault_of t ≡ None) }
     {
         let sent = Snapshot::of(&put);
@@ -175,7 +178,7 @@ fn default_kind(alloc: Global) -> Result<MediaType, AllocError>
 }
 
 impl PutTask {
-    ghost use Rattle.std.specs.Prelude.{◌≡◌, ◌<◌, ◌≤◌, ◌^◌, length, Some, None, IfOk, IfErr, OnOk, OnErr, true};
+    ghost use Rattle.std.specs.Prelude.{◌≡◌, ◌<◌, ◌≤◌, ◌^◌, ℕ, length, Some, None, IfOk, IfErr, OnOk, OnErr, true};
     ghost use Rattle.object_words.specs.declared.bucket.Bucket.{Bucket};
     ghost use Rattle.realm_model.specs.Histories.{Legal};
     ghost use Rattle.realm_model.specs.Suits.{Suits};
@@ -189,6 +192,8 @@ impl PutTask {
     ghost use Rattle.task_put.specs.Taking.{WantsBytes};
     ghost use Rattle.task_put.specs.Fits.{HasShards};
     ghost use Rattle.task_put.specs.Tasks.{request_of, stage_of, fault_of, fits, at_stage, decided};
+    ghost use Rattle.task_put.specs.Stepped.{stepped};
+    ghost use Rattle.realm_model.specs.declared.event.Reply.{Reply};
 
     /// Lets the body's end decide, once no tail waits, and says what comes next. It makes no event, so that a
     /// caller may ask its clock only where one comes.
@@ -248,6 +253,7 @@ impl PutTask {
         ensures alone { IfOk result (λ made. D.tells → D.alone → IsOneMore (D.told door.old) (D.told door.new)) }
         ensures counts { IfOk result (λ made.
             (D.last door.old < D.last door.new) × (D.last door.new ≤ 2 ^ 62)) }
+        ensures steps { IfOk result (λ made. (number : ℕ) × (reply : Reply) × (self.new ≡ stepped self.old number reply)) }
         ensures command { request_of self.new ≡ request_of self.old }
         ensures stopped { OnErr result ((D.tells → D.told door.new ≡ D.told door.old) × (D.last door.new ≡ D.last door.old)) }
         ensures sound { OnOk result (fault_of self.new ≡ None) }
@@ -283,10 +289,13 @@ fn has_shards(reply: &Reply)
 }
 
 impl Task for PutTask {
-    ghost use Rattle.std.specs.Prelude.{◌≡◌, [], None};
+    ghost use Rattle.std.specs.Prelude.{◌≡◌, ◌↔◌, [], None, IsSome, IfSome};
+    ghost use Rattle.realm_model.specs.Settings.{SettingsView};
+    ghost use Rattle.realm_model.specs.Doors.{DoorView};
+    ghost use Rattle.task_put.specs.declared.stage.Stage.TheVariants.{Ended};
     ghost use Rattle.task_put.specs.Stages.{IsOver};
     ghost use Rattle.task_put.specs.Taking.{WantsBytes};
-    ghost use Rattle.task_put.specs.Tasks.{request_of, fits, IsPutEnd};
+    ghost use Rattle.task_put.specs.Tasks.{request_of, stage_of, fault_of, fits, IsPutEnd};
 
     type Command = PutRequest;
 
@@ -331,7 +340,12 @@ impl Task for PutTask {
         }
     }
 
-    fn outcome(&self) -> Option<&Outcome> {
+    fn outcome(&self) -> Option<&Outcome>
+        ensures there { IsSome result ↔ (IsOver (stage_of self.now) × (fault_of self.now ≡ None)) }
+        ensures right { IfSome result (λ outcome. (settings : SettingsView) (d : DoorView)
+            → fits self.now settings d → IsPutEnd (request_of self.now) outcome.now settings d) }
+        ensures stage { IfSome result (λ outcome. stage_of self.now ≡ Ended outcome.now) }
+    {
         match (&self.stage, self.fault) {
             (Stage::Ended(outcome), None) => Some(outcome),
             _ => None,

@@ -5,7 +5,7 @@ use Rattle.task_put.specs.declared.stage.Stage.TheVariants.{Ended}
 use Rattle.task_put.specs.declared.task.PutTask.{PutTask}
 use Rattle.task_put.specs.Stages.{op_of, rest_of, tried_after, resumed}
 use Rattle.task_put.specs.Tasks.{request_of, fault_of, at_stage, fits}
-use Rattle.realm_door.specs.Steps.{event_at}
+use Rattle.realm_door.specs.Steps.{event_at, back_of}
 use Rattle.realm_door.proofs.Steps.{one_more}
 use Rattle.task_put.proofs.Stepping.{fits_next}
 use Rattle.task_put.proofs.task.PutTask.event.Goals as goal
@@ -30,6 +30,12 @@ returns-in-Ok-step g c =
       made = λ tells. record { op = c.in-Ok.field-0.op; answered = a; extends = made tells };
       alone = λ tells alone. one_more (g.D.Door.told c.args.door.now) (g.D.Door.told c.step.new.self) (event_at (g.D.Door.told c.args.door.now) c.in-Ok.field-0.op c.args.moment a.reply) (c.in-Ok-step.ensures.alone tells alone);
       counts = (subst (λ k. g.D.Door.last c.args.door.now < k) (sym n.2) n.0, subst (λ k. k ≤ 2 ^ 62) (sym n.2) n.1);
+      steps = (
+        a.number,
+        a.reply,
+        now_is ∙ ap (λ b. at_stage t (resumed t.target (tried_after t.tried a.reply) (rest_of t.stage) a.number a.reply b) (tried_after t.tried a.reply))
+            (c.in-Ok-step.ensures.back ∙ ap (λ o. back_of o a.reply) op_is),
+      );
       command = ap request_of now_is;
       stopped = tt;
       sound = ap fault_of now_is ∙ c.requires.sound;
@@ -45,6 +51,7 @@ returns-in-Err g c = record {
   made = tt;
   alone = tt;
   counts = tt;
+  steps = tt;
   command = ap request_of c.split.ensures.task;
   stopped = (c.in-Err.ensures.stopped, c.in-Err.ensures.unnumbered);
   sound = tt;

@@ -1,0 +1,6 @@
+pub mod Steps
+pub mod Pausing
+pub mod Joining
+pub mod Ending
+pub mod Replying
+pub mod Serving

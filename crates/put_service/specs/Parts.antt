@@ -1,0 +1,112 @@
+-- What each part of the service of a PUT comes to, before its reply is written.
+use Rattle.std.specs.Prelude.{◌≡◌, ℕ, ◌^◌, Bool, true, false, List, [], length, Option, None}
+use Rattle.std.specs.Io.KnownBytes.{Appends}
+use Rattle.realm_model.specs.Settings.{SettingsView}
+use Rattle.realm_model.specs.Doors.{DoorView, actor_at}
+use Rattle.realm_model.specs.Histories.{account_of}
+use Rattle.realm_model.specs.Owns.{own_events}
+use Rattle.realm_model.specs.declared.event.Event.{Event}
+use Rattle.http_intake.specs.Intake.{IntakeState}
+use Rattle.task_words.specs.declared.outcome.Outcome.{Outcome}
+use Rattle.task_words.specs.Outcomes.{IsPutOutcome}
+use Rattle.call_words.specs.Calls.{whole}
+use Rattle.task_put.specs.declared.stage.PutRequest.{PutRequest}
+use Rattle.task_put.specs.declared.stage.Stage.TheVariants.{Ended}
+use Rattle.task_put.specs.declared.task.PutTask.{PutTask}
+use Rattle.task_put.specs.Stages.{IsOver}
+use Rattle.task_put.specs.Taking.{WantsBytes, fed_request}
+use Rattle.task_put.specs.Tasks.{request_of, stage_of, fault_of}
+use Rattle.call_service.specs.Bodies.{HasGiven, HasGivenAll, IsCutIn, FailsIn}
+use Rattle.call_service.specs.Serving.{Asks, AppendsFront, is_by_end}
+use Rattle.call_service.specs.declared.fault.ServeFault.{ServeFault}
+use Rattle.call_service.specs.declared.fault.ServeFault.TheVariants as faults
+use Rattle.put_service.specs.declared.feeding.Taken.{Taken}
+use Rattle.put_service.specs.declared.feeding.Taken.TheVariants as takens
+use Rattle.put_service.specs.Standing.{IsEnd, IsSteady}
+
+-- ---- steps
+
+-- a step of the task stops for want of memory, or because the realm has as many events as it may have
+abbrev pub StopsStep : Type 0 → List Event → ServeFault → Type 0
+StopsStep tells found faults.OutOfMemory = Unit {0}
+StopsStep tells found faults.Worn = tells → length found ≡ 2 ^ 62
+StopsStep tells found fault = ⊥
+
+-- ---- the body
+
+-- what stands at one moment while a body is read: what the door tells, the intake, what the source has left, and the moments
+-- that the clock told
+pub record Place : Type 0 where
+  pub door : DoorView
+  pub intake : IntakeState
+  pub left : Option (List ℕ)
+  pub told : Option (List ℕ)
+
+abbrev pub place : DoorView → IntakeState → Option (List ℕ) → Option (List ℕ) → Place
+place door intake left told = record { door = door; intake = intake; left = left; told = told }
+
+-- the clock was asked so between two moments
+abbrev pub AsksAt : Type 0 → Type 0 → SettingsView → Bool → Place → Place → Type 0
+AsksAt tells alone settings more x y = Asks tells alone settings more x.door y.door x.told y.told
+
+-- the task took all of these bytes, and wants more; or a front of them, and its outcome was there
+abbrev pub TakesBytes : PutTask → PutTask → List ℕ → Bool → Type 0
+TakesBytes old new bytes true = IsSteady new × WantsBytes (stage_of new) × (request_of new ≡ fed_request (request_of old) bytes)
+TakesBytes old new bytes false =
+    IsSteady new × IsOver (stage_of new) × (front : List ℕ) × (request_of new ≡ fed_request (request_of old) front)
+
+-- the body was read so far, and the task took it so
+abbrev pub TakesBody : PutTask → PutTask → Place → Place → Taken → Type 0
+TakesBody old new x y takens.Whole =
+    (given : List ℕ) × HasGivenAll x.intake y.intake x.left y.left given × TakesBytes old new given true
+TakesBody old new x y takens.Over =
+    (given : List ℕ) × HasGiven x.intake y.intake x.left y.left given × TakesBytes old new given false
+TakesBody old new x y takens.Cut = (given : List ℕ) × IsCutIn x.intake x.left y.left given
+
+-- so much of the body was read before a step was refused
+abbrev pub IsRefusedStep : Type 0 → Type 0 → SettingsView → Place → Place → Type 0
+IsRefusedStep tells alone settings x y =
+    (given : List ℕ) × HasGiven x.intake y.intake x.left y.left given × (more : Bool) × AsksAt tells alone settings more x y
+
+-- a read failed inside the body, or a step of the task was refused
+abbrev pub StopsBody : Type 0 → Type 0 → SettingsView → List Event → Place → Place → ServeFault → Type 0
+StopsBody tells alone settings found x y faults.ReadFault =
+    ((given : List ℕ) × FailsIn x.intake x.left y.left given) × AsksAt tells alone settings false x y
+StopsBody tells alone settings found x y faults.OutOfMemory = IsRefusedStep tells alone settings x y
+StopsBody tells alone settings found x y faults.Worn = (tells → length found ≡ 2 ^ 62) × IsRefusedStep tells alone settings x y
+StopsBody tells alone settings found x y fault = ⊥
+
+-- ---- the task as a whole
+
+-- the task ended so between two moments
+pub record EndsSo (tells alone : Type 0) (settings : SettingsView) (task : PutTask) (d e : DoorView) (told told' : Option (List ℕ)) : Type 0 where
+  pub outcome : Outcome
+  pub ended : stage_of task ≡ Ended outcome
+  pub is_end : IsEnd outcome
+  pub asks : Asks tells alone settings (is_by_end outcome) d e told told'
+
+-- the body was read whole, and the task ended so
+pub record HasEnded (tells alone : Type 0) (settings : SettingsView) (r : PutRequest) (task : PutTask) (x y : Place) : Type 0 where
+  pub body : List ℕ
+  pub given : HasGivenAll x.intake y.intake x.left y.left body
+  pub outcome : Outcome
+  pub ended : stage_of task ≡ Ended outcome
+  pub sound : fault_of task ≡ None
+  pub is_end : IsEnd outcome
+  pub right : tells → IsPutOutcome r.zone r.asker r.command (whole body) outcome
+      (account_of settings y.door.seen (actor_at y.door)) (own_events y.door.seen (actor_at y.door))
+  pub asks : AsksAt tells alone settings (is_by_end outcome) x y
+
+-- the task ended; or the input ended inside the body
+abbrev pub RunsTask : Type 0 → Type 0 → SettingsView → PutRequest → PutTask → Place → Place → Bool → Type 0
+RunsTask tells alone settings r task x y true = HasEnded tells alone settings r task x y
+RunsTask tells alone settings r task x y false =
+    ((given : List ℕ) × IsCutIn x.intake x.left y.left given) × AsksAt tells alone settings false x y
+
+-- ---- the reply
+
+-- what a fault leaves of a text: nothing for want of memory, a front where a write failed
+abbrev pub LeavesReply : Option (List ℕ) → Option (List ℕ) → List ℕ → ServeFault → Type 0
+LeavesReply old new text faults.OutOfMemory = Appends old new []
+LeavesReply old new text faults.WriteFault = AppendsFront old new text
+LeavesReply old new text fault = ⊥

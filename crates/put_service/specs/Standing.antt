@@ -1,0 +1,90 @@
+-- Where the task of a PUT stands, and where it pauses.
+use Rattle.std.specs.Prelude.{◌≡◌, Bool, true, false, Option, Some, None}
+use Rattle.realm_model.specs.Settings.{SettingsView}
+use Rattle.realm_model.specs.Doors.{DoorView}
+use Rattle.realm_model.specs.Histories.{Legal}
+use Rattle.task_words.specs.declared.command.BodyEnd.{BodyEnd}
+use Rattle.task_words.specs.declared.command.BodyEnd.TheVariants.{Whole, Failed}
+use Rattle.task_words.specs.declared.outcome.Outcome.{Outcome}
+use Rattle.task_words.specs.declared.outcome.Outcome.TheVariants.{Done, BodyFailed, Busy, MovedOften, LateTag, NoSpace}
+use Rattle.task_words.specs.declared.reply.MapReply.TheVariants.{Stored, Refused}
+use Rattle.task_words.specs.declared.reply.Refusal.TheVariants.{OtherEtag}
+use Rattle.task_put.specs.declared.stage.PutRequest.{PutRequest}
+use Rattle.task_put.specs.declared.stage.Draft.{Draft}
+use Rattle.task_put.specs.declared.stage.After.TheVariants.{Again, End}
+use Rattle.task_put.specs.declared.stage.Stage.{Stage}
+use Rattle.task_put.specs.declared.stage.Stage.TheVariants.{Looking, Feeding, Cancelling, Ended}
+use Rattle.task_put.specs.declared.task.PutTask.{PutTask}
+use Rattle.task_put.specs.Stages.{IsOver}
+use Rattle.task_put.specs.Taking.{WantsBytes}
+use Rattle.task_put.specs.Tasks.{request_of, stage_of, fits}
+use Rattle.call_service.specs.Serving.{is_by_end}
+use Rattle.put_service.specs.declared.stepping.Pause.{Pause}
+use Rattle.put_service.specs.declared.stepping.Pause.TheVariants as pauses
+
+-- ---- by what the door tells
+
+-- the task stands where the events of the door's actor bring it
+abbrev pub IsUp : Type 0 → SettingsView → PutTask → DoorView → Type 0
+IsUp tells settings task d = tells → Legal settings d.seen × fits task settings d
+
+-- ---- whatever the door tells
+
+-- a PUT whose body was read whole, or did not end, ends so
+abbrev pub IsEnd : Outcome → Type 0
+IsEnd (Done (Stored etag stamp)) = Unit {0}
+IsEnd (Done (Refused why)) = Unit {0}
+IsEnd (Busy id) = Unit {0}
+IsEnd MovedOften = Unit {0}
+IsEnd LateTag = Unit {0}
+IsEnd (NoSpace free needed) = Unit {0}
+IsEnd outcome = ⊥
+
+-- an event brings this end: the end of the body does not
+abbrev pub IsByEvent : Outcome → Type 0
+IsByEvent outcome = IsEnd outcome × (is_by_end outcome ≡ false)
+
+-- the end of the body brings the stage's end
+abbrev pub IsByBody : Option BodyEnd → Stage → Type 0
+IsByBody (Some Whole) (Ended (Done (Refused OtherEtag))) = Unit {0}
+IsByBody (Some Failed) (Ended BodyFailed) = Unit {0}
+IsByBody end stage = ⊥
+
+-- the draft is of the body as it came
+pub record IsOf (r : PutRequest) (draft : Draft) : Type 0 where
+  pub bytes : draft.body.bytes ≡ r.bytes
+  pub end : draft.body.end ≡ r.end
+
+-- the draft is of the body as it came, and only an event brings the end
+abbrev pub IsSteadyAt : PutRequest → Stage → Type 0
+IsSteadyAt r (Looking draft) = IsOf r draft
+IsSteadyAt r (Feeding write key draft) = IsOf r draft
+IsSteadyAt r (Cancelling key tag (Again content)) = Unit {0}
+IsSteadyAt r (Cancelling key tag (End outcome)) = IsByEvent outcome
+IsSteadyAt r (Ended outcome) = IsByEvent outcome
+IsSteadyAt r stage = Unit {0}
+
+abbrev pub IsSteady : PutTask → Type 0
+IsSteady task = IsSteadyAt (request_of task) (stage_of task)
+
+-- ---- pauses
+
+-- the task stands so at a pause
+abbrev pub PausesAt : Pause → PutTask → Type 0
+PausesAt pauses.Wants task = IsSteady task × WantsBytes (stage_of task)
+PausesAt pauses.Over task = IsSteady task × IsOver (stage_of task)
+PausesAt pauses.ByEnd task = IsByBody (request_of task).end (stage_of task)
+
+-- a step made an event, or paused
+abbrev pub StandsAfter : Option Pause → PutTask → Type 0
+StandsAfter None task = IsSteady task
+StandsAfter (Some pause) task = PausesAt pause task
+
+-- the clock is asked without an event
+abbrev pub is_untold : Pause → Bool
+is_untold pauses.ByEnd = true
+is_untold pause = false
+
+abbrev pub is_untold_at : Option Pause → Bool
+is_untold_at None = false
+is_untold_at (Some pause) = is_untold pause
