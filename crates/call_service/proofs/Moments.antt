@@ -66,7 +66,7 @@ only_one settings d e moment made few =
     let x = made.extends in
     let own = event_at d made.op moment made.answered.reply in
     let none : x.between ≡ [] = no_length x.between
-        (omega (arith, few, ap length x.ends, length-append (d.seen ++ x.between) (own ∷ []), length-append d.seen x.between)) in
+    (omega (arith, few, ap length x.ends, length-append (d.seen ++ x.between) (own ∷ []), length-append d.seen x.between)) in
     record {
       more = own ∷ [];
       grows = x.ends ∙ ap (λ l. (d.seen ++ l) ++ own ∷ []) none ∙ ap (λ l. l ++ own ∷ []) (append-nil d.seen);

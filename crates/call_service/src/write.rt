@@ -23,11 +23,7 @@ pub fn send<K: Sink>(sink: &mut K, bytes: &[u8]) -> Result<(), ServeFault>
 
 /// Writes all of these bytes and then those.
 #[tactic(auto, using(crate::proofs::Fronts::front_longer, crate::proofs::Fronts::front_behind))]
-pub fn send_both<K: Sink>(
-    sink: &mut K,
-    first: &[u8],
-    second: &[u8],
-) -> Result<(), ServeFault>
+pub fn send_both<K: Sink>(sink: &mut K, first: &[u8], second: &[u8]) -> Result<(), ServeFault>
     ensures ok { OnOk result (Appends (K.taken sink.old) (K.taken sink.new) (first.now ++ second.now)) }
     ensures err { OnErr result (AppendsFront (K.taken sink.old) (K.taken sink.new) (first.now ++ second.now)) }
     ensures fault { IfErr result (λ fault. fault ≡ WriteFault) }

@@ -1,5 +1,5 @@
 -- What callers of a GET know: the pieces, one after another, are the bytes that its reply shows.
-use Rattle.std.proofs.Common.{◌≡◌, ℕ, ◌⊎◌, inl, inr, ⊎_elim, Bool, true, false, cond, List, [], ◌∷◌, ◌++◌, length, drop, Option, Some, None, refl, sym, ap, ◌∙◌, subst, arith, length-append, length-take, length-drop}
+use Rattle.std.proofs.Common.{◌≡◌, ℕ, ◌+◌, ◌*◌, nat_lt, ◌⊎◌, inl, inr, ⊎_elim, Bool, true, false, cond, List, [], ◌∷◌, ◌++◌, length, take, drop, Option, Some, None, refl, sym, ap, ◌∙◌, subst, arith, length-append, length-take, length-drop}
 use Rattle.std.specs.Prelude.{IfSome}
 use Rattle.std.proofs.lemmas.Grind.{flat_map-append}
 use Rattle.std.proofs.lemmas.List.{append-nil, nil_from_length}
@@ -7,6 +7,7 @@ use Rattle.rgw_types.specs.declared.stamp.Stamp.{Stamp}
 use Rattle.rgw_model.specs.declared.slot.Content.{Content}
 use Rattle.rgw_model.specs.declared.slot.Slot.{Slot}
 use Rattle.rgw_model.specs.declared.slot.Slot.TheVariants as Slots
+use Rattle.object_words.specs.declared.head.NewHead.{NewHead}
 use Rattle.object_words.specs.declared.head.SeenSlot.TheVariants.{Live}
 use Rattle.realm_model.specs.Settings.{SettingsView}
 use Rattle.realm_model.specs.Accounts.{Decided, Account}
@@ -15,6 +16,8 @@ use Rattle.realm_model.specs.Histories.{Doings}
 use Rattle.realm_model.specs.Doors.{DoorView, actor_at}
 use Rattle.realm_model.specs.Owns.{OwnEvent, own_events, NoneBy}
 use Rattle.realm_model.specs.declared.event.Event.{Event}
+use Rattle.realm_model.specs.declared.event.Reply.{Reply}
+use Rattle.realm_model.specs.declared.op.Op.TheVariants.{BucketRead}
 use Rattle.realm_door.specs.Steps.{own_event}
 use Rattle.realm_door.specs.Turns.{MakesEvent}
 use Rattle.realm_door.proofs.Others.{same_after_others}
@@ -27,18 +30,22 @@ use Rattle.task_words.specs.declared.reply.MapReply.TheVariants.{Stored, Shown, 
 use Rattle.task_words.specs.declared.reply.Refusal.TheVariants.{Unauthorized, Denied, NoContainer, NoObject, NotMet, NoRange, OtherEtag}
 use Rattle.task_words.specs.Spans.{bytes_taken}
 use Rattle.task_words.specs.Answers.{is_unmet, is_had, span_of, get, get_answer}
-use Rattle.task_words.specs.Outcomes.{ByMap, IsShown}
+use Rattle.task_words.specs.Outcomes.{ByMap, IsShown, IsGetOutcome}
 use Rattle.task_get.specs.declared.request.GetRequest.{GetRequest}
 use Rattle.task_get.specs.declared.stage.Stage.{Stage}
 use Rattle.task_get.specs.declared.stage.Stage.TheVariants.{Look, Open, Tails, Ended, Late}
+use Rattle.task_get.specs.declared.stage.TailShown.{TailShown}
+use Rattle.task_get.specs.declared.stage.TailShown.TheVariants.{Bytes, Gone}
 use Rattle.task_get.specs.declared.task.GetTask.{GetTask}
-use Rattle.task_get.specs.Shown.{content_with}
+use Rattle.task_get.specs.Shown.{HasParts, content_with}
+use Rattle.task_get.specs.Readings.{ReadingView, next_piece}
 use Rattle.task_get.specs.Replies.{reply_of}
+use Rattle.task_get.specs.Stages.{IsOpen, tail_shown, gone_on, after_tail, step_of}
 use Rattle.task_get.specs.Pieces.{brought_by, brought}
 use Rattle.task_get.specs.Gets.{ReadsRow, ReadsAll, BringsAll, BringsFront, Means, LastBrings, FitsStage}
-use Rattle.task_get.specs.Tasks.{account_at, phase_at, events_at, bytes_of, given_of, where_shown, shown_by, Fits}
+use Rattle.task_get.specs.Tasks.{account_at, phase_at, events_at, bytes_of, given_of, where_shown, shown_by, shown_of, Fits}
 use Rattle.task_get.proofs.Replies.{answer_by, Lies, taken_lies, live_is}
-use Rattle.task_get.proofs.Ends.{decided_slot, front_shown, shows_bytes}
+use Rattle.task_get.proofs.Ends.{by_map, decided_slot, front_shown, shows_bytes}
 
 -- ---- the ends, by what decides
 
@@ -110,14 +117,139 @@ none_shown r (Ended (Done reply) given) y p events fits is =
 none_shown r (Ended outcome given) y p events fits is = absurd fits.1
 none_shown r (Late x outcome) y p events fits is = let e : Some fits.1.by_map.event ≡ None = sym fits.1.by_map.is_last ∙ is in cc
 
+-- the reply that is shown is the bucket map's, as it is where the task ends with it
+whole_answer : (r : GetRequest) (new : NewHead) (stamp : Stamp) (bytes : List ℕ) → HasParts new bytes → (get_answer r.get (Slots.Live (content_with new bytes) stamp)).after ≡ Slots.Live (content_with new bytes) stamp
+whole_answer r new stamp bytes parts = (live_is r.get new stamp bytes parts.size).after
+
+shown_reply : (reply shown : MapReply) → where_shown reply ≡ Some shown → (reply ≡ shown) × IsShown shown
+shown_reply (Shown kind meta etag stamp size start count) shown is = let same : Shown kind meta etag stamp size start count ≡ shown = cc in (same, subst IsShown same tt)
+shown_reply (Stored etag stamp) shown is = cc
+shown_reply (Same etag stamp) shown is = cc
+shown_reply (Counted row objects bytes) shown is = cc
+shown_reply (Refused refusal) shown is = cc
+
+map_rests : (r : GetRequest) (reply : MapReply) (y : Account) → IsShown reply → ByMap r.zone r.asker (get r.get) reply y.decided → y.changes ≡ 0 → IsGetOutcome r.zone r.asker r.get (Done reply) y
+map_rests r (Shown kind meta etag stamp size start count) y is by unchanged = (by, unchanged)
+map_rests r reply y is by unchanged = absurd is
+
+unchanged_meant : (r : GetRequest) (outcome : Outcome) (y : Account) (events : List OwnEvent) → Means r outcome y events → y.changes ≡ 0
+unchanged_meant r (LateRead read_at clock) y events m = m.0.unchanged
+unchanged_meant r (Done (Refused Unauthorized)) y events m = m.0.unchanged
+unchanged_meant r (Done (Refused (Denied rule))) y events m = m.0.unchanged
+unchanged_meant r (Done (Refused NoContainer)) y events m = m.0.unchanged
+unchanged_meant r (Done (Refused NoObject)) y events m = m.0.1
+unchanged_meant r (Done (Refused NotMet)) y events m = m.0.1
+unchanged_meant r (Done (Refused (NoRange size))) y events m = m.0.1
+unchanged_meant r (Done (Refused OtherEtag)) y events m = m.0.1
+unchanged_meant r (Done (Stored etag stamp)) y events m = m.0.1
+unchanged_meant r (Done (Shown kind meta etag stamp size start count)) y events m = m.0.1
+unchanged_meant r (Done (Same etag stamp)) y events m = m.0.1
+unchanged_meant r (Done (Counted row objects bytes)) y events m = m.0.1
+unchanged_meant r outcome y events m = absurd m
+
+ended_rests : (r : GetRequest) (reply shown : MapReply) (y : Account) (events : List OwnEvent) → (reply ≡ shown) × IsShown shown → Means r (Done reply) y events → IsGetOutcome r.zone r.asker r.get (Done shown) y × IsShown shown
+ended_rests r reply shown y events is m = (subst (λ x. IsGetOutcome r.zone r.asker r.get (Done x) y) is.0 m.0, is.1)
+
+pub shown_rests : (r : GetRequest) (stage : Stage) (y : Account) (p : Phase) (events : List OwnEvent) (reply : MapReply) → FitsStage r stage y p events → shown_by stage ≡ Some reply → IsGetOutcome r.zone r.asker r.get (Done reply) y × IsShown reply
+shown_rests r Look y p events reply fits is = cc
+shown_rests r (Open container) y p events reply fits is = cc
+shown_rests r (Tails x) y p events reply fits is =
+    let same : x.reply ≡ reply = cc in
+    let whole : Slot = Slots.Live (content_with fits.new fits.bytes) fits.stamp in
+    let shows : IsShown x.reply = subst IsShown (sym fits.reply) (shows_bytes r.get.body (reply_of r.get fits.new fits.stamp) x.range fits.range) in
+    let answers : x.reply ≡ (get_answer r.get whole).reply = fits.reply ∙ (live_is r.get fits.new fits.stamp fits.bytes fits.parts.size).reply in
+    let by = by_map r (Live fits.new fits.stamp) whole fits.head fits.tails y events x.reply fits.has_read answers (whole_answer r fits.new fits.stamp fits.bytes fits.parts) in
+    (subst (λ x. IsGetOutcome r.zone r.asker r.get (Done x) y) same (map_rests r x.reply y shows by fits.has_read.unchanged), subst IsShown same shows)
+shown_rests r (Ended (Done reply) given) y p events shown fits is = ended_rests r reply shown y events (shown_reply reply shown is) fits.0
+shown_rests r (Ended outcome given) y p events reply fits is = absurd fits.1
+shown_rests r (Late x outcome) y p events reply fits is =
+    let same : x.reply ≡ reply = cc in
+    let unchanged = unchanged_meant r outcome y events fits.0 in
+    (subst (λ x. IsGetOutcome r.zone r.asker r.get (Done x) y) same (map_rests r x.reply y fits.1.is_shown fits.1.by_map unchanged), subst IsShown same fits.1.is_shown)
+
+-- a turn leaves the reply that is shown
+going_shows : (x : ReadingView) (count : ℕ) → IsShown x.reply → shown_by (gone_on x count) ≡ Some x.reply
+going_shows x count is =
+    elim (nat_lt ((x.part + 1) * x.manifest.stripe) (x.range.start + x.range.count)) as (λ b. shown_by (cond b (Tails (record x { part = x.part + 1; given = x.given + count })) (Ended (Done x.reply) (x.given + count))) ≡ Some x.reply) [ true ↦ refl | false ↦ sym (shown_is x.reply is) ]
+
+tail_shows : (x : ReadingView) (tail : TailShown) → IsShown x.reply → shown_by (after_tail x tail).0 ≡ Some x.reply
+tail_shows x (Bytes bytes) is = going_shows x (length (take (next_piece x).count bytes)) is
+tail_shows x (Gone clock) is = refl
+
+step_shows : (r : GetRequest) (stage : Stage) (y : Account) (p : Phase) (events : List OwnEvent) (answer : Reply) (clock : ℕ) (reply : MapReply) → IsOpen stage → FitsStage r stage y p events → shown_by stage ≡ Some reply → shown_by (step_of r stage answer clock).0 ≡ Some reply
+step_shows r Look y p events answer clock reply going fits is = cc
+step_shows r (Open container) y p events answer clock reply going fits is = cc
+step_shows r (Tails x) y p events answer clock reply going fits is =
+    tail_shows x (tail_shown answer) (subst IsShown (sym fits.reply) (shows_bytes r.get.body (reply_of r.get fits.new fits.stamp) x.range fits.range)) ∙ is
+step_shows r (Ended outcome given) y p events answer clock reply going fits is = absurd going
+step_shows r (Late x outcome) y p events answer clock reply going fits is = absurd going
+
+pub still_shown : (settings : SettingsView) (d : DoorView) (t u : GetTask) (answer : Reply) (clock : ℕ) (reply : MapReply) → IsOpen t.stage → u.stage ≡ (step_of t.request t.stage answer clock).0 → Fits t settings d → shown_of t ≡ Some reply → shown_of u ≡ Some reply
+still_shown settings d t u answer clock reply going stage fits is =
+    ap shown_by stage ∙ step_shows t.request t.stage (account_at settings d) (phase_at settings d) (events_at d) answer clock reply going fits.stage is
+
 -- ---- the bytes
+
+-- only a reply that is shown has bytes
+hidden_by_cases : (unmet had : Bool) (range : Option ByteRange) (wanted : Bool) (content : Content) (now : Stamp) → where_shown (answer_by unmet had range wanted content now).reply ≡ None → (answer_by unmet had range wanted content now).shown ≡ []
+hidden_by_cases true had range wanted content now hidden = refl
+hidden_by_cases false true range wanted content now hidden = refl
+hidden_by_cases false false None wanted content now hidden = refl
+hidden_by_cases false false (Some range) wanted content now hidden = cc
+
+hidden_has_none : (c : GetCommand) (slot : Slot) → where_shown (get_answer c slot).reply ≡ None → (get_answer c slot).shown ≡ []
+hidden_has_none c Slots.Nothing hidden = refl
+hidden_has_none c (Slots.Mark old) hidden = refl
+hidden_has_none c (Slots.Live content now) hidden =
+    hidden_by_cases (is_unmet c.when.matches c.when.unmodified content.etag now) (is_had c.when.none c.when.modified content.etag now) (bytes_taken (span_of c) (length content.bytes)) c.body content now hidden
+
+row_brings_none : (c : GetCommand) (events : List OwnEvent) (look : OwnEvent) (zone : ℕ) (name : List ℕ) → events ≡ look ∷ [] → look.op ≡ BucketRead zone name → brought c events ≡ []
+row_brings_none c events look zone name stands op =
+    ap (brought c) stands ∙ append-nil (brought_by c look.op look.reply) ∙ ap (λ o. brought_by c o look.reply) op
+
+-- the first event reads the row
+meant_at_first : (r : GetRequest) (outcome : Outcome) (y : Account) (events : List OwnEvent) (own : OwnEvent) → Means r outcome y events → events ≡ own ∷ [] → brought r.get events ≡ []
+meant_at_first r (Done reply) y events own m is =
+    ⊎_elim
+    (λ row. row_brings_none r.get events row.reads.look r.zone r.get.container row.reads.stands row.reads.op)
+    (λ map. let both = sym is ∙ map.reads.begins.stands in cc)
+    (by_either r reply y events m)
+meant_at_first r (LateRead read_at clock) y events own m is = let both = sym is ∙ m.1.begins.stands in cc
+meant_at_first r outcome y events own m is = absurd m
+
+pub none_at_first : (r : GetRequest) (stage : Stage) (y : Account) (p : Phase) (events : List OwnEvent) (own : OwnEvent) → FitsStage r stage y p events → events ≡ own ∷ [] → brought r.get events ≡ []
+none_at_first r Look y p events own fits is = ap (brought r.get) fits.none
+none_at_first r (Open container) y p events own fits is = row_brings_none r.get events fits.look r.zone r.get.container fits.stands fits.granted.op
+none_at_first r (Tails x) y p events own fits is = let both = sym is ∙ fits.has_read.begins.stands in cc
+none_at_first r (Ended outcome given) y p events own fits is = meant_at_first r outcome y events own fits.0 is
+none_at_first r (Late x outcome) y p events own fits is = meant_at_first r outcome y events own fits.0 is
+
+-- a reply that was found has all bytes that are shown at the event that decides
+pub all_brought : (r : GetRequest) (reply : MapReply) (y : Account) (events : List OwnEvent) → Means r (Done reply) y events → BringsAll r y events
+all_brought r reply y events m event is =
+    ⊎_elim
+    (λ row. let e : None ≡ Some event = sym row.undecided ∙ is in cc)
+    (λ map. map.brings event is)
+    (by_either r reply y events m)
+
+pub none_brought : (r : GetRequest) (stage : Stage) (y : Account) (p : Phase) (events : List OwnEvent) → FitsStage r stage y p events → shown_by stage ≡ None → brought r.get events ≡ []
+none_brought r Look y p events fits is = ap (brought r.get) fits.none
+none_brought r (Open container) y p events fits is = row_brings_none r.get events fits.look r.zone r.get.container fits.stands fits.granted.op
+none_brought r (Tails x) y p events fits is = cc
+none_brought r (Ended (Done reply) given) y p events fits is =
+    ⊎_elim
+    (λ row. row_brings_none r.get events row.reads.look r.zone r.get.container row.reads.stands row.reads.op)
+    (λ map.
+    let event = map.by_map.event in
+    let same = mapped_reply r reply y event map.by_map map.by_map.is_last in
+    map.brings event map.by_map.is_last ∙ hidden_has_none r.get event.before (sym (ap where_shown same) ∙ is))
+    (by_either r reply y events fits.0)
+none_brought r (Ended outcome given) y p events fits is = absurd fits.1
+none_brought r (Late x outcome) y p events fits is = cc
 
 front_meant : (r : GetRequest) (outcome : Outcome) (y : Account) (events : List OwnEvent) → Means r outcome y events → BringsFront r y events
 front_meant r (Done reply) y events m event is =
-    ⊎_elim
-    (λ row. let e : None ≡ Some event = sym row.undecided ∙ is in cc)
-    (λ map. record { rest = []; joined = sym (map.brings event is) ∙ sym (append-nil (brought r.get events)) })
-    (by_either r reply y events m)
+    record { rest = []; joined = sym (all_brought r reply y events m event is) ∙ sym (append-nil (brought r.get events)) }
 front_meant r (LateRead read_at clock) y events m event is = m.2 event is
 front_meant r outcome y events m event is = absurd m
 

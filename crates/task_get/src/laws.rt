@@ -1,14 +1,16 @@
 //! Laws of a task's pieces: the functions here do nothing.
-ghost use Rattle.std.specs.Prelude.{◌≡◌, ℕ, ◌++◌, List, Some, None, length, if◌then◌else◌};
+ghost use Rattle.std.specs.Prelude.{◌≡◌, ℕ, ◌++◌, ◌∷◌, List, [], Some, None, length, if◌then◌else◌};
 ghost use Rattle.rgw_types.specs.declared.stamp.Stamp.{Stamp as StampOf};
 ghost use Rattle.realm_model.specs.Settings.{SettingsView};
 ghost use Rattle.realm_model.specs.Accounts.{Decided};
 ghost use Rattle.realm_model.specs.Doors.{DoorView, actor_at};
-ghost use Rattle.realm_model.specs.Owns.{NoneBy};
+ghost use Rattle.realm_model.specs.Owns.{NoneBy, OwnEvent as OwnEventOf};
 ghost use Rattle.realm_model.specs.declared.event.Event.{Event as EventOf};
 ghost use Rattle.realm_door.specs.Turns.{MakesEvent};
 ghost use Rattle.task_words.specs.declared.outcome.Outcome.TheVariants.{Done};
+ghost use Rattle.task_words.specs.declared.reply.MapReply.{MapReply as MapReplyOf};
 ghost use Rattle.task_words.specs.declared.reply.MapReply.TheVariants.{Shown};
+ghost use Rattle.task_words.specs.Outcomes.{IsShown, IsGetOutcome};
 ghost use Rattle.task_words.specs.Answers.{get, answer};
 ghost use Rattle.task_get.specs.declared.request.GetRequest.{GetRequest as GetRequestOf};
 ghost use Rattle.task_get.specs.declared.task.GetTask.{GetTask as GetTaskOf};
@@ -47,13 +49,21 @@ pub fn pieces_are_the_bytes_shown()
 {}
 
 /// From the event that decides on, the task shows the bucket map's reply there, where that shows bytes;
-/// before it, none.
+/// before it, none. What a GET that ends with it rests on is so from then on. Where none is shown nothing was
+/// brought, and nothing by the first event.
 pub fn the_reply_is_shown_from_the_head_on()
     ensures shown { (settings : SettingsView) (t : GetTaskOf) (d : DoorView) (event : Decided)
         → Fits t settings d → (account_at settings d).decided ≡ Some event
         → shown_of t ≡ where_shown (answer event.before (get (request_of t).get) (request_of t).zone event.clock).reply }
     ensures not_yet { (settings : SettingsView) (t : GetTaskOf) (d : DoorView)
         → Fits t settings d → (account_at settings d).decided ≡ None → shown_of t ≡ None }
+    ensures rests { (settings : SettingsView) (t : GetTaskOf) (d : DoorView) (reply : MapReplyOf)
+        → Fits t settings d → shown_of t ≡ Some reply
+        → IsGetOutcome (request_of t).zone (request_of t).asker (request_of t).get (Done reply) (account_at settings d) × IsShown reply }
+    ensures first { (settings : SettingsView) (t : GetTaskOf) (d : DoorView) (own : OwnEventOf)
+        → Fits t settings d → events_at d ≡ own ∷ [] → brought (request_of t).get (events_at d) ≡ [] }
+    ensures nothing { (settings : SettingsView) (t : GetTaskOf) (d : DoorView)
+        → Fits t settings d → shown_of t ≡ None → brought (request_of t).get (events_at d) ≡ [] }
 {}
 
 /// A task stands where it did while others make events.

@@ -5,6 +5,7 @@ ghost use Rattle.realm_model.specs.Histories.{account_of};
 ghost use Rattle.realm_model.specs.Owns.{own_events};
 ghost use Rattle.realm_model.specs.Doors.{DoorView, actor_at};
 ghost use Rattle.realm_model.specs.Suits.{Suits};
+ghost use Rattle.task_words.specs.declared.reply.MapReply.{MapReply as MapReplyOf};
 ghost use Rattle.task_get.specs.Pieces.{piece_bytes};
 ghost use Rattle.turn_cell.specs.declared.machine.DoorFault.TheVariants.{Worn};
 ghost use Rattle.realm_model.specs.Histories.{Legal};
@@ -44,6 +45,7 @@ impl GetTask {
             → account_of settings d.seen (actor_at d) ≡ blank → own_events d.seen (actor_at d) ≡ []
             → Fits result settings d }
         ensures sound { fault_of result ≡ None }
+        ensures open { IsOpen (stage_of result) }
     {
         GetTask {
             request,
@@ -137,6 +139,7 @@ impl GetTask {
         ensures counts { IfOk result (λ turn. Counts turn (D.last door.old) (D.last door.new)) }
         ensures given { IfOk result (λ turn. Given turn (given_of self.old) (bytes_of self.new) (given_of self.new)) }
         ensures request { request_of self.new ≡ request_of self.old }
+        ensures shown { D.tells → (reply : MapReplyOf) → shown_of self.old ≡ Some reply → shown_of self.new ≡ Some reply }
         ensures stopped { OnErr result ((D.tells → D.told door.new ≡ D.told door.old) × (D.last door.new ≡ D.last door.old)) }
         ensures sound { OnOk result (fault_of self.new ≡ None) }
         ensures faulted { IfErr result (λ f. fault_of self.new ≡ Some f) }

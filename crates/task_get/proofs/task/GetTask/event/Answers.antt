@@ -6,6 +6,7 @@ use Rattle.realm_door.proofs.Steps.{one_more}
 use Rattle.task_get.specs.Stages.{given_by}
 use Rattle.task_get.specs.Tasks.{bytes_of, given_of}
 use Rattle.task_get.proofs.Turning.{fits_next, may_step, step_gives, given_so}
+use Rattle.task_get.proofs.Giving.{still_shown}
 use Rattle.task_get.proofs.task.GetTask.event.Goals as goal
 
 pub step-requires : goal.step-requires
@@ -35,3 +36,7 @@ returns-in-Ok-step-clause-given g c =
 pub returns-in-Ok-step-clause-alone : goal.returns-in-Ok-step-clause-alone
 returns-in-Ok-step-clause-alone g c = λ tells alone.
     one_more (g.D.Door.told c.args.door.now) (g.D.Door.told c.step.new.self) (event_at (g.D.Door.told c.args.door.now) c.in-Ok.op c.args.moment c.in-Ok-step.answered.reply) (c.in-Ok-step.ensures.alone tells alone)
+
+pub returns-in-Ok-step-clause-shown : goal.returns-in-Ok-step-clause-shown
+returns-in-Ok-step-clause-shown g c = λ tells reply is.
+    still_shown (g.D.Door.settings c.args.door.now) (g.D.Door.told c.args.door.now) c.args.self.now c.take.new.self c.in-Ok-step.answered.reply c.in-Ok-step.answered.clock reply c.requires.ready c.take.ensures.stage (c.requires.fits tells).1 is
