@@ -1,6 +1,6 @@
 -- The requests on objects that the bytes of a connection are, and how they end: what becomes of the bytes behind a head follows
 -- from what the head asks (RFC 9112, sections 2, 6 and 9.6).
-use Rattle.std.specs.Prelude.{◌≡◌, ◌≢◌, ◌⊎◌, ℕ, suc, ◌<◌, false, List, [], ◌∷◌, ◌++◌, length, Bool, MatchBool, ⊥}
+use Rattle.std.specs.Prelude.{◌≡◌, ◌≢◌, ◌⊎◌, ℕ, suc, ◌<◌, false, List, [], ◌∷◌, ◌++◌, length, Bool, MatchBool}
 use Rattle.http_model.specs.declared.head.Head.{Head}
 use Rattle.http_model.specs.declared.head.Request.{Request}
 use Rattle.http_model.specs.declared.reply.ReplyForm.{ReplyForm}

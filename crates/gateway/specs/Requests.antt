@@ -1,5 +1,5 @@
 -- What serving one request comes to, from the moment when its head was read.
-use Rattle.std.specs.Prelude.{◌≡◌, ◌⊎◌, ℕ, ◌+◌, ◌≤◌, Bool, true, false, List, [], ◌++◌, Option, Some, None, ⊥}
+use Rattle.std.specs.Prelude.{◌≡◌, ◌⊎◌, ℕ, ◌+◌, ◌≤◌, Bool, true, false, List, [], ◌++◌, Option, Some, None}
 use Rattle.std.specs.Io.KnownBytes.{Consumes, Appends}
 use Rattle.http_intake.specs.Intake.{IntakeState, IsBetween, is_in_chunks}
 use Rattle.http_model.specs.declared.head.Head.{Head}

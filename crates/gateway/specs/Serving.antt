@@ -1,6 +1,6 @@
 -- What serving the requests of a connection comes to, from the kth of them on: the reply texts of calls that the one history of
 -- the realm bears out (OpenStack Object Storage API v1; RFC 9112).
-use Rattle.std.specs.Prelude.{◌≡◌, ◌⊎◌, ℕ, ◌+◌, Bool, List, [], ◌++◌, length, map, ⊤, ⊥, Option, Result, Err, IfOk}
+use Rattle.std.specs.Prelude.{◌≡◌, ◌⊎◌, ℕ, ◌+◌, Bool, List, [], ◌++◌, length, map, ⊤, Option, Result, Err, IfOk}
 use Rattle.std.specs.List.{AllByRecursion}
 use Rattle.std.specs.Io.KnownBytes.{IsAtEnd, Consumes, Appends}
 use Rattle.gw_io.specs.Ends.{EndsState}

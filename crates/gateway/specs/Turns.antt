@@ -1,9 +1,11 @@
 -- What one turn of a connection comes to.
-use Rattle.std.specs.Prelude.{◌≡◌, ℕ, ◌≤◌, false, List, [], ◌++◌, Option, Some, None, ⊤, ⊥, Result, Ok, Err, IfOk}
+use Rattle.std.specs.Prelude.{◌≡◌, ◌≢◌, ℕ, ◌≤◌, Bool, false, List, [], ◌++◌, Option, Some, None, ⊤, Result, Ok, Err, IfOk}
 use Rattle.std.specs.Io.KnownBytes.{Consumes, Appends}
 use Rattle.http_intake.specs.declared.fault.IntakeFault.{IntakeFault}
 use Rattle.http_intake.specs.declared.fault.IntakeFault.TheVariants as intake
+use Rattle.http_model.specs.declared.reply.BadRequest.{BadRequest}
 use Rattle.http_model.specs.declared.reply.BadRequest.TheVariants as Word
+use Rattle.http_model.specs.Replies.{bad_request_text}
 use Rattle.http_model.specs.declared.reply.StreamEnd.{StreamEnd}
 use Rattle.http_model.specs.declared.reply.StreamEnd.TheVariants as Ends
 use Rattle.gw_io.specs.Ends.{EndsState}
@@ -18,7 +20,7 @@ use Rattle.call_service.specs.declared.fault.ServeFault.TheVariants as faults
 use Rattle.gateway.specs.declared.turn.Turn.{Turn}
 use Rattle.gateway.specs.declared.turn.Turn.TheVariants.{Further, Over}
 use Rattle.gateway.specs.Requests.{IsReady, IsAnswered}
-use Rattle.gateway.specs.Texts.{end_text, end_replies, connection_end}
+use Rattle.gateway.specs.Texts.{closing, end_text, end_replies, connection_end}
 use Rattle.gateway.specs.Serving.{ServesFrom, LeavesAt}
 
 -- one request was taken from the bytes and replied
@@ -75,7 +77,8 @@ EndsSo taken taken' fault turn =
 -- or it was not: memory was wanting, or a read or a write failed
 abbrev pub LeavesSo : Option (List ℕ) → Option (List ℕ) → IntakeFault → ServeFault → Type 0
 LeavesSo taken taken' fault faults.ReadFault = (fault ≡ intake.ReadFault) × Appends taken taken' []
-LeavesSo taken taken' fault faults.OutOfMemory = Appends taken taken' []
+LeavesSo taken taken' fault faults.OutOfMemory = (fault ≢ intake.ReadFault) × Appends taken taken' []
 LeavesSo taken taken' fault faults.WriteFault =
-    (end : StreamEnd) × (end_for fault ≡ Some end) × AppendsFront taken taken' (end_text end)
+    (word : BadRequest) × (bodiless : Bool) × (end_for fault ≡ Some (Ends.Refused word bodiless))
+    × AppendsFront taken taken' (bad_request_text (closing bodiless) word)
 LeavesSo taken taken' fault other = ⊥
