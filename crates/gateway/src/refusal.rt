@@ -80,7 +80,8 @@ fn use_body<S: Source>(
     ensures kept { length buffer.new ≡ length buffer.old }
 {
     match plan {
-        BodyUse::Fed(_) | BodyUse::Dropped(_) => drop_body(intake, source, buffer),
+        BodyUse::Fed(_) => drop_body(intake, source, buffer),
+        BodyUse::Dropped(_) => drop_body(intake, source, buffer),
         BodyUse::Unread => Ok(true),
     }
 }

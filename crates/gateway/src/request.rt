@@ -60,6 +60,7 @@ fn serve_asked<D: Door, S: Source, K: Sink, C: Clock>(
     requires same { D.settings door.old ≡ settings.now }
     requires user { user.now ≡ standard_user }
     requires behind { IsBehindHead intake.old head.now }
+    requires most { settings.now.largest ≤ 5368709120 }
     requires asks { asked ≡ asked_of settings.now.largest head.now }
     requires plan { plan ≡ use_of settings.now.largest head.now }
     requires form { form.bodiless ≡ is_bodiless head.now.method }
@@ -116,7 +117,7 @@ pub(crate) fn serve_request<D: Door, S: Source, K: Sink, C: Clock>(
     ensures turn { (x : Side)
         → ReadsHead x (side (D.told door.old) intake.old (⟦<(S, K, C) as Ends>⟧.ends (source.old, sink.old, clock.old))) head.now
         → ComesTo D.tells D.alone (site_of settings.now zone) k (D.found door.new) x
-            (side (D.told door.new) intake.new (⟦<(S, K, C) as Ends>⟧.ends (source.new, sink.new, clock.new))) result }
+        (side (D.told door.new) intake.new (⟦<(S, K, C) as Ends>⟧.ends (source.new, sink.new, clock.new))) result }
     ensures few { IfOk result WritesFew }
     ensures cause { HasServeCause
         (⟦<(S, K, C) as Ends>⟧.ends (source.old, sink.old, clock.old))
@@ -125,19 +126,22 @@ pub(crate) fn serve_request<D: Door, S: Source, K: Sink, C: Clock>(
     ensures home { D.home door.new ≡ D.home door.old }
     ensures kept { length buffer.new ≡ length buffer.old }
 {
-    let asked = read_asked(alloc, settings.largest, head)?;
+    let asked = match read_asked(alloc, settings.largest, head) {
+        Ok(asked) => asked,
+        Err(_) => return Err(ServeFault::OutOfMemory),
+    };
     let plan = body_use(settings.largest, head, &asked);
     let close = closes(k, head, plan);
     let bodiless = head.is_bodiless();
     let form = ReplyForm { bodiless, close };
     let end = closing_end(&asked);
-    let served = serve_asked(
+    match serve_asked(
         alloc, settings, zone, user, head, asked, plan, form, door, clock, intake, source, sink,
         buffer, out,
-    )?;
-    match served {
-        Served::Cut => Ok(Turn::Over(0, ConnEnd::Cut)),
-        Served::Replied if close => Ok(Turn::Over(1, end)),
-        Served::Replied => Ok(Turn::Further),
+    ) {
+        Err(fault) => Err(fault),
+        Ok(Served::Cut) => Ok(Turn::Over(0, ConnEnd::Cut)),
+        Ok(Served::Replied) if close => Ok(Turn::Over(1, end)),
+        Ok(Served::Replied) => Ok(Turn::Further),
     }
 }

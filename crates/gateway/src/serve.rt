@@ -1,7 +1,6 @@
 ghost use Rattle.std.specs.Prelude.{◌≡◌, ◌≤◌, ◌<◌, length};
 ghost use Rattle.swift_auth.specs.Users.{standard_user};
 ghost use Rattle.http_intake.specs.Intake.{fresh};
-ghost use Rattle.call_service.specs.Serving.{};
 ghost use Rattle.gateway.specs.Calls.{MayBegin, site_of};
 ghost use Rattle.gateway.specs.Serving.{ServesConnection};
 
@@ -62,11 +61,29 @@ pub fn serve_connection<D: Door, S: Source, K: Sink, C: Clock>(
     ensures settings { D.settings door.new ≡ D.settings door.old }
     ensures home { D.home door.new ≡ D.home door.old }
 {
-    let user = standard_user(alloc)?;
-    let mut intake = Intake::new(alloc, settings.largest)?;
-    let mut buffer = vec![in alloc; 0; PIECE]?;
+    let user = match standard_user(alloc) {
+        Ok(user) => user,
+        Err(fault) => return Err(fault),
+    };
+    let mut intake = match Intake::new(alloc, settings.largest) {
+        Ok(intake) => intake,
+        Err(_) => return Err(ServeFault::OutOfMemory),
+    };
+    let mut buffer = match vec![in alloc; 0; PIECE] {
+        Ok(buffer) => buffer,
+        Err(_) => return Err(ServeFault::OutOfMemory),
+    };
     serve_requests(
-        alloc, settings, zone, &user, door, clock, &mut intake, source, sink, &mut buffer,
+        alloc,
+        settings,
+        zone,
+        &user,
+        door,
+        clock,
+        &mut intake,
+        source,
+        sink,
+        &mut buffer,
     )
 }
 
@@ -103,12 +120,13 @@ fn serve_requests<D: Door, S: Source, K: Sink, C: Clock>(
         let k = done + 1;
         match take_turn(
             alloc, k, settings, zone, user, door, clock, intake, source, sink, buffer, &mut out,
-        )? {
-            Turn::Further => done = k,
-            Turn::Over(replies, end) => {
+        ) {
+            Ok(Turn::Further) => done = k,
+            Ok(Turn::Over(replies, end)) => {
                 let requests = done + replies;
                 return Ok(Served { requests, end });
             }
+            Err(fault) => return Err(fault),
         }
     }
 }

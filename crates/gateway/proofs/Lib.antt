@@ -1,0 +1,14 @@
+pub mod Growing
+pub mod Deciding
+pub mod Tasks
+pub mod Heads
+pub mod Causes
+pub mod Turning
+pub mod Ending
+pub mod Unwanted
+pub mod Refusing
+pub mod Prefixing
+pub mod Connection
+pub mod Refusals
+pub mod Joining
+pub mod Behind
