@@ -1,15 +1,176 @@
-ghost use Rattle.std.specs.Prelude.{◌≡◌, ◌≤◌, ◌<◌, None, not, length, IfOk, IfErr};
+ghost use Rattle.std.specs.Prelude.{◌≡◌, ◌≤◌, ◌<◌, ◌^◌, ◌++◌, [], true, false, Some, None, not, length, IfOk, OnOk, IfErr, OnErr};
+ghost use Rattle.std.specs.Io.KnownBytes.{Appends};
 ghost use Rattle.http_intake.specs.Intake.{IsUnchunked};
 ghost use Rattle.swift_requests.specs.declared.asked.Asked.TheVariants.{Get};
-ghost use Rattle.call_service.specs.Serving.{IsNew, IsServed, IsStopped, HasServeCause, side};
+ghost use Rattle.task_words.specs.declared.reply.MapReply.{MapReply as MapReplyOf};
+ghost use Rattle.task_words.specs.Answers.{span_of};
+ghost use Rattle.task_get.specs.Stages.{IsOpen, IsOver};
+ghost use Rattle.task_get.specs.Tasks.{request_of, stage_of, fault_of, bytes_of, shown_of, events_at, Fits};
+ghost use Rattle.call_service.specs.Serving.{IsNew, IsServed, IsStopped, HasServeCause, Asks, WritesAtFault, side};
+ghost use Rattle.get_service.specs.Getting.{IsUpTo, brought_at, piece_in, StopsEvent, HasWritten, Replies, stand, AsksFrom, StopsReply};
 
-use call_service::{ServeFault, Served};
+use crate::write::{send_end, send_piece, span_in};
+use call_service::{ServeFault, Served, drop_body, fault_of};
 use gw_io::{Clock, Ends, Sink, Source};
 use http_intake::Intake;
 use http_model::ReplyForm;
-use realm_door::Door;
+use realm_door::{Door, Task, TaskTurn};
 use std::alloc::Global;
-use task_get::GetRequest;
+use task_get::{GetRequest, GetTask};
+use task_words::Span;
+
+/// Makes the event that comes next, at the moment now.
+pub(crate) fn act<D: Door, C: Clock>(
+    alloc: Global,
+    task: &mut GetTask,
+    door: &mut D,
+    clock: &mut C,
+) -> Result<TaskTurn, ServeFault>
+    requires open { IsOpen (stage_of task.old) }
+    requires sound { fault_of task.old ≡ None }
+    requires up { IsUpTo D.tells (D.settings door.old) task.old (D.told door.old) }
+    ensures up { IsUpTo D.tells (D.settings door.old) task.new (D.told door.new) }
+    ensures sound { OnOk result (fault_of task.new ≡ None) }
+    ensures asks { OnOk result (Asks D.tells D.alone (D.settings door.old) false
+        (D.told door.old) (D.told door.new) (C.told clock.old) (C.told clock.new)) }
+    ensures unasked { OnErr result (Asks D.tells D.alone (D.settings door.old) true
+        (D.told door.old) (D.told door.new) (C.told clock.old) (C.told clock.new)) }
+    ensures follows { IfOk result (λ turn. D.tells → brought_at (request_of task.old) (D.told door.new)
+        ≡ brought_at (request_of task.old) (D.told door.old) ++ piece_in turn (bytes_of task.new)) }
+    ensures first { OnOk result (D.tells → events_at (D.told door.old) ≡ []
+        → brought_at (request_of task.old) (D.told door.new) ≡ []) }
+    ensures stays { OnErr result (D.tells → D.told door.new ≡ D.told door.old) }
+    ensures shown { D.tells → (reply : MapReplyOf) → shown_of task.old ≡ Some reply → shown_of task.new ≡ Some reply }
+    ensures request { request_of task.new ≡ request_of task.old }
+    ensures counts { OnOk result ((D.last door.old < D.last door.new) × (D.last door.new ≤ 2 ^ 62)) }
+    ensures fault { IfErr result (StopsEvent D.tells (D.found door.new)) }
+    ensures settings { D.settings door.new ≡ D.settings door.old }
+    ensures home { D.home door.new ≡ D.home door.old }
+    ensures plan { C.plan clock.new ≡ C.plan clock.old }
+{
+    let moment = clock.now();
+    match task.event(alloc, door, moment) {
+        Ok(turn) => Ok(turn),
+        Err(fault) => Err(fault_of(fault)),
+    }
+}
+
+/// Goes on to the outcome, and writes each piece as it comes. Whether the head of the reply is written by then.
+fn send_pieces<D: Door, C: Clock, K: Sink>(
+    alloc: Global,
+    task: &mut GetTask,
+    door: &mut D,
+    clock: &mut C,
+    sink: &mut K,
+    out: &mut Vec<u8>,
+    span: Option<Span>,
+    form: ReplyForm,
+) -> Result<bool, ServeFault>
+    requires sound { fault_of task.old ≡ None }
+    requires up { IsUpTo D.tells (D.settings door.old) task.old (D.told door.old) }
+    requires none { D.tells → brought_at (request_of task.old) (D.told door.old) ≡ [] }
+    requires span { span ≡ span_of (request_of task.old).get }
+    ensures up { IsUpTo D.tells (D.settings door.old) task.new (D.told door.new) }
+    ensures over { OnOk result (IsOver (stage_of task.new) × (fault_of task.new ≡ None)) }
+    ensures written { IfOk result (λ begun. HasWritten D.tells form task.new (D.told door.new) begun (K.taken sink.old) (K.taken sink.new)) }
+    ensures asks { OnOk result (Asks D.tells D.alone (D.settings door.old) false
+        (D.told door.old) (D.told door.new) (C.told clock.old) (C.told clock.new)) }
+    ensures stopped { IfErr result (StopsReply D.tells D.alone (D.settings door.old) form (request_of task.old) (D.found door.new)
+        (stand (D.told door.old) (K.taken sink.old) (C.told clock.old)) (stand (D.told door.new) (K.taken sink.new) (C.told clock.new))) }
+    ensures cause { WritesAtFault (K.faults sink.old) (K.faults sink.new) result }
+    ensures request { request_of task.new ≡ request_of task.old }
+    ensures settings { D.settings door.new ≡ D.settings door.old }
+    ensures home { D.home door.new ≡ D.home door.old }
+    ensures plan { C.plan clock.new ≡ C.plan clock.old }
+{
+    let mut begun = false;
+    'events: while task.outcome().is_none() {
+        if act(alloc, task, door, clock)? == TaskTurn::Gives {
+            begun = send_piece(sink, out, task, span, form, begun)?;
+        }
+    }
+    Ok(begun)
+}
+
+/// Makes the events up to the outcome, and writes the reply.
+fn send_reply<D: Door, C: Clock, K: Sink>(
+    alloc: Global,
+    task: &mut GetTask,
+    door: &mut D,
+    clock: &mut C,
+    sink: &mut K,
+    out: &mut Vec<u8>,
+    span: Option<Span>,
+    form: ReplyForm,
+) -> Result<(), ServeFault>
+    requires sound { fault_of task.old ≡ None }
+    requires up { IsUpTo D.tells (D.settings door.old) task.old (D.told door.old) }
+    requires none { D.tells → brought_at (request_of task.old) (D.told door.old) ≡ [] }
+    requires span { span ≡ span_of (request_of task.old).get }
+    ensures written { OnOk result (Replies D.tells (D.settings door.old) form (request_of task.old) (D.told door.new)
+        (Appends (K.taken sink.old) (K.taken sink.new))) }
+    ensures asks { OnOk result (Asks D.tells D.alone (D.settings door.old) false
+        (D.told door.old) (D.told door.new) (C.told clock.old) (C.told clock.new)) }
+    ensures stopped { IfErr result (StopsReply D.tells D.alone (D.settings door.old) form (request_of task.old) (D.found door.new)
+        (stand (D.told door.old) (K.taken sink.old) (C.told clock.old)) (stand (D.told door.new) (K.taken sink.new) (C.told clock.new))) }
+    ensures cause { WritesAtFault (K.faults sink.old) (K.faults sink.new) result }
+    ensures settings { D.settings door.new ≡ D.settings door.old }
+    ensures home { D.home door.new ≡ D.home door.old }
+    ensures plan { C.plan clock.new ≡ C.plan clock.old }
+{
+    let begun = send_pieces(alloc, task, door, clock, sink, out, span, form)?;
+    match task.outcome() {
+        Some(outcome) => send_end(sink, out, outcome, span, form, begun),
+        None => unreachable!(),
+    }
+}
+
+/// Serves the GET or HEAD of a new task.
+fn serve_task<D: Door, C: Clock, S: Source, K: Sink>(
+    alloc: Global,
+    task: &mut GetTask,
+    span: Option<Span>,
+    form: ReplyForm,
+    door: &mut D,
+    clock: &mut C,
+    intake: &mut Intake,
+    source: &mut S,
+    sink: &mut K,
+    buffer: &mut [u8],
+    out: &mut Vec<u8>,
+) -> Result<Served, ServeFault>
+    requires room { 0 < length buffer.old }
+    requires open { IsOpen (stage_of task.old) }
+    requires sound { fault_of task.old ≡ None }
+    requires fits { D.tells → Fits task.old (D.settings door.old) (D.told door.old) }
+    requires span { span ≡ span_of (request_of task.old).get }
+    requires intake { intake.old.failed ≡ None }
+    requires plain { IsUnchunked intake.old }
+    requires new { D.tells → IsNew (D.settings door.old) (D.told door.old) }
+    ensures served { IfOk result (IsServed D.tells D.alone
+        (record { settings = D.settings door.old; zone = (request_of task.old).zone; asker = (request_of task.old).asker }) form (Get (request_of task.old).get)
+        (side (D.told door.old) intake.old (⟦<(S, K, C) as Ends>⟧.ends (source.old, sink.old, clock.old)))
+        (side (D.told door.new) intake.new (⟦<(S, K, C) as Ends>⟧.ends (source.new, sink.new, clock.new)))) }
+    ensures stopped { IfErr result (IsStopped D.tells D.alone
+        (record { settings = D.settings door.old; zone = (request_of task.old).zone; asker = (request_of task.old).asker }) form (Get (request_of task.old).get)
+        (D.found door.new)
+        (side (D.told door.old) intake.old (⟦<(S, K, C) as Ends>⟧.ends (source.old, sink.old, clock.old)))
+        (side (D.told door.new) intake.new (⟦<(S, K, C) as Ends>⟧.ends (source.new, sink.new, clock.new)))) }
+    ensures cause { HasServeCause
+        (⟦<(S, K, C) as Ends>⟧.ends (source.old, sink.old, clock.old))
+        (⟦<(S, K, C) as Ends>⟧.ends (source.new, sink.new, clock.new)) result }
+    ensures settings { D.settings door.new ≡ D.settings door.old }
+    ensures home { D.home door.new ≡ D.home door.old }
+    ensures kept { length buffer.new ≡ length buffer.old }
+{
+    act(alloc, task, door, clock)?;
+    let whole = drop_body(intake, source, buffer)?;
+    if !whole {
+        return Ok(Served::Cut);
+    }
+    send_reply(alloc, task, door, clock, sink, out, span, form)?;
+    Ok(Served::Replied)
+}
 
 /// Serves one GET or HEAD, whose head was read, as the door's present actor, which made no event: reads the row of
 /// the container, drops the body of the request, makes the other events, and writes the reply. The clock is asked
@@ -54,5 +215,9 @@ pub fn serve_get<D: Door, C: Clock, S: Source, K: Sink>(
     ensures home { D.home door.new ≡ D.home door.old }
     ensures kept { length buffer.new ≡ length buffer.old }
 {
-    Err(ServeFault::OutOfMemory)
+    let span = span_in(&request);
+    let mut task = GetTask::new(request);
+    serve_task(
+        alloc, &mut task, span, form, door, clock, intake, source, sink, buffer, out,
+    )
 }

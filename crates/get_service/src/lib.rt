@@ -3,5 +3,6 @@
 #![tactic(auto)]
 
 mod get;
+mod write;
 
 pub use get::serve_get;

@@ -1,0 +1,5 @@
+pub mod Texts
+pub mod Acting
+pub mod Getting
+pub mod Stopping
+pub mod Serving
