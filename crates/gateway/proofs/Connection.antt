@@ -1,21 +1,29 @@
 -- A whole connection, from its turns.
-use Rattle.std.proofs.Common.{◌≡◌, ℕ, suc, ◌+◌, ◌<◌, Bool, true, false, ◌||◌, ◌==◌, List, [], Ok, Err, Result, refl, subst, add-one, arith}
+use Rattle.std.proofs.Common.{◌≡◌, ◌≢◌, ℕ, suc, ◌+◌, ◌<◌, Bool, true, false, ◌||◌, ◌==◌, List, [], Ok, Err, Result, inl, refl, sym, subst, ◌∙◌, add-one, arith}
+use Rattle.std.specs.Prelude.{nat_le, IfOk}
 use Rattle.std.proofs.lemmas.Bool.Decides.{nat_tests}
 use Rattle.std.proofs.KnownBytes.{Consumes-nil, Appends-nil}
-use Rattle.std.specs.Prelude.{nat_le}
+use Rattle.gw_io.specs.Ends.{EndsState}
+use Rattle.http_intake.specs.Intake.{fresh}
 use Rattle.http_model.specs.declared.head.Head.{Head}
 use Rattle.http_model.specs.declared.head.TheConstants.{REQUEST_LIMIT}
-use Rattle.http_model.specs.Forms.{is_unread, plan_of, wants_close, closes}
+use Rattle.http_model.specs.Forms.{wants_close}
+use Rattle.realm_model.specs.Doors.{DoorView}
+use Rattle.realm_model.specs.declared.event.Event.{Event}
+use Rattle.swift_requests.specs.Bodies.{is_unread, closes}
+use Rattle.swift_requests.specs.declared.body.BodyUse.{BodyUse}
+use Rattle.call_service.specs.Serving.{Site, Side, side, HasServeCause}
+use Rattle.call_service.specs.declared.fault.ServeFault.{ServeFault}
+use Rattle.call_service.specs.declared.fault.ServeFault.TheVariants as faults
 use Rattle.gateway.specs.declared.serve.ConnEnd.{ConnEnd}
 use Rattle.gateway.specs.declared.serve.Served.{Served}
-use Rattle.gateway.specs.Store.{StoreState}
-use Rattle.gw_io.specs.Ends.{EndsState}
-use Rattle.gateway.specs.declared.fault.ServeFault.{ServeFault}
-use Rattle.gateway.specs.declared.fault.ServeFault.TheVariants.{OutOfMemory}
-use Rattle.gateway.specs.Serving.{ServesFrom, LeavesAt, Stops, HasServeCause, ServesConnection}
-use Rattle.gateway.proofs.Causes.{later_cause, later_good}
+use Rattle.gateway.specs.Calls.{MayBegin}
+use Rattle.gateway.specs.Serving.{ServesFrom, StopsFrom, LeavesAt, IsLeft, ServesConnection}
 use Rattle.gateway.specs.Turns.{GoesOn}
-use Rattle.gateway.proofs.TurnLaws.{goes_serves, goes_leaves, left_quietly}
+use Rattle.gateway.proofs.Causes.{later_cause, good_cause, fault_cause}
+use Rattle.gateway.proofs.Growing.{advances_none}
+use Rattle.gateway.proofs.Turning.{none_settled, same_left}
+use Rattle.gateway.proofs.Prefixing.{goes_serves, goes_leaves}
 
 neither : (a b : Bool) → (a || b) ≡ false → b ≡ false
 neither true b e = absurd (cc)
@@ -25,34 +33,11 @@ below : (k : ℕ) → nat_le REQUEST_LIMIT k ≡ false → k < REQUEST_LIMIT
 below k e = grind (arith, nat_tests)
 
 -- a connection that goes on has had fewer requests than it may have
-pub goes_below : (k : ℕ) (head : Head) → closes k head ≡ false → k < REQUEST_LIMIT
+pub goes_below : (k : ℕ) (head : Head) (plan : BodyUse) → closes k head plan ≡ false → k < REQUEST_LIMIT
 unfolding closes
-goes_below k head e =
+goes_below k head plan e =
     below k (neither (wants_close head) (nat_le REQUEST_LIMIT k)
-    (neither (head.minor == 0) _ (neither (is_unread (plan_of head)) _ e)))
-
--- so many requests were served, and what follows completes them
-pub record HasServed (done : ℕ) (start store : StoreState) (buffer : List ℕ) (old now : EndsState) : Type 0 where
-  pub serves : (after : StoreState) (new : EndsState) (replies : ℕ) (end_is : ConnEnd) → ServesFrom (done + 1) store after buffer now new replies end_is
-      → ServesFrom 1 start after [] old new (done + replies) end_is
-  pub stops : (after : StoreState) (new : EndsState) (fault : ServeFault) → LeavesAt fault (done + 1) store after buffer now new → LeavesAt fault 1 start after [] old new
-
-pub none_served : (store : StoreState) (old : EndsState) → HasServed 0 store store [] old old
-none_served store old = record {
-  serves = λ after new replies end_is x. subst (λ n. ServesFrom 1 store after [] old new n end_is) (omega arith) x;
-  stops = λ after new fault x. x;
-}
-
-pub one_more_served : (done : ℕ) (start store mid : StoreState) (buffer left : List ℕ) (old now next : EndsState) → HasServed done start store buffer old now
-    → GoesOn (done + 1) store mid buffer left now next → HasServed (done + 1) start mid left old next
-one_more_served done start store mid buffer left old now next h g = record {
-  serves = λ after new replies end_is x.
-      subst (λ n. ServesFrom 1 start after [] old new n end_is) (omega arith)
-      (h.serves after new (suc replies) end_is
-      (goes_serves (done + 1) store mid after buffer left now next new replies end_is g (subst (λ k. ServesFrom k mid after left next new replies end_is) (add-one (done + 1)) x)));
-  stops = λ after new fault x.
-      h.stops after new fault (goes_leaves (done + 1) store mid after buffer left now next new fault g (subst (λ k. LeavesAt fault k mid after left next new) (add-one (done + 1)) x));
-}
+    (neither (head.minor == 0) _ (neither (is_unread plan) _ e)))
 
 -- no count of faults rose so far, and the clock kept its plan
 pub record IsQuiet (old now : EndsState) : Type 0 where
@@ -60,42 +45,92 @@ pub record IsQuiet (old now : EndsState) : Type 0 where
   pub read_faults : now.read_faults ≡ old.read_faults
   pub write_faults : now.write_faults ≡ old.write_faults
 
-module _ (done : ℕ) (start store after : StoreState) (buffer : List ℕ) (old now new : EndsState) (so_far : HasServed done start store buffer old now) (quiet : IsQuiet old now) where
-  left_at : (fault : ServeFault) → LeavesAt fault (done + 1) store after buffer now new → (other : ServeFault) → ◌≡◌ {A = Result Served ServeFault} (Err fault) (Err other) → Stops start after old new other
-  left_at fault x other e = let is : fault ≡ other = cc in subst (Stops start after old new) is (so_far.stops after new fault x)
+module _ (tells alone : Type 0) (site : Site) where
+  -- so many requests were served, and what follows completes them
+  pub record HasServed (done : ℕ) (start now : Side) : Type 0 where
+    pub serves : (e : DoorView) (new : EndsState) (replies : ℕ) (end_is : ConnEnd) → ServesFrom tells alone site (done + 1) now.intake.buffer now.door e now.ends new replies end_is
+        → ServesFrom tells alone site 1 start.intake.buffer start.door e start.ends new (done + replies) end_is
+    pub leaves : (found : List Event) (y : Side) (fault : ServeFault) → LeavesAt tells alone site (done + 1) found now y fault → LeavesAt tells alone site 1 found start y fault
 
-  pub served_to_fault : {T : Type 0} (fault : ServeFault) → LeavesAt fault (done + 1) store after buffer now new → HasServeCause {T = T} now new (Err fault)
-      → ServesConnection start after old new (Err fault)
-  served_to_fault fault x cause = record {
-    served = tt;
-    stopped = left_at fault x;
-    cause = later_cause old now new fault quiet.plan quiet.read_faults quiet.write_faults cause;
+  pub none_served : (start : Side) → HasServed 0 start start
+  none_served start = record {
+    serves = λ e new replies end_is x. subst (λ n. ServesFrom tells alone site 1 start.intake.buffer start.door e start.ends new n end_is) (omega arith) x;
+    leaves = λ found y fault x. x;
   }
 
-  pub served_to_end : {T : Type 0} (value : T) (replies : ℕ) (end_is : ConnEnd) → ServesFrom (done + 1) store after buffer now new replies end_is → HasServeCause now new (Ok value)
-      → ServesConnection start after old new (Ok (record { requests = done + replies; end = end_is }))
-  served_to_end value replies end_is x cause = record {
-    served = so_far.serves after new replies end_is x;
-    stopped = λ fault e. absurd (cc);
-    cause = later_good old now new value _ quiet.plan quiet.read_faults quiet.write_faults cause;
+  pub one_more_served : (done : ℕ) (start now next : Side) → HasServed done start now
+      → GoesOn tells alone site (done + 1) now.intake.buffer next.intake.buffer now.door next.door now.ends next.ends → HasServed (done + 1) start next
+  one_more_served done start now next h g = record {
+    serves = λ e new replies end_is x.
+        subst (λ n. ServesFrom tells alone site 1 start.intake.buffer start.door e start.ends new n end_is) (omega arith)
+        (h.serves e new (suc replies) end_is
+        (goes_serves tells alone site (done + 1) now next g e new replies end_is
+        (subst (λ k. ServesFrom tells alone site k next.intake.buffer next.door e next.ends new replies end_is) (add-one (done + 1)) x)));
+    leaves = λ found y fault x.
+        h.leaves found y fault (goes_leaves tells alone site (done + 1) now next g found y fault (subst (λ k. LeavesAt tells alone site k found next y fault) (add-one (done + 1)) x));
   }
 
--- a connection that is left before anything was read
-stops_at_once : (store : StoreState) (now : EndsState) (fault : ServeFault) → ◌≡◌ {A = Result Served ServeFault} (Err OutOfMemory) (Err fault) → Stops store store now now fault
-stops_at_once store now fault e =
-    let is : OutOfMemory ≡ fault = cc in
-    subst (Stops store store now now) is
-    (left_quietly 1 store [] now now OutOfMemory ([], Consumes-nil now.left) (Appends-nil now.taken) (Appends-nil now.told))
+  module _ (done : ℕ) (start now y : Side) (found : List Event) (so_far : HasServed done start now) (quiet : IsQuiet start.ends now.ends)
+      (unread : start ≡ side start.door (fresh site.settings.largest) start.ends) where
+    left_at : (fault : ServeFault) → LeavesAt tells alone site (done + 1) found now y fault → (other : ServeFault) → ◌≡◌ {A = Result Served ServeFault} (Err fault) (Err other)
+        → IsLeft tells alone site found start.door y.door start.ends y.ends other
+    left_at fault x other e =
+        let is : fault ≡ other = cc in
+        subst (IsLeft tells alone site found start.door y.door start.ends y.ends) is
+        (y.intake, subst (λ (s : Side). LeavesAt tells alone site 1 found s y fault) unread (so_far.leaves found y fault x))
 
-pub nothing_served : (store : StoreState) (now : EndsState) → ServesConnection store store now now (Err OutOfMemory)
-nothing_served store now = record {
-  served = tt;
-  stopped = stops_at_once store now;
-  cause = record {
-    plan = refl;
-    read_rose = λ e. absurd (cc);
-    read_kept = λ other. refl;
-    write_rose = λ e. absurd (cc);
-    write_kept = λ other. refl;
-  };
-}
+    pub served_to_fault : {T : Type 0} (fault : ServeFault) → LeavesAt tells alone site (done + 1) found now y fault → HasServeCause {T = T} now.ends y.ends (Err fault)
+        → ServesConnection tells alone site found start.door y.door start.ends y.ends (Err fault)
+    served_to_fault fault x cause = record {
+      served = tt;
+      left = left_at fault x;
+      cause = later_cause start.ends now.ends y.ends (Err fault) quiet.plan quiet.read_faults quiet.write_faults (fault_cause now.ends y.ends fault cause);
+    }
+
+    pub served_to_end : {T : Type 0} (value : T) (replies : ℕ) (end_is : ConnEnd) → ServesFrom tells alone site (done + 1) now.intake.buffer now.door y.door now.ends y.ends replies end_is
+        → HasServeCause now.ends y.ends (Ok value)
+        → ServesConnection tells alone site found start.door y.door start.ends y.ends (Ok (record { requests = done + replies; end = end_is }))
+    served_to_end value replies end_is x cause = record {
+      served = subst (λ (s : Side). ServesFrom tells alone site 1 s.intake.buffer start.door y.door start.ends y.ends (done + replies) end_is) unread
+          (so_far.serves y.door y.ends replies end_is x);
+      left = λ fault e. absurd (cc);
+      cause = later_cause start.ends now.ends y.ends (Ok (record { requests = done + replies; end = end_is })) quiet.plan quiet.read_faults quiet.write_faults (good_cause now.ends y.ends value _ cause);
+    }
+
+  -- a connection that is left before anything was read
+  at_once : (found : List Event) (d : DoorView) (now : EndsState) → (tells → MayBegin site.settings d) → IsLeft tells alone site found d d now now faults.OutOfMemory
+  at_once found d now may = (
+    fresh site.settings.largest,
+    record {
+      calls = [];
+      between = side d (fresh site.settings.largest) now;
+      read = [];
+      consumed = Consumes-nil now.left;
+      asked = tt;
+      front = refl;
+      written = Appends-nil now.taken;
+      moments = [];
+      asked_clock = Appends-nil now.told;
+      told = refl;
+      reached = λ is. advances_none site.settings d (may is);
+      settled = λ is. none_settled alone site d d (same_left alone site d d (may is) refl);
+      left = inl ([], Consumes-nil now.left, record { door = refl; untold = Appends-nil now.told }, Appends-nil now.taken);
+    },
+  )
+
+  pub nothing_served : (found : List Event) (d : DoorView) (now : EndsState) (fault : ServeFault) → (tells → MayBegin site.settings d) → fault ≡ faults.OutOfMemory
+      → ServesConnection tells alone site found d d now now (Err fault)
+  nothing_served found d now fault may is =
+      subst (λ f. ServesConnection tells alone site found d d now now (Err f)) (sym is) (record {
+        served = tt;
+        left = λ other e.
+            let same : faults.OutOfMemory ≡ other = cc in
+            subst (IsLeft tells alone site found d d now now) same (at_once found d now may);
+        cause = record {
+          plan = refl;
+          read_rose = λ e. absurd (cc);
+          read_kept = λ other. refl;
+          write_rose = λ e. absurd (cc);
+          write_kept = λ other. refl;
+        };
+      })

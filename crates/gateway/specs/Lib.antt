@@ -1,7 +1,6 @@
-pub mod Faults
-pub mod Store
-pub mod Asking
-pub mod Answering
+pub mod Moments
+pub mod Texts
+pub mod Calls
 pub mod Serving
+pub mod Requests
 pub mod Turns
-pub mod Incoming

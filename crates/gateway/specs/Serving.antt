@@ -1,116 +1,182 @@
--- What serving the requests of a connection comes to, from the kth of them on: the reply texts of the object answers and
--- refusals, folded over the requests that were read (OpenStack Object Storage API v1; RFC 9112).
-use Rattle.std.specs.Prelude.{◌≡◌, ◌≢◌, ℕ, List, [], ◌++◌, length, take, ⊤, Result, Err, IfOk}
-use Rattle.std.specs.declared.option.Option.{Option}
+-- What serving the requests of a connection comes to, from the kth of them on: the reply texts of calls that the one history of
+-- the realm bears out (OpenStack Object Storage API v1; RFC 9112).
+use Rattle.std.specs.Prelude.{◌≡◌, ◌⊎◌, ℕ, ◌+◌, Bool, List, [], ◌++◌, length, map, ⊤, Option, Result, Err, IfOk}
+use Rattle.std.specs.List.{AllByRecursion}
 use Rattle.std.specs.Io.KnownBytes.{IsAtEnd, Consumes, Appends}
 use Rattle.gw_io.specs.Ends.{EndsState}
-use Rattle.gw_io.specs.Outside.{Rose}
+use Rattle.http_intake.specs.Intake.{IntakeState, fresh}
+use Rattle.http_model.specs.declared.head.Head.{Head}
 use Rattle.http_model.specs.declared.head.Request.{Request}
+use Rattle.http_model.specs.declared.reply.BadRequest.{BadRequest}
 use Rattle.http_model.specs.declared.reply.StreamEnd.{StreamEnd}
-use Rattle.http_model.specs.declared.reply.StreamEnd.TheVariants as Stream
-use Rattle.http_model.specs.Streams.{IsStreamFrom}
-use Rattle.swift_model.specs.Replies.{end_text}
-use Rattle.swift_model.specs.Connections.{replies_from, bucket_from, moments_told, reply_count}
-use Rattle.gateway.specs.declared.fault.ServeFault.{ServeFault}
-use Rattle.gateway.specs.declared.fault.ServeFault.TheVariants.{OutOfMemory, ReadFault, WriteFault}
+use Rattle.http_model.specs.declared.reply.StreamEnd.TheVariants as Ends
+use Rattle.http_model.specs.Heads.{BeginsWith}
+use Rattle.http_model.specs.Replies.{bad_request_text}
+use Rattle.http_model.specs.Streams.{BreaksGrammar}
+use Rattle.realm_model.specs.Doors.{DoorView}
+use Rattle.realm_model.specs.declared.event.Event.{Event}
+use Rattle.realm_door.specs.Steps.{next_count, actor_of_pass}
+use Rattle.swift_requests.specs.Asks.{asked_of}
+use Rattle.call_words.specs.Calls.{Call}
+use Rattle.call_words.specs.Streams.{use_of, form_of, IsStreamFrom, IsFrontFrom}
+use Rattle.call_service.specs.Serving.{Site, Side, side, own_moments, AppendsFront, HasServeCause}
+use Rattle.call_service.specs.declared.fault.ServeFault.{ServeFault}
+use Rattle.call_service.specs.declared.fault.ServeFault.TheVariants as faults
 use Rattle.gateway.specs.declared.serve.ConnEnd.{ConnEnd}
-use Rattle.gateway.specs.declared.serve.ConnEnd.TheVariants.{Clean, Closed, Cut, Refused}
 use Rattle.gateway.specs.declared.serve.Served.{Served}
-use Rattle.gateway.specs.Store.{StoreState}
+use Rattle.gateway.specs.Moments.{AreTold}
+use Rattle.gateway.specs.Texts.{texts_from, place_after, closing, end_text, end_replies, connection_end}
+use Rattle.gateway.specs.Calls.{Advances, AreSettled}
+use Rattle.gateway.specs.Requests.{IsBehindHead, IsIdle, LeavesRequest}
 
--- how a connection ends, by how its requests end
-abbrev pub connection_end : StreamEnd → ConnEnd
-connection_end Stream.Clean = Clean
-connection_end Stream.Closed = Closed
-connection_end Stream.Cut = Cut
-connection_end (Stream.Refused word bodiless) = Refused
-connection_end (Stream.NotBuilt bodiless) = Refused
+-- ---- calls
+
+abbrev pub requests_of : List Call → List Request
+requests_of calls = map (λ call. call.request) calls
+
+-- each call is what its head asks
+abbrev pub AreAsked : ℕ → List Call → Type 0
+AreAsked largest calls = AllByRecursion (λ call. call.asked ≡ asked_of largest call.request.head) calls
+
+-- ---- ends
 
 -- where the requests end with the input, the input was read to its end
 abbrev pub ReadsOut : StreamEnd → Option (List ℕ) → Type 0
-ReadsOut Stream.Clean left = IsAtEnd left
-ReadsOut Stream.Closed left = ⊤
-ReadsOut Stream.Cut left = IsAtEnd left
-ReadsOut (Stream.Refused word bodiless) left = ⊤
-ReadsOut (Stream.NotBuilt bodiless) left = ⊤
+ReadsOut Ends.Clean left = IsAtEnd left
+ReadsOut Ends.Closed left = ⊤
+ReadsOut Ends.Cut left = IsAtEnd left
+ReadsOut (Ends.Refused word bodiless) left = ⊤
+ReadsOut (Ends.NotBuilt bodiless) left = ⊤
 
 -- the requests end there only if the input does
 abbrev pub IsOpen : StreamEnd → Type 0
-IsOpen Stream.Clean = ⊤
-IsOpen Stream.Closed = ⊥
-IsOpen Stream.Cut = ⊤
-IsOpen (Stream.Refused word bodiless) = ⊥
-IsOpen (Stream.NotBuilt bodiless) = ⊥
+IsOpen Ends.Clean = ⊤
+IsOpen Ends.Closed = ⊥
+IsOpen Ends.Cut = ⊤
+IsOpen (Ends.Refused word bodiless) = ⊥
+IsOpen (Ends.NotBuilt bodiless) = ⊥
 
--- What waited and what was read are these requests and that end, each moment was told for one of them, and what was
--- written and stored is theirs.
-pub record RepliesTo (k : ℕ) (store after : StoreState) (buffer : List ℕ) (old new : EndsState) (requests : List Request) (stream_end : StreamEnd) : Type 0 where
+-- no moment was told behind the calls, and no actor began
+abbrev pub IsDone : Type 0 → DoorView → ℕ → List ℕ → Type 0
+IsDone tells e last later = (later ≡ []) × (tells → next_count e ≡ last)
+
+-- what was told behind the calls: only a request that was cut off has an actor of its own, the moments of whose events were told
+abbrev pub IsTidy : Type 0 → DoorView → ℕ → ℕ → List ℕ → StreamEnd → Type 0
+IsTidy tells e pass last later Ends.Clean = IsDone tells e last later
+IsTidy tells e pass last later Ends.Closed = IsDone tells e last later
+IsTidy tells e pass last later Ends.Cut = tells → later ≡ own_moments e.seen (actor_of_pass pass last)
+IsTidy tells e pass last later (Ends.Refused word bodiless) = IsDone tells e last later
+IsTidy tells e pass last later (Ends.NotBuilt bodiless) = IsDone tells e last later
+
+-- the text was not made, or a front of it was written
+abbrev pub LeavesText : Option (List ℕ) → Option (List ℕ) → List ℕ → ServeFault → Type 0
+LeavesText taken taken' text faults.OutOfMemory = Appends taken taken' []
+LeavesText taken taken' text faults.WriteFault = AppendsFront taken taken' text
+LeavesText taken taken' text fault = ⊥
+
+-- ---- served to an end
+
+-- What waited and what was read are the requests of these calls and that end; what was written are the texts of their replies;
+-- each moment was told for an event, or for the end of a body; and the history bears the replies out.
+pub record RepliesTo (tells alone : Type 0) (site : Site) (k : ℕ) (buffer : List ℕ) (d e : DoorView) (old new : EndsState) (calls : List Call) (stream_end : StreamEnd) : Type 0 where
   pub read : List ℕ
   pub consumed : Consumes old.left new.left read
+  pub asked : AreAsked site.settings.largest calls
+  pub stream : IsStreamFrom site.settings.largest k (buffer ++ read) (requests_of calls) stream_end
+  pub written : Appends old.taken new.taken (texts_from site.settings.largest k calls ++ end_text stream_end)
+  pub last : ℕ
   pub moments : List ℕ
-  pub asked : Appends old.told new.told moments
-  pub stream : IsStreamFrom k (buffer ++ read) requests stream_end
-  pub each_asked_once : length moments ≡ moments_told store.container requests
-  pub written : Appends old.taken new.taken (replies_from k store.container store.bucket moments requests ++ end_text stream_end)
-  pub stored : after ≡ record { container = store.container; bucket = bucket_from store.container store.bucket moments requests }
+  pub later : List ℕ
+  pub asked_clock : Appends old.told new.told moments
+  pub told : AreTold tells e.seen d.pass calls moments later
+  pub tidy : IsTidy tells e d.pass last later stream_end
+  pub settled : tells → AreSettled alone site d e calls last
 
 -- the requests were served to their end
-pub record ServesFrom (k : ℕ) (store after : StoreState) (buffer : List ℕ) (old new : EndsState) (replies : ℕ) (ended_so : ConnEnd) : Type 0 where
-  pub requests : List Request
+pub record ServesFrom (tells alone : Type 0) (site : Site) (k : ℕ) (buffer : List ℕ) (d e : DoorView) (old new : EndsState) (replies : ℕ) (ended_so : ConnEnd) : Type 0 where
+  pub calls : List Call
   pub stream_end : StreamEnd
-  pub replied : RepliesTo k store after buffer old new requests stream_end
+  pub replied : RepliesTo tells alone site k buffer d e old new calls stream_end
   pub read_out : ReadsOut stream_end new.left
-  pub counted : replies ≡ reply_count requests stream_end
-  pub ended : ended_so ≡ connection_end stream_end
+  pub counted : replies ≡ length calls + end_replies stream_end
+  pub ended : ended_so ≡ connection_end calls stream_end
+
+-- ---- left at a fault
 
 -- A read failed: all is as if the input ended there.
-pub record FailsReading (k : ℕ) (store after : StoreState) (buffer : List ℕ) (old new : EndsState) : Type 0 where
-  pub requests : List Request
+pub record FailsReading (tells alone : Type 0) (site : Site) (k : ℕ) (buffer : List ℕ) (d e : DoorView) (old new : EndsState) : Type 0 where
+  pub calls : List Call
   pub stream_end : StreamEnd
-  pub replied : RepliesTo k store after buffer old new requests stream_end
+  pub replied : RepliesTo tells alone site k buffer d e old new calls stream_end
   pub waits : IsOpen stream_end
 
--- The requests were left: whatever follows what was read, what was written is a front of the text of the replies, and the
--- store is as some first requests leave it.
-pub record StopsFrom (k : ℕ) (store after : StoreState) (buffer : List ℕ) (old new : EndsState) : Type 0 where
+-- the next head was read, and nothing behind it
+pub record ReadsHead (x z : Side) (head : Head) : Type 0 where
+  pub more : List ℕ
+  pub read : Consumes x.ends.left z.ends.left more
+  pub begins : BeginsWith (x.intake.buffer ++ more) head z.intake.buffer
+  pub behind : IsBehindHead z.intake head
+  pub door : z.door ≡ x.door
+  pub taken : z.ends.taken ≡ x.ends.taken
+  pub told : z.ends.told ≡ x.ends.told
+
+-- no request was begun: no head was read, or the 400 for what is none was not written whole
+abbrev pub LeavesHead : Side → Side → ServeFault → Type 0
+LeavesHead x y faults.OutOfMemory =
+    (more : List ℕ) × Consumes x.ends.left y.ends.left more × IsIdle x y × Appends x.ends.taken y.ends.taken []
+LeavesHead x y faults.WriteFault =
+    (more : List ℕ) × Consumes x.ends.left y.ends.left more × IsIdle x y
+    × (word : BadRequest) × (bodiless : Bool) × BreaksGrammar (x.intake.buffer ++ more) word bodiless
+    × AppendsFront x.ends.taken y.ends.taken (bad_request_text (closing bodiless) word)
+LeavesHead x y faults.ReadFault = ⊥
+LeavesHead x y faults.Worn = ⊥
+LeavesHead x y (faults.Late read_at clock) = ⊥
+
+-- at most one request was begun, the kth of its connection
+abbrev pub LeavesNext : Type 0 → Type 0 → Site → ℕ → List Event → Side → Side → ServeFault → Type 0
+LeavesNext tells alone site k found x y fault =
+    LeavesHead x y fault
+    ⊎ ((head : Head) × (z : Side) × ReadsHead x z head
+    × LeavesRequest tells alone site (form_of site.settings.largest k head) (asked_of site.settings.largest head) (use_of site.settings.largest head) found z y fault)
+
+-- Some requests were replied whole, and behind them at most one was begun. The history bears the replies out, also where it
+-- grew since.
+pub record StopsFrom (tells alone : Type 0) (site : Site) (k : ℕ) (found : List Event) (x y : Side) (fault : ServeFault) : Type 0 where
+  pub calls : List Call
+  pub between : Side
   pub read : List ℕ
-  pub consumed : Consumes old.left new.left read
+  pub consumed : Consumes x.ends.left between.ends.left read
+  pub asked : AreAsked site.settings.largest calls
+  pub front : IsFrontFrom site.settings.largest k (x.intake.buffer ++ read) (requests_of calls) between.intake.buffer
+  pub written : Appends x.ends.taken between.ends.taken (texts_from site.settings.largest k calls)
   pub moments : List ℕ
-  pub asked : Appends old.told new.told moments
-  pub text : List ℕ
-  pub written : Appends old.taken new.taken text
-  pub front : (later more : List ℕ) (requests : List Request) (stream_end : StreamEnd) → IsStreamFrom k ((buffer ++ read) ++ later) requests stream_end
-      → (rest : List ℕ) × (replies_from k store.container store.bucket (moments ++ more) requests ++ end_text stream_end ≡ text ++ rest)
-  pub stored : (later more : List ℕ) (requests : List Request) (stream_end : StreamEnd) → IsStreamFrom k ((buffer ++ read) ++ later) requests stream_end
-      → (n : ℕ) × (after ≡ record {
-        container = store.container;
-        bucket = bucket_from store.container store.bucket (moments ++ more) (take n requests);
-      })
+  pub asked_clock : Appends x.ends.told between.ends.told moments
+  pub told : AreTold tells y.door.seen x.door.pass calls moments []
+  pub reached : tells → Advances site.settings x.door between.door
+  pub settled : tells → AreSettled alone site x.door y.door calls (next_count between.door)
+  pub left : LeavesNext tells alone site (place_after k calls) found between y fault
 
 -- what a fault leaves
-abbrev pub LeavesAt : ServeFault → ℕ → StoreState → StoreState → List ℕ → EndsState → EndsState → Type 0
-LeavesAt OutOfMemory k store after buffer old new = StopsFrom k store after buffer old new
-LeavesAt ReadFault k store after buffer old new = FailsReading k store after buffer old new
-LeavesAt WriteFault k store after buffer old new = StopsFrom k store after buffer old new
+abbrev pub LeavesAt : Type 0 → Type 0 → Site → ℕ → List Event → Side → Side → ServeFault → Type 0
+LeavesAt tells alone site k found x y faults.ReadFault = FailsReading tells alone site k x.intake.buffer x.door y.door x.ends y.ends
+LeavesAt tells alone site k found x y faults.OutOfMemory = StopsFrom tells alone site k found x y faults.OutOfMemory
+LeavesAt tells alone site k found x y faults.WriteFault = StopsFrom tells alone site k found x y faults.WriteFault
+LeavesAt tells alone site k found x y faults.Worn = StopsFrom tells alone site k found x y faults.Worn
+LeavesAt tells alone site k found x y (faults.Late read_at clock) = StopsFrom tells alone site k found x y (faults.Late read_at clock)
 
--- Each count of faults rose where its call failed, and stayed at every other end; the clock keeps its plan.
-pub record HasServeCause {T : Type 0} (old new : EndsState) (result : Result T ServeFault) : Type 0 where
-  pub plan : new.plan ≡ old.plan
-  pub read_rose : result ≡ Err ReadFault → Rose old.read_faults new.read_faults
-  pub read_kept : result ≢ Err ReadFault → new.read_faults ≡ old.read_faults
-  pub write_rose : result ≡ Err WriteFault → Rose old.write_faults new.write_faults
-  pub write_kept : result ≢ Err WriteFault → new.write_faults ≡ old.write_faults
+-- ---- a whole connection
 
 -- a connection of which no byte waited was served to its end
-abbrev pub Serves : StoreState → StoreState → EndsState → EndsState → Served → Type 0
-Serves store after old new served = ServesFrom 1 store after [] old new served.requests served.end
+abbrev pub IsServed : Type 0 → Type 0 → Site → DoorView → DoorView → EndsState → EndsState → Served → Type 0
+IsServed tells alone site d e old new served = ServesFrom tells alone site 1 [] d e old new served.requests served.end
 
 -- or left at a fault
-abbrev pub Stops : StoreState → StoreState → EndsState → EndsState → ServeFault → Type 0
-Stops store after old new fault = LeavesAt fault 1 store after [] old new
+abbrev pub IsLeft : Type 0 → Type 0 → Site → List Event → DoorView → DoorView → EndsState → EndsState → ServeFault → Type 0
+IsLeft tells alone site found d e old new fault =
+    (intake : IntakeState) × LeavesAt tells alone site 1 found (side d (fresh site.settings.largest) old) (side e intake new) fault
 
--- what serving a connection comes to
-pub record ServesConnection (store after : StoreState) (old new : EndsState) (result : Result Served ServeFault) : Type 0 where
-  pub served : IfOk result (Serves store after old new)
-  pub stopped : (fault : ServeFault) → result ≡ Err fault → Stops store after old new fault
+-- what serving a connection comes to, where the door's last step found this history
+pub record ServesConnection (tells alone : Type 0) (site : Site) (found : List Event) (d e : DoorView) (old new : EndsState) (result : Result Served ServeFault) : Type 0 where
+  pub served : IfOk result (IsServed tells alone site d e old new)
+  pub left : (fault : ServeFault) → result ≡ Err fault → IsLeft tells alone site found d e old new fault
   pub cause : HasServeCause old new result

@@ -1,48 +1,84 @@
 -- What one turn of a connection comes to.
-use Rattle.std.specs.Prelude.{◌≡◌, ℕ, ◌≤◌, false, List, ◌++◌, length, ⊤, Result, Ok, Err, IfOk, if◌then◌else◌}
+use Rattle.std.specs.Prelude.{◌≡◌, ◌≢◌, ℕ, ◌≤◌, Bool, false, List, [], ◌++◌, Option, Some, None, ⊤, Result, Ok, Err, IfOk}
 use Rattle.std.specs.Io.KnownBytes.{Consumes, Appends}
+use Rattle.http_intake.specs.declared.fault.IntakeFault.{IntakeFault}
+use Rattle.http_intake.specs.declared.fault.IntakeFault.TheVariants as intake
+use Rattle.http_model.specs.declared.reply.BadRequest.{BadRequest}
+use Rattle.http_model.specs.declared.reply.BadRequest.TheVariants as Word
+use Rattle.http_model.specs.Replies.{bad_request_text}
+use Rattle.http_model.specs.declared.reply.StreamEnd.{StreamEnd}
+use Rattle.http_model.specs.declared.reply.StreamEnd.TheVariants as Ends
 use Rattle.gw_io.specs.Ends.{EndsState}
-use Rattle.http_intake.specs.Intake.{IntakeState}
-use Rattle.http_model.specs.declared.head.Request.{Request}
-use Rattle.http_model.specs.Forms.{closes, form_of}
-use Rattle.http_model.specs.Streams.{TakesRequest}
-use Rattle.swift_model.specs.Replies.{reply_text}
-use Rattle.swift_model.specs.Connections.{judged, is_reaching, served, next_moment}
-use Rattle.gateway.specs.declared.fault.ServeFault.{ServeFault}
+use Rattle.realm_model.specs.Doors.{DoorView}
+use Rattle.realm_model.specs.declared.event.Event.{Event}
+use Rattle.swift_requests.specs.Asks.{asked_of}
+use Rattle.call_words.specs.Calls.{Call}
+use Rattle.call_words.specs.Streams.{closes_at, form_of, TakesCall}
+use Rattle.call_service.specs.Serving.{Site, Side, AppendsFront, HasServeCause}
+use Rattle.call_service.specs.declared.fault.ServeFault.{ServeFault}
+use Rattle.call_service.specs.declared.fault.ServeFault.TheVariants as faults
 use Rattle.gateway.specs.declared.turn.Turn.{Turn}
 use Rattle.gateway.specs.declared.turn.Turn.TheVariants.{Further, Over}
-use Rattle.gateway.specs.Store.{StoreState}
-use Rattle.gateway.specs.Incoming.{IsReady}
-use Rattle.gateway.specs.Serving.{ServesFrom, LeavesAt, HasServeCause}
+use Rattle.gateway.specs.Requests.{IsReady, IsAnswered}
+use Rattle.gateway.specs.Texts.{closing, end_text, end_replies, connection_end}
+use Rattle.gateway.specs.Serving.{ServesFrom, LeavesAt}
 
--- one request was served, and the connection goes on with these bytes
-pub record GoesOn (k : ℕ) (store after : StoreState) (buffer left : List ℕ) (old new : EndsState) : Type 0 where
+-- one request was taken from the bytes and replied
+pub record TakesReply (tells alone : Type 0) (site : Site) (k : ℕ) (buffer left : List ℕ) (d e : DoorView) (old new : EndsState) (call : Call) : Type 0 where
   pub read : List ℕ
   pub consumed : Consumes old.left new.left read
-  pub request : Request
-  pub takes : TakesRequest (buffer ++ read) request left
-  pub stays_open : closes k request.head ≡ false
-  pub moments : List ℕ
-  pub asked : Appends old.told new.told moments
-  pub each : length moments ≡ (if is_reaching (judged store.container request.head) then 1 else 0)
-  pub written : Appends old.taken new.taken (let now = served store.container store.bucket request (next_moment moments) in
-      reply_text (form_of k request.head) now.reply now.shown)
-  pub stored : after ≡ record {
-    container = store.container;
-    bucket = (served store.container store.bucket request (next_moment moments)).bucket;
-  }
+  pub asked : call.asked ≡ asked_of site.settings.largest call.request.head
+  pub takes : TakesCall site.settings.largest (buffer ++ read) call.request left
+  pub answered : IsAnswered tells alone site (form_of site.settings.largest k call.request.head) d e old.taken new.taken old.told new.told call
 
-abbrev pub ComesTo : ℕ → StoreState → StoreState → IntakeState → IntakeState → EndsState → EndsState → Result Turn ServeFault → Type 0
-ComesTo k store after intake left old new (Ok Further) = GoesOn k store after intake.buffer left.buffer old new × IsReady left
-ComesTo k store after intake left old new (Ok (Over replies end)) = ServesFrom k store after intake.buffer old new replies end
-ComesTo k store after intake left old new (Err fault) = LeavesAt fault k store after intake.buffer old new
+-- and the connection goes on
+pub record GoesOn (tells alone : Type 0) (site : Site) (k : ℕ) (buffer left : List ℕ) (d e : DoorView) (old new : EndsState) : Type 0 where
+  pub call : Call
+  pub replied : TakesReply tells alone site k buffer left d e old new call
+  pub stays_open : closes_at site.settings.largest k call.request.head ≡ false
+
+abbrev pub ComesTo : Type 0 → Type 0 → Site → ℕ → List Event → Side → Side → Result Turn ServeFault → Type 0
+ComesTo tells alone site k found x y (Ok Further) = GoesOn tells alone site k x.intake.buffer y.intake.buffer x.door y.door x.ends y.ends × IsReady y.intake
+ComesTo tells alone site k found x y (Ok (Over replies end)) = ServesFrom tells alone site k x.intake.buffer x.door y.door x.ends y.ends replies end
+ComesTo tells alone site k found x y (Err fault) = LeavesAt tells alone site k found x y fault
 
 -- a turn writes one reply at most
 abbrev pub WritesFew : Turn → Type 0
 WritesFew Further = ⊤
 WritesFew (Over replies end) = replies ≤ 1
 
-pub record TakesTurn (k : ℕ) (store after : StoreState) (intake left : IntakeState) (old new : EndsState) (result : Result Turn ServeFault) : Type 0 where
-  pub turn : ComesTo k store after intake left old new result
+pub record TakesTurn (tells alone : Type 0) (site : Site) (k : ℕ) (found : List Event) (x y : Side) (result : Result Turn ServeFault) : Type 0 where
+  pub turn : ComesTo tells alone site k found x y result
   pub few : IfOk result WritesFew
-  pub cause : HasServeCause old new result
+  pub cause : HasServeCause x.ends y.ends result
+
+-- ---- heads that were not read
+
+-- the causes for which a head is not read
+abbrev pub EndsHeads : IntakeFault → Type 0
+EndsHeads intake.BadChunk = ⊥
+EndsHeads intake.BodyTooLarge = ⊥
+EndsHeads fault = ⊤
+
+-- how the requests end for such a cause; none where it is a fault of the connection
+abbrev pub end_for : IntakeFault → Option StreamEnd
+end_for intake.Cut = Some Ends.Cut
+end_for intake.BadHead = Some (Ends.Refused Word.Head false)
+end_for intake.HeadTooLarge = Some (Ends.Refused Word.Size false)
+end_for (intake.BadFraming bodiless) = Some (Ends.Refused Word.Framing bodiless)
+end_for fault = None
+
+-- the text for that end was written, and with it the connection is over
+abbrev pub EndsSo : Option (List ℕ) → Option (List ℕ) → IntakeFault → Turn → Type 0
+EndsSo taken taken' fault turn =
+    (end : StreamEnd) × (end_for fault ≡ Some end) × (turn ≡ Over (end_replies end) (connection_end [] end))
+    × Appends taken taken' (end_text end)
+
+-- or it was not: memory was wanting, or a read or a write failed
+abbrev pub LeavesSo : Option (List ℕ) → Option (List ℕ) → IntakeFault → ServeFault → Type 0
+LeavesSo taken taken' fault faults.ReadFault = (fault ≡ intake.ReadFault) × Appends taken taken' []
+LeavesSo taken taken' fault faults.OutOfMemory = (fault ≢ intake.ReadFault) × Appends taken taken' []
+LeavesSo taken taken' fault faults.WriteFault =
+    (word : BadRequest) × (bodiless : Bool) × (end_for fault ≡ Some (Ends.Refused word bodiless))
+    × AppendsFront taken taken' (bad_request_text (closing bodiless) word)
+LeavesSo taken taken' fault other = ⊥

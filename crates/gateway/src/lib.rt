@@ -1,17 +1,12 @@
-//! One connection of the gateway: requests in, replies out, over a store.
+//! One connection of the gateway: requests on objects in, replies out, through a door of the realm.
 #![tactic(auto)]
 
-mod answer;
-mod asked;
-mod fault;
-mod incoming;
+mod asker;
+mod refusal;
+mod request;
 mod serve;
-mod store;
+mod task;
 mod turn;
 
-pub use fault::ServeFault;
+pub use call_service::ServeFault;
 pub use serve::{ConnEnd, Served, serve_connection};
-pub use store::PlainStore;
-
-#[cfg(test)]
-mod tests;

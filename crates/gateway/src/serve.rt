@@ -1,12 +1,18 @@
-ghost use Rattle.std.specs.Prelude.{◌≡◌, ◌<◌, [], length};
-ghost use Rattle.gateway.specs.Incoming.{IsReady};
+ghost use Rattle.std.specs.Prelude.{◌≡◌, ◌≤◌, ◌<◌, length};
+ghost use Rattle.swift_auth.specs.Users.{standard_user};
+ghost use Rattle.http_intake.specs.Intake.{fresh};
+ghost use Rattle.gateway.specs.Calls.{MayBegin, site_of};
 ghost use Rattle.gateway.specs.Serving.{ServesConnection};
 
+use crate::ServeFault;
+use crate::asker::standard_user;
 use crate::turn::{Turn, take_turn};
-use crate::{PlainStore, ServeFault};
 use gw_io::{Clock, Ends, Sink, Source};
 use http_intake::Intake;
+use realm_door::Door;
+use realm_model::Settings;
 use std::alloc::Global;
+use swift_auth::User;
 
 /// How a connection ended.
 #[derive(Clone, Copy, Debug, PartialEq, Eq)]
@@ -17,7 +23,7 @@ pub enum ConnEnd {
     Closed,
     /// The input ended inside a request, and nothing was written for it.
     Cut,
-    /// A 400 with the word `head`, `size` or `framing`, or a 501, was written last.
+    /// A 400 with the word `head`, `size` or `framing`, a 413 or a 501 was written last.
     Refused,
 }
 
@@ -32,53 +38,88 @@ pub struct Served {
 /// How many bytes of a body are read at once.
 const PIECE: usize = 65_536;
 
-/// Serves the requests of one connection in order, each reply before the next request is read, at
-/// most 100000 of them. The clock is asked once for each request that reaches the container.
-pub fn serve_connection<S: Source, K: Sink, C: Clock>(
+/// Serves the requests of one connection in order, each reply before the next request is read, at most
+/// 100000 of them. Each request on an object is served by a task as the next actor of the door's pass. The
+/// clock is asked once for each event, and once where the end of a body decides.
+pub fn serve_connection<D: Door, S: Source, K: Sink, C: Clock>(
     alloc: Global,
-    store: &mut PlainStore,
+    settings: &Settings,
+    door: &mut D,
+    zone: u8,
     source: &mut S,
     sink: &mut K,
     clock: &mut C,
 ) -> Result<Served, ServeFault>
-    ensures { ServesConnection store.old store.new
+    requires low { 1 ≤ zone }
+    requires high { zone ≤ settings.now.zones }
+    requires same { D.settings door.old ≡ settings.now }
+    requires may { D.tells → MayBegin settings.now (D.told door.old) }
+    ensures served { ServesConnection D.tells D.alone (site_of settings.now zone) (D.found door.new)
+        (D.told door.old) (D.told door.new)
         (⟦<(S, K, C) as Ends>⟧.ends (source.old, sink.old, clock.old))
         (⟦<(S, K, C) as Ends>⟧.ends (source.new, sink.new, clock.new)) result }
+    ensures settings { D.settings door.new ≡ D.settings door.old }
+    ensures home { D.home door.new ≡ D.home door.old }
 {
-    let mut intake = match Intake::new(alloc, u64::MAX) {
+    let user = match standard_user(alloc) {
+        Ok(user) => user,
+        Err(fault) => return Err(fault),
+    };
+    let mut intake = match Intake::new(alloc, settings.largest) {
         Ok(intake) => intake,
         Err(_) => return Err(ServeFault::OutOfMemory),
     };
-    let mut piece = match vec![in alloc; 0; PIECE] {
-        Ok(piece) => piece,
+    let mut buffer = match vec![in alloc; 0; PIECE] {
+        Ok(buffer) => buffer,
         Err(_) => return Err(ServeFault::OutOfMemory),
     };
-    serve_requests(alloc, store, &mut intake, source, sink, clock, &mut piece)
+    serve_requests(
+        alloc,
+        settings,
+        zone,
+        &user,
+        door,
+        clock,
+        &mut intake,
+        source,
+        sink,
+        &mut buffer,
+    )
 }
 
 /// Serves the requests of a connection of which nothing was read.
-fn serve_requests<S: Source, K: Sink, C: Clock>(
+fn serve_requests<D: Door, S: Source, K: Sink, C: Clock>(
     alloc: Global,
-    store: &mut PlainStore,
+    settings: &Settings,
+    zone: u8,
+    user: &User,
+    door: &mut D,
+    clock: &mut C,
     intake: &mut Intake,
     source: &mut S,
     sink: &mut K,
-    clock: &mut C,
-    piece: &mut [u8],
+    buffer: &mut [u8],
 ) -> Result<Served, ServeFault>
-    requires room { 0 < length piece.old }
-    requires ready { IsReady intake.old }
-    requires unread { intake.old.buffer ≡ [] }
-    ensures { ServesConnection store.old store.new
+    requires room { 0 < length buffer.old }
+    requires low { 1 ≤ zone }
+    requires high { zone ≤ settings.now.zones }
+    requires same { D.settings door.old ≡ settings.now }
+    requires user { user.now ≡ standard_user }
+    requires unread { intake.old ≡ fresh settings.now.largest }
+    requires may { D.tells → MayBegin settings.now (D.told door.old) }
+    ensures served { ServesConnection D.tells D.alone (site_of settings.now zone) (D.found door.new)
+        (D.told door.old) (D.told door.new)
         (⟦<(S, K, C) as Ends>⟧.ends (source.old, sink.old, clock.old))
         (⟦<(S, K, C) as Ends>⟧.ends (source.new, sink.new, clock.new)) result }
+    ensures settings { D.settings door.new ≡ D.settings door.old }
+    ensures home { D.home door.new ≡ D.home door.old }
 {
     let mut out = Vec::new(alloc);
     let mut done: u64 = 0;
     'requests: loop {
         let k = done + 1;
         match take_turn(
-            alloc, k, store, intake, source, sink, clock, piece, &mut out,
+            alloc, k, settings, zone, user, door, clock, intake, source, sink, buffer, &mut out,
         ) {
             Ok(Turn::Further) => done = k,
             Ok(Turn::Over(replies, end)) => {

@@ -1,116 +1,108 @@
-// One turn of a connection: the next request is read and answered.
-ghost use Rattle.std.specs.Prelude.{◌≡◌, ◌≤◌, ◌<◌, true, length, OnOk, OnErr};
+//! One turn of a connection: the next request is read and replied to.
+ghost use Rattle.std.specs.Prelude.{◌≡◌, ◌≤◌, ◌<◌, length, IfOk, IfErr};
+ghost use Rattle.swift_auth.specs.Users.{standard_user};
+ghost use Rattle.call_service.specs.Serving.{side, WritesAtFault, HasServeCause};
 ghost use Rattle.std.specs.Io.KnownBytes.{Appends};
-ghost use Rattle.swift_model.specs.Replies.{end_text};
-ghost use Rattle.swift_model.specs.Connections.{end_replies};
-ghost use Rattle.gateway.specs.Answering.{AppendsFront, WritesAtFault};
-ghost use Rattle.gateway.specs.Incoming.{IsReady};
-ghost use Rattle.gateway.specs.Serving.{connection_end};
-ghost use Rattle.gateway.specs.Turns.{TakesTurn};
+ghost use Rattle.http_model.specs.Replies.{bad_request_text};
+ghost use Rattle.gateway.specs.declared.serve.ConnEnd.TheVariants as ends;
+ghost use Rattle.gateway.specs.Texts.{closing};
+ghost use Rattle.gateway.specs.Serving.{LeavesText};
+ghost use Rattle.gateway.specs.Calls.{MayBegin, site_of};
+ghost use Rattle.gateway.specs.Requests.{IsReady};
+ghost use Rattle.gateway.specs.Turns.{TakesTurn, EndsHeads, EndsSo, LeavesSo};
 
-use crate::answer::{answer, send_bad_request, send_refusal};
-use crate::incoming::{Incoming, take_request};
-use crate::{ConnEnd, PlainStore, ServeFault};
+use crate::refusal::send_bad_request;
+use crate::request::serve_request;
+use crate::{ConnEnd, ServeFault};
 use gw_io::{Clock, Ends, Sink, Source};
-use http_intake::Intake;
-use http_model::{ReplyForm, StreamEnd};
-use rgw_model::Refusal;
+use http_intake::{Intake, IntakeFault};
+use http_model::BadRequest;
+use realm_door::Door;
+use realm_model::Settings;
 use std::alloc::Global;
+use swift_auth::User;
 
 /// What a turn of a connection comes to.
 #[derive(Clone, Copy, Debug, PartialEq, Eq)]
 pub(crate) enum Turn {
-    /// A request was answered, and another may follow.
+    /// A request was replied, and another may follow.
     Further,
     /// The connection is over: how many replies the turn wrote, and the end.
     Over(u64, ConnEnd),
 }
 
-/// The form of the last reply of a connection.
-fn closing(bodiless: bool) -> ReplyForm
-    ensures { result ≡ record { bodiless = bodiless; close = true } }
-{
-    ReplyForm {
-        bodiless,
-        close: true,
-    }
-}
-
-/// Writes what is written where the requests end so: a refusal, or nothing.
-fn send_end<K: Sink>(sink: &mut K, out: &mut Vec<u8>, end: StreamEnd) -> Result<(), ServeFault>
-    ensures ok { OnOk result (Appends (K.taken sink.old) (K.taken sink.new) (end_text end)) }
-    ensures err { OnErr result (AppendsFront (K.taken sink.old) (K.taken sink.new) (end_text end)) }
+/// Refuses what is no request, and ends the connection.
+fn refuse<K: Sink>(
+    sink: &mut K,
+    out: &mut Vec<u8>,
+    word: BadRequest,
+    bodiless: bool,
+) -> Result<Turn, ServeFault>
+    ensures ok { IfOk result (λ turn. (turn ≡ Turn.Over 1 ends.Refused)
+        × Appends (K.taken sink.old) (K.taken sink.new) (bad_request_text (closing bodiless) word)) }
+    ensures err { IfErr result (LeavesText (K.taken sink.old) (K.taken sink.new) (bad_request_text (closing bodiless) word)) }
     ensures cause { WritesAtFault (K.faults sink.old) (K.faults sink.new) result }
 {
-    match end {
-        StreamEnd::Clean | StreamEnd::Closed | StreamEnd::Cut => Ok(()),
-        StreamEnd::Refused { word, bodiless } => {
-            send_bad_request(sink, out, word, closing(bodiless))
-        }
-        StreamEnd::NotBuilt { bodiless } => {
-            send_refusal(sink, out, Refusal::NotBuilt, closing(bodiless))
-        }
-    }
+    send_bad_request(sink, out, word, bodiless)?;
+    Ok(Turn::Over(1, ConnEnd::Refused))
 }
 
-/// How many replies are written where the requests end so.
-fn end_replies(end: StreamEnd) -> u64
-    ensures count { result ≡ end_replies end }
-    ensures few { result ≤ 1 }
+/// Ends a connection whose next head was not read for this cause.
+fn end_heads<K: Sink>(
+    sink: &mut K,
+    out: &mut Vec<u8>,
+    fault: IntakeFault,
+) -> Result<Turn, ServeFault>
+    requires { EndsHeads fault }
+    ensures ended { IfOk result (EndsSo (K.taken sink.old) (K.taken sink.new) fault) }
+    ensures left { IfErr result (LeavesSo (K.taken sink.old) (K.taken sink.new) fault) }
+    ensures cause { WritesAtFault (K.faults sink.old) (K.faults sink.new) result }
 {
-    match end {
-        StreamEnd::Clean | StreamEnd::Closed | StreamEnd::Cut => 0,
-        StreamEnd::Refused { .. } | StreamEnd::NotBuilt { .. } => 1,
+    match fault {
+        IntakeFault::OutOfMemory => Err(ServeFault::OutOfMemory),
+        IntakeFault::ReadFault => Err(ServeFault::ReadFault),
+        IntakeFault::Cut => Ok(Turn::Over(0, ConnEnd::Cut)),
+        IntakeFault::BadHead => refuse(sink, out, BadRequest::Head, false),
+        IntakeFault::HeadTooLarge => refuse(sink, out, BadRequest::Size, false),
+        IntakeFault::BadFraming { bodiless } => refuse(sink, out, BadRequest::Framing, bodiless),
+        IntakeFault::BadChunk | IntakeFault::BodyTooLarge => unreachable!(),
     }
 }
 
-/// How a connection ends whose requests end so.
-fn connection_end(end: StreamEnd) -> ConnEnd
-    ensures { result ≡ connection_end end }
-{
-    match end {
-        StreamEnd::Clean => ConnEnd::Clean,
-        StreamEnd::Closed => ConnEnd::Closed,
-        StreamEnd::Cut => ConnEnd::Cut,
-        StreamEnd::Refused { .. } | StreamEnd::NotBuilt { .. } => ConnEnd::Refused,
-    }
-}
-
-/// Reads the next request of a connection, its `k`th, and answers it.
-pub(crate) fn take_turn<S: Source, K: Sink, C: Clock>(
+/// Reads the next request of a connection, its `k`th, and replies to it.
+pub(crate) fn take_turn<D: Door, S: Source, K: Sink, C: Clock>(
     alloc: Global,
     k: u64,
-    store: &mut PlainStore,
+    settings: &Settings,
+    zone: u8,
+    user: &User,
+    door: &mut D,
+    clock: &mut C,
     intake: &mut Intake,
     source: &mut S,
     sink: &mut K,
-    clock: &mut C,
-    piece: &mut [u8],
+    buffer: &mut [u8],
     out: &mut Vec<u8>,
 ) -> Result<Turn, ServeFault>
-    requires room { 0 < length piece.old }
+    requires room { 0 < length buffer.old }
+    requires low { 1 ≤ zone }
+    requires high { zone ≤ settings.now.zones }
+    requires same { D.settings door.old ≡ settings.now }
+    requires user { user.now ≡ standard_user }
     requires ready { IsReady intake.old }
-    ensures turn { TakesTurn k store.old store.new intake.old intake.new
-        (⟦<(S, K, C) as Ends>⟧.ends (source.old, sink.old, clock.old))
-        (⟦<(S, K, C) as Ends>⟧.ends (source.new, sink.new, clock.new)) result }
-    ensures kept { length piece.new ≡ length piece.old }
+    requires may { D.tells → MayBegin settings.now (D.told door.old) }
+    ensures turn { TakesTurn D.tells D.alone (site_of settings.now zone) k (D.found door.new)
+        (side (D.told door.old) intake.old (⟦<(S, K, C) as Ends>⟧.ends (source.old, sink.old, clock.old)))
+        (side (D.told door.new) intake.new (⟦<(S, K, C) as Ends>⟧.ends (source.new, sink.new, clock.new))) result }
+    ensures settings { D.settings door.new ≡ D.settings door.old }
+    ensures home { D.home door.new ≡ D.home door.old }
+    ensures kept { length buffer.new ≡ length buffer.old }
 {
-    match take_request(alloc, k, store.container(), intake, source, piece) {
-        Err(fault) => Err(fault),
-        Ok(Incoming::End(end)) => match send_end(sink, out, end) {
-            Ok(()) => Ok(Turn::Over(end_replies(end), connection_end(end))),
-            Err(fault) => Err(fault),
-        },
-        Ok(Incoming::Request(asked, form)) => {
-            match answer(alloc, store, sink, clock, out, asked, form) {
-                Err(fault) => Err(fault),
-                Ok(()) => {
-                    if form.close {
-                        return Ok(Turn::Over(1, ConnEnd::Closed));
-                    }
-                    Ok(Turn::Further)
-                }
-            }
-        }
+    match intake.next(alloc, source) {
+        Ok(Some(head)) => serve_request(
+            alloc, k, settings, zone, user, &head, door, clock, intake, source, sink, buffer, out,
+        ),
+        Ok(None) => Ok(Turn::Over(0, ConnEnd::Clean)),
+        Err(fault) => end_heads(sink, out, fault),
     }
 }

@@ -1,8 +1,17 @@
+use Rattle.std.proofs.Common.{refl}
+use Rattle.call_service.specs.declared.fault.ServeFault.TheVariants as faults
+use Rattle.gateway.specs.Calls.{site_of}
 use Rattle.gateway.proofs.Connection.{nothing_served}
 use Rattle.gateway.proofs.serve.serve_connection.Goals as goal
 
-pub returns-in-Err : goal.returns-in-Err
-returns-in-Err g c = nothing_served _ _
+pub returns-in-Err-clause-served : goal.returns-in-Err-clause-served
+returns-in-Err-clause-served g c =
+    nothing_served g.D.Door.tells g.D.Door.alone (site_of c.args.settings.now c.args.zone) (g.D.Door.found c.args.door.now) (g.D.Door.told c.args.door.now) _ c.in-Err.fault c.requires.may c.in-Err.ensures.memory
 
-pub returns-in-Err-vec : goal.returns-in-Err-vec
-returns-in-Err-vec g c = nothing_served _ _
+pub returns-in-Err-new-clause-served : goal.returns-in-Err-new-clause-served
+returns-in-Err-new-clause-served g c =
+    nothing_served g.D.Door.tells g.D.Door.alone (site_of c.args.settings.now c.args.zone) (g.D.Door.found c.args.door.now) (g.D.Door.told c.args.door.now) _ faults.OutOfMemory c.requires.may refl
+
+pub returns-in-Err-vec-clause-served : goal.returns-in-Err-vec-clause-served
+returns-in-Err-vec-clause-served g c =
+    nothing_served g.D.Door.tells g.D.Door.alone (site_of c.args.settings.now c.args.zone) (g.D.Door.found c.args.door.now) (g.D.Door.told c.args.door.now) _ faults.OutOfMemory c.requires.may refl

@@ -1,4 +1,8 @@
-use Rattle.std.proofs.Common.{◌+◌, ◌∙◌, arith}
+use Rattle.std.proofs.Common.{◌+◌, ◌∙◌, ap, arith}
+use Rattle.http_intake.specs.Intake.{IntakeState}
+use Rattle.call_words.specs.Streams.{use_of}
+use Rattle.call_service.specs.Serving.{side}
+use Rattle.gateway.specs.Calls.{site_of}
 use Rattle.gateway.proofs.Connection.{goes_below, one_more_served, served_to_fault, served_to_end}
 use Rattle.gateway.proofs.serve.serve_requests.Goals as goal
 
@@ -7,27 +11,30 @@ requests-preserved g c =
     let taken = c.in-Ok-Further.ensures.turn in
     let turn = rw c.in-Ok-Further.field-0-is at taken.turn in
     record {
-      below = goes_below (c.requests.done + 1) turn.0.request.head turn.0.stays_open;
+      below = goes_below (c.requests.done + 1) turn.0.call.request.head (use_of c.args.settings.now.largest turn.0.call.request.head) turn.0.stays_open;
       room = omega (arith, c.requests.invariant.room, c.take_turn.ensures.kept);
       ready = turn.1;
+      settings = c.take_turn.ensures.settings ∙ c.requests.invariant.settings;
+      home = c.take_turn.ensures.home ∙ c.requests.invariant.home;
+      may = λ is. (turn.0.replied.answered.settled is).advances.may_begin;
       quiet = record {
         plan = taken.cause.plan ∙ c.requests.invariant.quiet.plan;
         read_faults = taken.cause.read_kept (λ e. absurd (cc)) ∙ c.requests.invariant.quiet.read_faults;
         write_faults = taken.cause.write_kept (λ e. absurd (cc)) ∙ c.requests.invariant.quiet.write_faults;
       };
-      served =
-          one_more_served c.requests.done c.args.store.now c.requests.store c.take_turn.new.store c.requests.intake.buffer c.take_turn.new.intake.buffer _ _ _
-          c.requests.invariant.served turn.0;
+      served = one_more_served g.D.Door.tells g.D.Door.alone (site_of c.args.settings.now c.args.zone) c.requests.done _ _ _ c.requests.invariant.served turn.0;
     }
 
-pub returns-in-Err : goal.returns-in-Err
-returns-in-Err g c =
+pub returns-in-Err-clause-served : goal.returns-in-Err-clause-served
+returns-in-Err-clause-served g c =
     let taken = c.in-Err.ensures.turn in
-    served_to_fault c.requests.done c.args.store.now c.requests.store c.take_turn.new.store c.requests.intake.buffer _ _ _ c.requests.invariant.served c.requests.invariant.quiet
-    c.in-Err.fault taken.turn taken.cause
+    served_to_fault g.D.Door.tells g.D.Door.alone (site_of c.args.settings.now c.args.zone) c.requests.done
+    (side (g.D.Door.told c.args.door.now) c.args.intake.now (record { left = g.S.Source.left c.args.source.now; taken = g.K.Sink.taken c.args.sink.now; told = g.C.Clock.told c.args.clock.now; plan = g.C.Clock.plan c.args.clock.now; read_faults = g.S.Source.faults c.args.source.now; write_faults = g.K.Sink.faults c.args.sink.now })) _ (side (g.D.Door.told c.take_turn.new.door) c.take_turn.new.intake _) (g.D.Door.found c.take_turn.new.door) c.requests.invariant.served c.requests.invariant.quiet
+    (ap (λ (i : IntakeState). side (g.D.Door.told c.args.door.now) i (record { left = g.S.Source.left c.args.source.now; taken = g.K.Sink.taken c.args.sink.now; told = g.C.Clock.told c.args.clock.now; plan = g.C.Clock.plan c.args.clock.now; read_faults = g.S.Source.faults c.args.source.now; write_faults = g.K.Sink.faults c.args.sink.now })) c.requires.unread) c.in-Err.fault taken.turn taken.cause
 
-pub returns-in-Ok-Over : goal.returns-in-Ok-Over
-returns-in-Ok-Over g c =
+pub returns-in-Ok-Over-clause-served : goal.returns-in-Ok-Over-clause-served
+returns-in-Ok-Over-clause-served g c =
     let taken = c.in-Ok-Over.ensures.turn in
-    served_to_end c.requests.done c.args.store.now c.requests.store c.take_turn.new.store c.requests.intake.buffer _ _ _ c.requests.invariant.served c.requests.invariant.quiet
-    _ c.in-Ok-Over.replies c.in-Ok-Over.end (rw c.in-Ok-Over.field-0-is at taken.turn) taken.cause
+    served_to_end g.D.Door.tells g.D.Door.alone (site_of c.args.settings.now c.args.zone) c.requests.done
+    (side (g.D.Door.told c.args.door.now) c.args.intake.now (record { left = g.S.Source.left c.args.source.now; taken = g.K.Sink.taken c.args.sink.now; told = g.C.Clock.told c.args.clock.now; plan = g.C.Clock.plan c.args.clock.now; read_faults = g.S.Source.faults c.args.source.now; write_faults = g.K.Sink.faults c.args.sink.now })) _ (side (g.D.Door.told c.take_turn.new.door) c.take_turn.new.intake _) (g.D.Door.found c.take_turn.new.door) c.requests.invariant.served c.requests.invariant.quiet
+    (ap (λ (i : IntakeState). side (g.D.Door.told c.args.door.now) i (record { left = g.S.Source.left c.args.source.now; taken = g.K.Sink.taken c.args.sink.now; told = g.C.Clock.told c.args.clock.now; plan = g.C.Clock.plan c.args.clock.now; read_faults = g.S.Source.faults c.args.source.now; write_faults = g.K.Sink.faults c.args.sink.now })) c.requires.unread) _ c.in-Ok-Over.replies c.in-Ok-Over.end (rw c.in-Ok-Over.field-0-is at taken.turn) taken.cause

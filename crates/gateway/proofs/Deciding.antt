@@ -1,0 +1,81 @@
+-- A task that ended with a reply made an event.
+use Rattle.std.proofs.Common.{◌≡◌, ℕ, List, Option, Some, None}
+use Rattle.realm_model.specs.Accounts.{Looked, Decided, blank}
+use Rattle.realm_model.specs.Owns.{OwnEvent}
+use Rattle.swift_auth.specs.declared.policy.Deed.{Deed}
+use Rattle.swift_requests.specs.declared.asked.Asked.{Asked}
+use Rattle.swift_requests.specs.declared.asked.Asked.TheVariants.{BadHost, Refused, Put, Get}
+use Rattle.task_words.specs.declared.asker.Asker.{Asker}
+use Rattle.task_words.specs.declared.command.GetCommand.{GetCommand}
+use Rattle.task_words.specs.declared.command.PutCommand.{PutCommand}
+use Rattle.task_words.specs.declared.outcome.Outcome.{Outcome}
+use Rattle.task_words.specs.declared.outcome.Outcome.TheVariants.{Done, BodyFailed, Busy, MovedOften, RacedOften, LateTag, LateRead, NoSpace}
+use Rattle.task_words.specs.declared.reply.MapReply.{MapReply}
+use Rattle.task_words.specs.declared.reply.MapReply.TheVariants as Map
+use Rattle.task_words.specs.declared.reply.Refusal.{Refusal}
+use Rattle.task_words.specs.declared.reply.Refusal.TheVariants.{Unauthorized, Denied, NoContainer, NoObject, NotMet, NoRange, OtherEtag}
+use Rattle.task_words.specs.Answers.{Command}
+use Rattle.task_words.specs.Outcomes.{LookedUp, ByMap, Body, IsGetReply, IsGetOutcome, IsPutReply, IsPutOutcome}
+use Rattle.call_words.specs.Calls.{IsBorneOut, whole}
+
+none_some : {X : Type 0} (x : X) → None ≡ Some x → ⊥
+none_some x e = absurd (cc)
+
+no_look : (zone : ℕ) (asker : Asker) (container : List ℕ) (deed : Deed) (refusal : Option Refusal) → LookedUp zone asker container deed refusal None → ⊥
+no_look zone asker container deed refusal x = none_some x.look x.is_last
+
+no_map : (zone : ℕ) (asker : Asker) (command : Command) (reply : MapReply) → ByMap zone asker command reply None → ⊥
+no_map zone asker command reply x = none_some x.event x.is_last
+
+get_reply : (zone : ℕ) (asker : Asker) (c : GetCommand) (reply : MapReply) → IsGetReply zone asker c reply blank → ⊥
+get_reply zone asker c (Map.Refused Unauthorized) x = no_look _ _ _ _ _ x.by_row
+get_reply zone asker c (Map.Refused (Denied rule)) x = no_look _ _ _ _ _ x.by_row
+get_reply zone asker c (Map.Refused NoContainer) x = no_look _ _ _ _ _ x.by_row
+get_reply zone asker c (Map.Refused NoObject) x = no_map _ _ _ _ x.0
+get_reply zone asker c (Map.Refused NotMet) x = no_map _ _ _ _ x.0
+get_reply zone asker c (Map.Refused (NoRange size)) x = no_map _ _ _ _ x.0
+get_reply zone asker c (Map.Refused OtherEtag) x = no_map _ _ _ _ x.0
+get_reply zone asker c (Map.Stored etag stamp) x = no_map _ _ _ _ x.0
+get_reply zone asker c (Map.Same etag stamp) x = no_map _ _ _ _ x.0
+get_reply zone asker c (Map.Shown kind meta etag stamp size start count) x = no_map _ _ _ _ x.0
+get_reply zone asker c (Map.Counted row objects bytes) x = no_map _ _ _ _ x.0
+
+get_outcome : (zone : ℕ) (asker : Asker) (c : GetCommand) (outcome : Outcome) → IsGetOutcome zone asker c outcome blank → ⊥
+get_outcome zone asker c (Done reply) x = get_reply zone asker c reply x
+get_outcome zone asker c (LateRead read_at clock) x = no_map _ _ _ _ x.by_map
+get_outcome zone asker c BodyFailed x = x
+get_outcome zone asker c (Busy id) x = x
+get_outcome zone asker c MovedOften x = x
+get_outcome zone asker c RacedOften x = x
+get_outcome zone asker c LateTag x = x
+get_outcome zone asker c (NoSpace free needed) x = x
+
+put_reply : (zone : ℕ) (asker : Asker) (c : PutCommand) (body : Body) (reply : MapReply) (events : List OwnEvent) → IsPutReply zone asker c body reply blank events → ⊥
+put_reply zone asker c body (Map.Refused Unauthorized) events x = no_look _ _ _ _ _ x.by_row
+put_reply zone asker c body (Map.Refused (Denied rule)) events x = no_look _ _ _ _ _ x.by_row
+put_reply zone asker c body (Map.Refused NoContainer) events x = no_look _ _ _ _ _ x.by_row
+put_reply zone asker c body (Map.Refused NoObject) events x = x
+put_reply zone asker c body (Map.Refused NotMet) events x = no_map _ _ _ _ x.1
+put_reply zone asker c body (Map.Refused (NoRange size)) events x = x
+put_reply zone asker c body (Map.Refused OtherEtag) events x = no_look _ _ _ _ _ x.1.by_row
+put_reply zone asker c body (Map.Stored etag stamp) events x = no_map _ _ _ _ x.1
+put_reply zone asker c body (Map.Same etag stamp) events x = x
+put_reply zone asker c body (Map.Shown kind meta etag stamp size start count) events x = x
+put_reply zone asker c body (Map.Counted row objects bytes) events x = x
+
+put_outcome : (zone : ℕ) (asker : Asker) (c : PutCommand) (body : Body) (outcome : Outcome) (events : List OwnEvent) → IsPutOutcome zone asker c body outcome blank events → ⊥
+put_outcome zone asker c body (Done reply) events x = put_reply zone asker c body reply events x
+put_outcome zone asker c body BodyFailed events x = no_look _ _ _ _ _ x.1.by_row
+put_outcome zone asker c body (Busy id) events x = no_look _ _ _ _ _ x.0.by_row
+put_outcome zone asker c body MovedOften events x = no_look _ _ _ _ _ x.0.by_row
+put_outcome zone asker c body RacedOften events x = x
+put_outcome zone asker c body LateTag events x = no_look _ _ _ _ _ x.0.by_row
+put_outcome zone asker c body (LateRead read_at clock) events x = x
+put_outcome zone asker c body (NoSpace free needed) events x = no_look _ _ _ _ _ x.0.by_row
+
+-- nothing is borne out by an actor without events
+pub not_blank : (zone : ℕ) (asker : Asker) (asked : Asked) (body shown : List ℕ) (outcome : Outcome) (events : List OwnEvent) → IsBorneOut zone asker asked body outcome shown blank events → ⊥
+not_blank zone asker BadHost body shown outcome events x = x
+not_blank zone asker (Refused why) body shown outcome events x = x
+not_blank zone asker (Put c) body shown outcome events x = put_outcome zone asker c (whole body) outcome events x.0
+not_blank zone asker (Get c) body shown outcome events x = get_outcome zone asker c outcome x.0

@@ -1,0 +1,200 @@
+-- The end of a connection, where no further head is read.
+use Rattle.std.proofs.Common.{◌≡◌, ◌≢◌, inl, inr, ℕ, ◌+◌, ◌≤◌, false, List, [], ◌∷◌, ◌++◌, length, Option, Some, None, Result, Ok, Err, refl, sym, ap, ◌∙◌, subst, append-nil, arith}
+use Rattle.std.specs.Prelude.{IfOk, IfErr}
+use Rattle.std.proofs.KnownBytes.{Consumes-nil, Appends-nil}
+use Rattle.std.specs.Io.KnownBytes.{Consumes, Appends, IsAtEnd}
+use Rattle.gw_io.specs.Ends.{EndsState}
+use Rattle.http_intake.specs.Intake.{IntakeState}
+use Rattle.http_intake.specs.Reading.{HasNoNext}
+use Rattle.http_intake.specs.declared.fault.IntakeFault.{IntakeFault}
+use Rattle.http_intake.specs.declared.fault.IntakeFault.TheVariants as intake
+use Rattle.http_model.specs.declared.reply.BadRequest.{BadRequest}
+use Rattle.http_model.specs.declared.reply.BadRequest.TheVariants as Word
+use Rattle.http_model.specs.declared.reply.StreamEnd.{StreamEnd}
+use Rattle.http_model.specs.declared.reply.StreamEnd.TheVariants as Ends
+use Rattle.http_model.specs.Heads.{skip_breaks}
+use Rattle.http_model.specs.Replies.{bad_request_text}
+use Rattle.http_model.specs.Streams.{IsCutHead}
+use Rattle.realm_model.specs.Doors.{DoorView}
+use Rattle.realm_model.specs.declared.event.Event.{Event}
+use Rattle.realm_door.specs.Steps.{next_count, actor_of_pass}
+use Rattle.call_words.specs.Streams.{IsEnd}
+use Rattle.call_service.specs.Serving.{Site, Side, side, own_moments, AppendsFront, WritesAtFault, HasServeCause}
+use Rattle.call_service.specs.declared.fault.ServeFault.{ServeFault}
+use Rattle.call_service.specs.declared.fault.ServeFault.TheVariants as faults
+use Rattle.http_intake.specs.Faults.{CountsFaults}
+use Rattle.gateway.specs.declared.turn.Turn.{Turn}
+use Rattle.gateway.specs.declared.turn.Turn.TheVariants.{Further, Over}
+use Rattle.gateway.specs.Texts.{closing, end_text, end_replies, connection_end}
+use Rattle.gateway.specs.Calls.{MayBegin}
+use Rattle.gateway.specs.Serving.{ReadsOut, IsOpen, IsTidy, RepliesTo, ServesFrom, FailsReading, LeavesHead, StopsFrom, LeavesAt}
+use Rattle.gateway.specs.Turns.{ComesTo, WritesFew, EndsHeads, end_for, EndsSo, LeavesSo}
+use Rattle.gateway.proofs.Growing.{advances_none, new_moments}
+use Rattle.gateway.proofs.Turning.{none_settled, same_left}
+
+pub heads_end : (all : List ℕ) (ended : Type 0) (fault : IntakeFault) → HasNoNext all ended fault → EndsHeads fault
+heads_end all ended intake.OutOfMemory x = tt
+heads_end all ended intake.ReadFault x = tt
+heads_end all ended intake.Cut x = tt
+heads_end all ended intake.BadHead x = tt
+heads_end all ended intake.HeadTooLarge x = tt
+heads_end all ended (intake.BadFraming b) x = tt
+heads_end all ended intake.BadChunk x = x
+heads_end all ended intake.BodyTooLarge x = x
+
+-- the end that the cause makes is that of the bytes
+end_comes : (largest : ℕ) (all : List ℕ) (after : Option (List ℕ)) (fault : IntakeFault) (e : StreamEnd) → HasNoNext all (IsAtEnd after) fault → end_for fault ≡ Some e → IsEnd largest all e × ReadsOut e after
+end_comes largest all after intake.OutOfMemory e x is = absurd (cc)
+end_comes largest all after intake.ReadFault e x is = absurd (cc)
+end_comes largest all after intake.Cut e x is = let same : Ends.Cut ≡ e = cc in subst (λ f. IsEnd largest all f × ReadsOut f after) same ((x.0, inl x.1), x.2)
+end_comes largest all after intake.BadHead e x is = let same : Ends.Refused Word.Head false ≡ e = cc in subst (λ f. IsEnd largest all f × ReadsOut f after) same ((x, refl), tt)
+end_comes largest all after intake.HeadTooLarge e x is = let same : Ends.Refused Word.Size false ≡ e = cc in subst (λ f. IsEnd largest all f × ReadsOut f after) same ((x, refl), tt)
+end_comes largest all after (intake.BadFraming b) e x is = let same : Ends.Refused Word.Framing b ≡ e = cc in subst (λ f. IsEnd largest all f × ReadsOut f after) same (x, tt)
+end_comes largest all after intake.BadChunk e x is = absurd x
+end_comes largest all after intake.BodyTooLarge e x is = absurd x
+
+-- bytes of a cut head are those of an input that may end there
+open_blank : (largest : ℕ) (bytes blank : List ℕ) → skip_breaks bytes ≡ blank → IsCutHead bytes → (e : StreamEnd) × IsOpen e × IsEnd largest bytes e
+open_blank largest bytes [] is cut = (Ends.Clean, tt, (cut.0, is))
+open_blank largest bytes (b ∷ rest) is cut = (Ends.Cut, tt, (λ none. let clash : ◌∷◌ b rest ≡ [] = sym is ∙ none in absurd (cc), inl cut))
+
+-- an end that may come has no text
+open_quiet : (e : StreamEnd) → IsOpen e → end_text e ≡ []
+open_quiet Ends.Clean o = refl
+open_quiet Ends.Closed o = absurd o
+open_quiet Ends.Cut o = refl
+open_quiet (Ends.Refused word bodiless) o = absurd o
+open_quiet (Ends.NotBuilt bodiless) o = absurd o
+
+few_replies : (e : StreamEnd) → end_replies e ≤ 1
+few_replies Ends.Clean = omega arith
+few_replies Ends.Closed = omega arith
+few_replies Ends.Cut = omega arith
+few_replies (Ends.Refused word bodiless) = omega arith
+few_replies (Ends.NotBuilt bodiless) = omega arith
+
+module _ (tells alone : Type 0) (site : Site) (k : ℕ) (d : DoorView) (old_intake new_intake : IntakeState) (old new : EndsState) (may : tells → MayBegin site.settings d) (more : List ℕ)
+    (consumed : Consumes old.left new.left more) (told : Appends old.told new.told []) where
+  idle_tidy : (e : StreamEnd) → IsTidy tells d d.pass (next_count d) [] e
+  idle_tidy Ends.Clean = (refl, λ is. refl)
+  idle_tidy Ends.Closed = (refl, λ is. refl)
+  idle_tidy Ends.Cut = λ is. sym (new_moments site.settings d (may is))
+  idle_tidy (Ends.Refused word bodiless) = (refl, λ is. refl)
+  idle_tidy (Ends.NotBuilt bodiless) = (refl, λ is. refl)
+
+  end_replied : (e : StreamEnd) → IsEnd site.settings.largest (old_intake.buffer ++ more) e → Appends old.taken new.taken (end_text e)
+      → RepliesTo tells alone site k old_intake.buffer d d old new [] e
+  end_replied e ends written = record {
+    read = more;
+    consumed = consumed;
+    asked = tt;
+    stream = ends;
+    written = written;
+    last = next_count d;
+    moments = [];
+    later = [];
+    asked_clock = told;
+    told = refl;
+    tidy = idle_tidy e;
+    settled = λ is. none_settled alone site d d (same_left alone site d d (may is) refl);
+  }
+
+  pub end_served : (e : StreamEnd) → IsEnd site.settings.largest (old_intake.buffer ++ more) e → ReadsOut e new.left → Appends old.taken new.taken (end_text e)
+      → ServesFrom tells alone site k old_intake.buffer d d old new (end_replies e) (connection_end [] e)
+  end_served e ends out written = record {
+    calls = [];
+    stream_end = e;
+    replied = end_replied e ends written;
+    read_out = out;
+    counted = omega arith;
+    ended = refl;
+  }
+
+  end_failed : IsCutHead (old_intake.buffer ++ more) → Appends old.taken new.taken [] → FailsReading tells alone site k old_intake.buffer d d old new
+  end_failed cut quiet =
+      let all = old_intake.buffer ++ more in
+      let o = open_blank site.settings.largest all (skip_breaks all) refl cut in
+      record {
+        calls = [];
+        stream_end = o.0;
+        replied = end_replied o.0 o.2 (subst (Appends old.taken new.taken) (sym (open_quiet o.0 o.1)) quiet);
+        waits = o.1;
+      }
+
+  module _ (found : List Event) where
+    head_left : (fault : ServeFault) → LeavesHead (side d old_intake old) (side d new_intake new) fault → StopsFrom tells alone site k found (side d old_intake old) (side d new_intake new) fault
+    head_left fault left = record {
+      calls = [];
+      between = side d old_intake old;
+      read = [];
+      consumed = Consumes-nil old.left;
+      asked = tt;
+      front = append-nil old_intake.buffer;
+      written = Appends-nil old.taken;
+      moments = [];
+      asked_clock = Appends-nil old.told;
+      told = refl;
+      reached = λ is. advances_none site.settings d (may is);
+      settled = λ is. none_settled alone site d d (same_left alone site d d (may is) refl);
+      left = inl left;
+    }
+
+    end_left : (cause : IntakeFault) (fault : ServeFault) → HasNoNext (old_intake.buffer ++ more) (IsAtEnd new.left) cause → LeavesSo old.taken new.taken cause fault
+        → LeavesAt tells alone site k found (side d old_intake old) (side d new_intake new) fault
+    end_left cause faults.OutOfMemory none (other, quiet) = head_left faults.OutOfMemory (more, consumed, record { door = refl; untold = told }, quiet)
+    end_left cause faults.ReadFault none (same, quiet) =
+        end_failed (subst (HasNoNext (old_intake.buffer ++ more) (IsAtEnd new.left)) same none) quiet
+    end_left cause faults.WriteFault none (word, bodiless, is, front) =
+        head_left faults.WriteFault
+        (more, consumed, record { door = refl; untold = told }, word, bodiless, (end_comes site.settings.largest (old_intake.buffer ++ more) new.left cause (Ends.Refused word bodiless) none is).0, front)
+    end_left cause faults.Worn none x = absurd x
+    end_left cause (faults.Late read_at clock) none x = absurd x
+
+    end_ended : (cause : IntakeFault) (turn : Turn) → HasNoNext (old_intake.buffer ++ more) (IsAtEnd new.left) cause → EndsSo old.taken new.taken cause turn
+        → ComesTo tells alone site k found (side d old_intake old) (side d new_intake new) (Ok turn) × WritesFew turn
+    end_ended cause turn none (e, is, same, written) =
+        let ends = end_comes site.settings.largest (old_intake.buffer ++ more) new.left cause e none is in
+        subst (λ (t : Turn). ComesTo tells alone site k found (side d old_intake old) (side d new_intake new) (Ok t) × WritesFew t) (sym same)
+        (end_served e ends.0 ends.1 written, few_replies e)
+
+    -- the turn in which the next head was not read for this cause
+    pub end_comes_to : (cause : IntakeFault) (result : Result Turn ServeFault) → HasNoNext (old_intake.buffer ++ more) (IsAtEnd new.left) cause
+        → IfOk result (EndsSo old.taken new.taken cause) → IfErr result (LeavesSo old.taken new.taken cause)
+        → ComesTo tells alone site k found (side d old_intake old) (side d new_intake new) result × IfOk result WritesFew
+    end_comes_to cause (Ok turn) none ended left = end_ended cause turn none ended
+    end_comes_to cause (Err fault) none ended left = (end_left cause fault none left, tt)
+
+-- ---- counts of faults
+
+read_there : (cause : IntakeFault) (fault : ServeFault) (a b : Option (List ℕ)) → LeavesSo a b cause fault → cause ≡ intake.ReadFault → fault ≡ faults.ReadFault
+read_there cause faults.OutOfMemory a b x is = absurd (x.0 is)
+read_there cause faults.ReadFault a b x is = refl
+read_there cause faults.WriteFault a b x is = let none : None ≡ Some (Ends.Refused x.0 x.1) = sym (ap end_for is) ∙ x.2 in absurd (cc)
+read_there cause faults.Worn a b x is = absurd x
+read_there cause (faults.Late read_at clock) a b x is = absurd x
+
+read_here : (cause : IntakeFault) (fault : ServeFault) (a b : Option (List ℕ)) → LeavesSo a b cause fault → fault ≡ faults.ReadFault → cause ≡ intake.ReadFault
+read_here cause faults.OutOfMemory a b x is = absurd (cc)
+read_here cause faults.ReadFault a b x is = x.0
+read_here cause faults.WriteFault a b x is = absurd (cc)
+read_here cause faults.Worn a b x is = absurd x
+read_here cause (faults.Late read_at clock) a b x is = absurd x
+
+module _ {T : Type 0} (cause : IntakeFault) (before now : ℕ) (counts : CountsFaults {T = T} before now (Err cause)) where
+  read_cause : (result : Result Turn ServeFault) (a b : Option (List ℕ)) → IfOk result (EndsSo a b cause) → IfErr result (LeavesSo a b cause)
+      → (result ≡ Err faults.ReadFault → cause ≡ intake.ReadFault) × (cause ≡ intake.ReadFault → result ≡ Err faults.ReadFault)
+  read_cause (Ok turn) a b (e, is, same, written) left = (λ r. absurd (cc), λ c. let none : None ≡ Some e = sym (ap end_for c) ∙ is in absurd (cc))
+  read_cause (Err fault) a b ended left = (λ r. read_here cause fault a b left (cc), λ c. ap Err (read_there cause fault a b left c))
+
+  -- a head that was not read is a failed read, or none
+  pub end_cause : (result : Result Turn ServeFault) (old new : EndsState) → IfOk result (EndsSo old.taken new.taken cause) → IfErr result (LeavesSo old.taken new.taken cause)
+      → old.read_faults ≡ before → new.read_faults ≡ now → new.plan ≡ old.plan → WritesAtFault old.write_faults new.write_faults result → HasServeCause old new result
+  end_cause result old new ended left is_before is_now plan writes =
+      let both = read_cause result old.taken new.taken ended left in
+      record {
+        plan = plan;
+        read_rose = λ r. rw (is_before, is_now) (counts.rose (ap Err (both.0 r)));
+        read_kept = λ other. is_now ∙ counts.kept (λ c. other (both.1 (cc))) ∙ sym is_before;
+        write_rose = writes.rose;
+        write_kept = writes.kept;
+      }

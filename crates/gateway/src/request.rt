@@ -1,0 +1,147 @@
+//! One request whose head was read: its reply, and what it leaves of the connection.
+ghost use Rattle.std.specs.Prelude.{◌≡◌, ◌≤◌, ◌<◌, Ok, Err, length, IfOk, IfErr};
+ghost use Rattle.swift_auth.specs.Users.{standard_user};
+ghost use Rattle.swift_requests.specs.Asks.{asked_of};
+ghost use Rattle.call_words.specs.Streams.{use_of};
+ghost use Rattle.http_model.specs.Forms.{is_bodiless};
+ghost use Rattle.call_service.specs.Serving.{Side, HasServeCause, side};
+ghost use Rattle.gateway.specs.Calls.{MayBegin, site_of};
+ghost use Rattle.gateway.specs.Requests.{IsBehindHead, Serves, Stops};
+ghost use Rattle.gateway.specs.Serving.{ReadsHead};
+ghost use Rattle.gateway.specs.Texts.{closing_end};
+ghost use Rattle.gateway.specs.Turns.{ComesTo, WritesFew};
+
+use crate::ConnEnd;
+use crate::refusal::serve_refused;
+use crate::task::{serve_next_get, serve_next_put};
+use crate::turn::Turn;
+use call_service::{ServeFault, Served};
+use gw_io::{Clock, Ends, Sink, Source};
+use http_intake::Intake;
+use http_model::{Head, ReplyForm};
+use realm_door::Door;
+use realm_model::Settings;
+use std::alloc::Global;
+use swift_auth::User;
+use swift_reply::SwiftRefusal;
+use swift_requests::{Asked, BodyUse, body_use, closes, read_asked};
+
+/// How a connection ends behind a reply that closes it.
+fn closing_end(asked: &Asked) -> ConnEnd
+    ensures { result ≡ closing_end asked.now }
+{
+    match asked {
+        Asked::Refused(SwiftRefusal::NotBuilt | SwiftRefusal::TooLarge) => ConnEnd::Refused,
+        _ => ConnEnd::Closed,
+    }
+}
+
+/// Replies to what a request asks.
+fn serve_asked<D: Door, S: Source, K: Sink, C: Clock>(
+    alloc: Global,
+    settings: &Settings,
+    zone: u8,
+    user: &User,
+    head: &Head,
+    asked: Asked,
+    plan: BodyUse,
+    form: ReplyForm,
+    door: &mut D,
+    clock: &mut C,
+    intake: &mut Intake,
+    source: &mut S,
+    sink: &mut K,
+    buffer: &mut [u8],
+    out: &mut Vec<u8>,
+) -> Result<Served, ServeFault>
+    requires room { 0 < length buffer.old }
+    requires low { 1 ≤ zone }
+    requires high { zone ≤ settings.now.zones }
+    requires same { D.settings door.old ≡ settings.now }
+    requires user { user.now ≡ standard_user }
+    requires behind { IsBehindHead intake.old head.now }
+    requires most { settings.now.largest ≤ 5368709120 }
+    requires asks { asked ≡ asked_of settings.now.largest head.now }
+    requires plan { plan ≡ use_of settings.now.largest head.now }
+    requires form { form.bodiless ≡ is_bodiless head.now.method }
+    requires may { D.tells → MayBegin settings.now (D.told door.old) }
+    ensures served { IfOk result (Serves D.tells D.alone (site_of settings.now zone) head.now asked plan form
+        (side (D.told door.old) intake.old (⟦<(S, K, C) as Ends>⟧.ends (source.old, sink.old, clock.old)))
+        (side (D.told door.new) intake.new (⟦<(S, K, C) as Ends>⟧.ends (source.new, sink.new, clock.new)))) }
+    ensures left { IfErr result (Stops D.tells D.alone (site_of settings.now zone) form asked plan (D.found door.new)
+        (side (D.told door.old) intake.old (⟦<(S, K, C) as Ends>⟧.ends (source.old, sink.old, clock.old)))
+        (side (D.told door.new) intake.new (⟦<(S, K, C) as Ends>⟧.ends (source.new, sink.new, clock.new)))) }
+    ensures cause { HasServeCause
+        (⟦<(S, K, C) as Ends>⟧.ends (source.old, sink.old, clock.old))
+        (⟦<(S, K, C) as Ends>⟧.ends (source.new, sink.new, clock.new)) result }
+    ensures settings { D.settings door.new ≡ D.settings door.old }
+    ensures home { D.home door.new ≡ D.home door.old }
+    ensures kept { length buffer.new ≡ length buffer.old }
+{
+    match asked {
+        Asked::Put(put) => serve_next_put(
+            alloc, settings, zone, user, put, form, door, clock, intake, source, sink, buffer, out,
+        ),
+        Asked::Get(get) => serve_next_get(
+            alloc, settings, zone, user, get, form, door, clock, intake, source, sink, buffer, out,
+        ),
+        refused => serve_refused(&refused, plan, form, intake, source, sink, buffer, out),
+    }
+}
+
+/// Replies to a request, the `k`th of its connection, and says whether another may follow.
+pub(crate) fn serve_request<D: Door, S: Source, K: Sink, C: Clock>(
+    alloc: Global,
+    k: u64,
+    settings: &Settings,
+    zone: u8,
+    user: &User,
+    head: &Head,
+    door: &mut D,
+    clock: &mut C,
+    intake: &mut Intake,
+    source: &mut S,
+    sink: &mut K,
+    buffer: &mut [u8],
+    out: &mut Vec<u8>,
+) -> Result<Turn, ServeFault>
+    requires room { 0 < length buffer.old }
+    requires low { 1 ≤ zone }
+    requires high { zone ≤ settings.now.zones }
+    requires same { D.settings door.old ≡ settings.now }
+    requires user { user.now ≡ standard_user }
+    requires behind { IsBehindHead intake.old head.now }
+    requires may { D.tells → MayBegin settings.now (D.told door.old) }
+
+    // Whatever was read before the head: with it, this is a turn.
+    ensures turn { (x : Side)
+        → ReadsHead x (side (D.told door.old) intake.old (⟦<(S, K, C) as Ends>⟧.ends (source.old, sink.old, clock.old))) head.now
+        → ComesTo D.tells D.alone (site_of settings.now zone) k (D.found door.new) x
+        (side (D.told door.new) intake.new (⟦<(S, K, C) as Ends>⟧.ends (source.new, sink.new, clock.new))) result }
+    ensures few { IfOk result WritesFew }
+    ensures cause { HasServeCause
+        (⟦<(S, K, C) as Ends>⟧.ends (source.old, sink.old, clock.old))
+        (⟦<(S, K, C) as Ends>⟧.ends (source.new, sink.new, clock.new)) result }
+    ensures settings { D.settings door.new ≡ D.settings door.old }
+    ensures home { D.home door.new ≡ D.home door.old }
+    ensures kept { length buffer.new ≡ length buffer.old }
+{
+    let asked = match read_asked(alloc, settings.largest, head) {
+        Ok(asked) => asked,
+        Err(_) => return Err(ServeFault::OutOfMemory),
+    };
+    let plan = body_use(settings.largest, head, &asked);
+    let close = closes(k, head, plan);
+    let bodiless = head.is_bodiless();
+    let form = ReplyForm { bodiless, close };
+    let end = closing_end(&asked);
+    match serve_asked(
+        alloc, settings, zone, user, head, asked, plan, form, door, clock, intake, source, sink,
+        buffer, out,
+    ) {
+        Err(fault) => Err(fault),
+        Ok(Served::Cut) => Ok(Turn::Over(0, ConnEnd::Cut)),
+        Ok(Served::Replied) if close => Ok(Turn::Over(1, end)),
+        Ok(Served::Replied) => Ok(Turn::Further),
+    }
+}
