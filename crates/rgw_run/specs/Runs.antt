@@ -1,67 +1,111 @@
--- What a run of the program comes to: a connection that is served to a container that was empty before.
-use Rattle.std.specs.Prelude.{◌≡◌, ◌≢◌, ◌⊎◌, ◌↔◌, ℕ, ◌≤◌, List, None, Some, All, ⊤, IsSomeAnd, Result, Ok, Err}
-use Rattle.std.specs.declared.option.Option.{Option}
+-- What a run of the program comes to: a new realm with one container, and a connection that is served to it.
+use Rattle.std.specs.Prelude.{◌≡◌, ◌≢◌, ◌↔◌, ℕ, ◌*◌, ◌^◌, List, [], ◌∷◌, length, true, false, All, IfSome, Option, None, Some, Result, Ok, Err}
+use Rattle.std.specs.Io.KnownBytes.{Appends}
 use Rattle.gw_io.specs.Ends.{EndsState}
+use Rattle.gw_io.specs.Memory.{moment_at}
 use Rattle.gw_io.specs.Outside.{Rose}
-use Rattle.rgw_model.specs.Buckets.{empty_bucket}
+use Rattle.turn_cell.specs.declared.machine.DoorFault.{DoorFault}
+use Rattle.turn_cell.specs.declared.machine.DoorFault.TheVariants as Door
+use Rattle.realm_model.specs.Doors.{DoorView, actor_at}
+use Rattle.realm_model.specs.Settings.{SettingsView, settings_of, second}
+use Rattle.realm_model.specs.declared.event.Event.{Event}
+use Rattle.realm_core.specs.Realms.{RealmView}
+use Rattle.swift_auth.specs.Users.{standard_user, account_of}
+use Rattle.container_preset.specs.Presets.{preset, Stops}
+use Rattle.gateway.specs.Calls.{site_of}
+use Rattle.gateway.specs.Serving.{ServesConnection}
 use Rattle.gateway.specs.declared.serve.ConnEnd.{ConnEnd}
 use Rattle.gateway.specs.declared.serve.ConnEnd.TheVariants.{Clean, Closed, Cut, Refused}
 use Rattle.gateway.specs.declared.serve.Served.{Served}
-use Rattle.gateway.specs.declared.fault.ServeFault.{ServeFault}
-use Rattle.gateway.specs.declared.fault.ServeFault.TheVariants as Fault
-use Rattle.gateway.specs.Store.{StoreState}
-use Rattle.gateway.specs.Serving.{Serves, Stops}
+use Rattle.call_service.specs.declared.fault.ServeFault.{ServeFault}
+use Rattle.call_service.specs.declared.fault.ServeFault.TheVariants as Fault
+use Rattle.rgw_run.specs.declared.once_end.OnceEnd.{OnceEnd}
+use Rattle.rgw_run.specs.declared.once_end.OnceEnd.TheVariants.{Unmade, Unbegun, Ended, Stopped}
 use Rattle.rgw_run.specs.declared.words.Once.{Once}
 
--- a container of this name, with nothing in it
-abbrev pub new_store : List ℕ → StoreState
-new_store bucket = record { container = bucket; bucket = empty_bucket }
+-- ---- the realm
 
--- the ends of a run: where the words say the moment, the clock has no part in it
-abbrev pub ends_for : Option ℕ → EndsState → EndsState
-ends_for None ends = ends
-ends_for (Some now) ends = record ends { told = None; plan = None }
+-- the settings of a realm of which no word says otherwise: one zone with stripes of 4 MiB and 64 MiB in frames of 4 KiB, 11
+-- shards in a new container, 120 seconds for a tag, two hours for a chain, objects up to 5 GiB, 100000 objects in a shard
+abbrev pub standard_settings : SettingsView
+standard_settings = settings_of 1 4194304 4096 16384 11 (120 * second) (7200 * second) 5368709120 100000
 
--- where the words say a moment, each moment is that one
-abbrev pub AreMoments : Option ℕ → List ℕ → Type 0
-AreMoments None moments = ⊤
-AreMoments (Some now) moments = All (λ moment. moment ≡ now) moments
+abbrev pub realm_of : List Event → RealmView
+realm_of history = record { settings = standard_settings; history = history }
 
--- the moments that were told before a fault
-abbrev pub moments_before : (store after : StoreState) (old new : EndsState) (fault : ServeFault) → Stops store after old new fault → List ℕ
-moments_before store after old new Fault.OutOfMemory left = left.moments
-moments_before store after old new Fault.ReadFault left = left.replied.moments
-moments_before store after old new Fault.WriteFault left = left.moments
+-- the door before the first event: the first actor of the first pass acts
+abbrev pub first_door : DoorView
+first_door = record { pass = 1; count = 0; used = false; seen = [] }
 
--- the status by how a connection ended, or by why it did not
+-- the events that make the container, all at one moment
+abbrev pub making : List ℕ → ℕ → List Event
+making bucket moment = preset standard_settings (actor_at first_door) bucket (account_of standard_user) 1 moment
+
+-- the door behind these
+abbrev pub door_behind : List Event → DoorView
+door_behind history = record { pass = 1; count = 0; used = true; seen = history }
+
+-- ---- statuses
+
 abbrev pub end_status : ConnEnd → ℕ
 end_status Clean = 0
 end_status Closed = 0
 end_status Cut = 5
 end_status Refused = 5
 
+-- no stripe of a realm that nobody else changes is gone: that a reply breaks off so is not seen
 abbrev pub fault_status : ServeFault → ℕ
+fault_status Fault.OutOfMemory = 4
 fault_status Fault.ReadFault = 2
 fault_status Fault.WriteFault = 3
-fault_status Fault.OutOfMemory = 4
+fault_status Fault.Worn = 7
+fault_status (Fault.Late read_at clock) = 5
 
-abbrev pub outcome_status : Result Served ServeFault → ℕ
-outcome_status (Ok served) = end_status served.end
-outcome_status (Err fault) = fault_status fault
+abbrev pub door_status : DoorFault → ℕ
+door_status Door.OutOfMemory = 4
+door_status Door.Worn = 7
 
--- the connection was served to its end
-pub record ServesOnce (once : Once) (old new : EndsState) (status : ℕ) : Type 0 where
-  pub after : StoreState
-  pub served : Served
-  pub serves : Serves (new_store once.bucket) after (ends_for once.now old) (ends_for once.now new) served
-  pub at_moments : AreMoments once.now serves.replied.moments
-  pub ended : status ≡ end_status served.end
+-- the status by how a run of `once` ended
+abbrev pub status_by : OnceEnd → ℕ
+status_by Unmade = 4
+status_by (Unbegun fault) = door_status fault
+status_by (Ended served) = end_status served.end
+status_by (Stopped fault) = fault_status fault
 
--- it was left at a fault
-pub record StopsOnce (once : Once) (old new : EndsState) (fault : ServeFault) : Type 0 where
-  pub after : StoreState
-  pub stops : Stops (new_store once.bucket) after (ends_for once.now old) (ends_for once.now new) fault
-  pub at_moments : AreMoments once.now (moments_before (new_store once.bucket) after (ends_for once.now old) (ends_for once.now new) fault stops)
+-- ---- what a run of `once` leaves
+
+-- one moment was told, and nothing was read or written
+pub record TellsOne (old new : EndsState) (moment : ℕ) : Type 0 where
+  pub told : Appends old.told new.told (moment ∷ [])
+  pub other : new ≡ record old { told = new.told }
+
+-- the container was not made whole
+pub record LeavesUnbegun (bucket : List ℕ) (old new : EndsState) (realm : Option RealmView) (fault : DoorFault) : Type 0 where
+  pub moment : ℕ
+  pub tells : TellsOne old new moment
+  pub door : DoorView
+  pub left : realm ≡ Some (realm_of door.seen)
+  pub stops : Stops standard_settings (Unit {0}) first_door door bucket moment
+  pub worn : fault ≡ Door.Worn → length door.seen ≡ 2 ^ 62
+
+-- the container was made, and then the connection came to that, which the history of the realm that is left bears out
+pub record LeavesServed (bucket : List ℕ) (old new : EndsState) (realm : Option RealmView) (result : Result Served ServeFault) : Type 0 where
+  pub moment : ℕ
+  pub middle : EndsState
+  pub tells : TellsOne old middle moment
+  pub door : DoorView
+  pub left : realm ≡ Some (realm_of door.seen)
+  pub serves : ServesConnection (Unit {0}) (Unit {0}) (site_of standard_settings 1) door.seen (door_behind (making bucket moment)) door middle new result
+
+-- memory was wanting before there was a realm; the container was not made; the connection was served to its end; or left at
+-- a fault
+abbrev pub Leaves : List ℕ → EndsState → EndsState → Option RealmView → OnceEnd → Type 0
+Leaves bucket old new realm Unmade = (realm ≡ None) × (new ≡ old)
+Leaves bucket old new realm (Unbegun fault) = LeavesUnbegun bucket old new realm fault
+Leaves bucket old new realm (Ended served) = LeavesServed bucket old new realm (Ok served)
+Leaves bucket old new realm (Stopped fault) = LeavesServed bucket old new realm (Err fault)
+
+-- ---- what a run comes to
 
 -- Each count of faults rose where the status says so, and stayed at every other one; the clock keeps its plan.
 pub record HasRunCause (old new : EndsState) (status : ℕ) : Type 0 where
@@ -71,18 +115,34 @@ pub record HasRunCause (old new : EndsState) (status : ℕ) : Type 0 where
   pub write_rose : status ≡ 3 → Rose old.write_faults new.write_faults
   pub write_kept : status ≢ 3 → new.write_faults ≡ old.write_faults
 
--- what a run with such words comes to
-pub record RunsOnce (once : Once) (old new : EndsState) (status : ℕ) : Type 0 where
-  pub served : (status ≡ 0) ⊎ (status ≡ 5) → ServesOnce once old new status
-  pub stopped : (fault : ServeFault) → status ≡ fault_status fault → StopsOnce once old new fault
-  pub not_refused : status ≢ 1
-  pub no_other : status ≤ 5
+-- a run whose moments the clock tells
+pub record RunsByClock (bucket : List ℕ) (old new : EndsState) (realm : Option RealmView) (status : ℕ) : Type 0 where
+  pub end : OnceEnd
+  pub leaves : Leaves bucket old new realm end
+  pub ended : status ≡ status_by end
   pub cause : HasRunCause old new status
 
--- what a run comes to whose words ask that, if they are not refused
-pub record Runs (words : Option Once) (old new : EndsState) (status : ℕ) : Type 0 where
+-- the ends with a clock of their own, which has told this and tells the moment at each call
+abbrev pub with_clock : EndsState → ℕ → List ℕ → EndsState
+with_clock ends moment told = record ends { told = Some told; plan = Some (moment_at moment 0) }
+
+-- A run at one moment is one with a clock that tells it each time; the clock that was handed in has no part in it.
+pub record RunsAt (bucket : List ℕ) (moment : ℕ) (old new : EndsState) (realm : Option RealmView) (status : ℕ) : Type 0 where
+  pub told : List ℕ
+  pub each : All (λ m. m ≡ moment) told
+  pub runs : RunsByClock bucket (with_clock old moment []) (with_clock new moment told) realm status
+  pub plan : new.plan ≡ old.plan
+
+abbrev pub RunsBy : Option ℕ → List ℕ → EndsState → EndsState → Option RealmView → ℕ → Type 0
+RunsBy None bucket old new realm status = RunsByClock bucket old new realm status
+RunsBy (Some moment) bucket old new realm status = RunsAt bucket moment old new realm status
+
+-- what a run comes to whose words ask that
+abbrev pub RunsOnce : Once → EndsState → EndsState → Option RealmView → ℕ → Type 0
+RunsOnce once old new realm status = RunsBy once.now once.bucket old new realm status
+
+-- what a run with such words comes to; where they are refused nothing happens
+pub record Runs (words : Option Once) (old new : EndsState) (realm : Option RealmView) (status : ℕ) : Type 0 where
   pub refused : (status ≡ 1) ↔ (words ≡ None)
-  pub served : (status ≡ 0) ⊎ (status ≡ 5) → IsSomeAnd words (λ once. ServesOnce once old new status)
-  pub stopped : (fault : ServeFault) → status ≡ fault_status fault → IsSomeAnd words (λ once. StopsOnce once old new fault)
-  pub no_other : status ≤ 5
-  pub cause : HasRunCause old new status
+  pub nothing : words ≡ None → (realm ≡ None) × (new ≡ old)
+  pub once : IfSome words (λ asked. RunsOnce asked old new realm status)

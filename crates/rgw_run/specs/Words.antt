@@ -1,9 +1,10 @@
 -- What the words of the command line mean: `once --bucket NAME`, with or without `--now N` behind it.
-use Rattle.std.specs.Prelude.{ℕ, Bool, not, ◌&&◌, List, [], ◌∷◌, length, slice_index, Option, Some, None, if◌then◌else◌, ◌==◌, nat_lt, nat_le, bytes_eq, codes}
-use Rattle.std.specs.List.{list_all, list_any}
+use Rattle.std.specs.Prelude.{ℕ, Bool, not, ◌&&◌, ◌==◌, List, [], ◌∷◌, length, slice_index, Option, Some, None, if◌then◌else◌, nat_lt, nat_le, bytes_eq, codes}
+use Rattle.std.specs.List.{list_all}
 use Rattle.std.specs.Option.{option_map}
 use Rattle.std.specs.Char.{is_ascii_digit}
 use Rattle.std.specs.Str.Parse.{digits_value}
+use Rattle.object_words.specs.Limits.{is_name}
 use Rattle.date_words.specs.declared.TheConstants.{LATEST_MOMENT}
 use Rattle.rgw_run.specs.declared.words.Once.{Once}
 
@@ -11,14 +12,9 @@ use Rattle.rgw_run.specs.declared.words.Once.{Once}
 abbrev pub begins_with_dash : List ℕ → Bool
 begins_with_dash word = slice_index word 0 == 45
 
--- the name of a container: 1 to 256 bytes, none of them 0
-abbrev pub is_container_name : List ℕ → Bool
-is_container_name name =
-    nat_lt 0 (length name) && (nat_le (length name) 256 && not (list_any (λ b. b == 0) name))
-
 -- the word can be the value of `--bucket`
 abbrev pub is_bucket : List ℕ → Bool
-is_bucket word = not (begins_with_dash word) && is_container_name word
+is_bucket word = not (begins_with_dash word) && is_name 256 word
 
 -- one or more decimal digits, leading zeros among them
 abbrev pub is_number : List ℕ → Bool

@@ -2,11 +2,13 @@
 //! system.
 #![tactic(auto)]
 
+mod once_end;
 mod running;
 mod status;
 mod system;
 mod words;
 
+pub use once_end::OnceEnd;
 pub use running::run;
 pub use status::Status;
 pub use system::run_on_system;

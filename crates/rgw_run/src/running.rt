@@ -1,16 +1,27 @@
 // A run of the program, over any input, output and clock.
-ghost use Rattle.std.specs.Prelude.{◌≡◌, IfSome, IsSome, None, Some, map, string_bytes};
+ghost use Rattle.std.specs.Prelude.{◌≡◌, IfSome, IsSome, None, Some, [], map, string_bytes, IfOk};
+ghost use Rattle.object_words.specs.Limits.{is_name};
+ghost use Rattle.swift_auth.specs.Users.{standard_user, account_of};
+ghost use Rattle.realm_core.specs.Realms.{new_realm};
 ghost use Rattle.rgw_run.specs.Words.{once_of};
-ghost use Rattle.rgw_run.specs.Runs.{Runs, RunsOnce, outcome_status};
+ghost use Rattle.rgw_run.specs.Runs.{Runs, RunsOnce, RunsByClock, RunsAt, HasRunCause, Leaves, standard_settings, status_by, end_status, fault_status, door_status};
 
+use crate::once_end::OnceEnd;
 use crate::status::Status;
 use crate::words::{Once, WordsFault, read_words};
-use gateway::{ConnEnd, PlainStore, ServeFault, Served, serve_connection};
+use container_preset::preset_bucket;
+use gateway::{ConnEnd, ServeFault, Served, serve_connection};
 use gw_io::{Clock, Ends, Sink, Source, StepClock};
+use object_words::BucketName;
+use realm_core::{Realm, SoloDoor};
+use realm_model::{Actor, Settings};
 use rgw_types::Text;
-use std::alloc::Global;
+use std::alloc::{AllocError, Global};
+use swift_auth::Users;
+use turn_cell::DoorFault;
 
-/// Does what the words ask, from the input to the output, and answers the status of the program:
+/// Does what the words ask, from the input to the output, leaves the realm that it made, and answers the
+/// status of the program:
 ///
 /// | Status | Comes where |
 /// |---|---|
@@ -19,16 +30,19 @@ use std::alloc::Global;
 /// | 2, 3 | the input, the output failed |
 /// | 4 | memory was wanting |
 /// | 5 | the requests end inside of one, with a refusal, or with a form that is not taken yet |
+/// | 7 | the realm has all the events that it may have |
 pub fn run<S: Source, K: Sink, C: Clock>(
     alloc: Global,
     words: &[String],
     input: &mut S,
     output: &mut K,
     clock: &mut C,
+    realm: &mut Option<Realm>,
 ) -> Status
+    requires { realm.old ≡ None }
     ensures runs { Runs (once_of (map string_bytes words.now))
         (⟦<(S, K, C) as Ends>⟧.ends (input.old, output.old, clock.old))
-        (⟦<(S, K, C) as Ends>⟧.ends (input.new, output.new, clock.new)) result.number }
+        (⟦<(S, K, C) as Ends>⟧.ends (input.new, output.new, clock.new)) realm.new result.number }
 
     // Where the words are refused, nothing else happens.
     ensures untouched { result.number ≡ 1
@@ -39,7 +53,7 @@ pub fn run<S: Source, K: Sink, C: Clock>(
         IsSome once.now → clock.new ≡ clock.old) }
 {
     match read_words(alloc, words) {
-        Ok(once) => serve_once(alloc, once, input, output, clock),
+        Ok(once) => serve_once(alloc, once, input, output, clock, realm),
         Err(WordsFault::Refused) => Status { number: 1 },
         Err(WordsFault::OutOfMemory) => Status { number: 4 },
     }
@@ -52,65 +66,187 @@ fn serve_once<S: Source, K: Sink, C: Clock>(
     input: &mut S,
     output: &mut K,
     clock: &mut C,
+    realm: &mut Option<Realm>,
 ) -> Status
+    requires { realm.old ≡ None }
     ensures runs { RunsOnce once
         (⟦<(S, K, C) as Ends>⟧.ends (input.old, output.old, clock.old))
-        (⟦<(S, K, C) as Ends>⟧.ends (input.new, output.new, clock.new)) result.number }
+        (⟦<(S, K, C) as Ends>⟧.ends (input.new, output.new, clock.new)) realm.new result.number }
     ensures unasked { IsSome once.now → clock.new ≡ clock.old }
 {
     let Once { bucket, now } = once;
     match now {
-        None => serve_by_clock(alloc, bucket, input, output, clock),
-        Some(moment) => serve_at(alloc, bucket, moment, input, output),
+        None => serve_by_clock(alloc, bucket, input, output, clock, realm),
+        Some(moment) => serve_at(alloc, bucket, moment, input, output, realm),
     }
 }
 
-/// Serves the connection, each request at the moment that the clock tells.
-fn serve_by_clock<S: Source, K: Sink, C: Clock>(
-    alloc: Global,
-    bucket: Text,
-    input: &mut S,
-    output: &mut K,
-    clock: &mut C,
-) -> Status
-    ensures { RunsOnce (record { bucket = bucket; now = None })
-        (⟦<(S, K, C) as Ends>⟧.ends (input.old, output.old, clock.old))
-        (⟦<(S, K, C) as Ends>⟧.ends (input.new, output.new, clock.new)) result.number }
-{
-    let Ok(mut store) = PlainStore::new(alloc, bucket) else {
-        return Status { number: 4 };
-    };
-    let outcome = serve_connection(alloc, &mut store, input, output, clock);
-    status_of(outcome)
-}
-
-/// Serves the connection, each request at this moment.
+/// Serves the connection, each event at this moment.
 fn serve_at<S: Source, K: Sink>(
     alloc: Global,
-    bucket: Text,
+    bucket: BucketName,
     moment: u64,
     input: &mut S,
     output: &mut K,
+    realm: &mut Option<Realm>,
 ) -> Status
-    ensures { RunsOnce (record { bucket = bucket; now = Some moment })
+    requires { realm.old ≡ None }
+    ensures { RunsAt bucket moment
         (record { left = S.left input.old; taken = K.taken output.old; told = None; plan = None; read_faults = S.faults input.old; write_faults = K.faults output.old })
-        (record { left = S.left input.new; taken = K.taken output.new; told = None; plan = None; read_faults = S.faults input.new; write_faults = K.faults output.new }) result.number }
+        (record { left = S.left input.new; taken = K.taken output.new; told = None; plan = None; read_faults = S.faults input.new; write_faults = K.faults output.new }) realm.new result.number }
 {
     let mut clock = StepClock::new(moment, 0);
-    serve_by_clock(alloc, bucket, input, output, &mut clock)
+    serve_by_clock(alloc, bucket, input, output, &mut clock, realm)
 }
 
-fn status_of(outcome: Result<Served, ServeFault>) -> Status
-    ensures { result.number ≡ outcome_status outcome }
+/// Serves the connection, each event at the moment that the clock tells.
+fn serve_by_clock<S: Source, K: Sink, C: Clock>(
+    alloc: Global,
+    bucket: BucketName,
+    input: &mut S,
+    output: &mut K,
+    clock: &mut C,
+    realm: &mut Option<Realm>,
+) -> Status
+    requires { realm.old ≡ None }
+    ensures { RunsByClock bucket
+        (⟦<(S, K, C) as Ends>⟧.ends (input.old, output.old, clock.old))
+        (⟦<(S, K, C) as Ends>⟧.ends (input.new, output.new, clock.new)) realm.new result.number }
 {
-    let number = match outcome {
-        Ok(served) => match served.end {
-            ConnEnd::Clean | ConnEnd::Closed => 0,
-            ConnEnd::Cut | ConnEnd::Refused => 5,
-        },
-        Err(ServeFault::ReadFault) => 2,
-        Err(ServeFault::WriteFault) => 3,
-        Err(ServeFault::OutOfMemory) => 4,
+    let end = serve_container(alloc, &bucket, input, output, clock, realm);
+    status_of(end)
+}
+
+/// Makes the realm and the container in it, serves the connection to it, and leaves the realm.
+fn serve_container<S: Source, K: Sink, C: Clock>(
+    alloc: Global,
+    bucket: &BucketName,
+    input: &mut S,
+    output: &mut K,
+    clock: &mut C,
+    realm: &mut Option<Realm>,
+) -> OnceEnd
+    requires { realm.old ≡ None }
+    ensures leaves { Leaves bucket.now
+        (⟦<(S, K, C) as Ends>⟧.ends (input.old, output.old, clock.old))
+        (⟦<(S, K, C) as Ends>⟧.ends (input.new, output.new, clock.new)) realm.new result }
+    ensures cause { HasRunCause
+        (⟦<(S, K, C) as Ends>⟧.ends (input.old, output.old, clock.old))
+        (⟦<(S, K, C) as Ends>⟧.ends (input.new, output.new, clock.new)) (status_by result) }
+{
+    let settings = standard_settings();
+    let Ok(owner) = standard_owner(alloc) else {
+        return OnceEnd::Unmade;
+    };
+    let Ok(mut made) = Realm::new(alloc, &settings) else {
+        return OnceEnd::Unmade;
+    };
+    let end = serve_in(
+        alloc, &settings, bucket, &owner, &mut made, input, output, clock,
+    );
+    *realm = Some(made);
+    end
+}
+
+/// Makes the container in a new realm, and serves the connection to it.
+fn serve_in<S: Source, K: Sink, C: Clock>(
+    alloc: Global,
+    settings: &Settings,
+    bucket: &BucketName,
+    owner: &Text,
+    realm: &mut Realm,
+    input: &mut S,
+    output: &mut K,
+    clock: &mut C,
+) -> OnceEnd
+    requires settings { settings.now ≡ standard_settings }
+    requires owner { owner.now ≡ account_of standard_user }
+    requires new { realm.old ≡ new_realm standard_settings }
+    ensures leaves { Leaves bucket.now
+        (⟦<(S, K, C) as Ends>⟧.ends (input.old, output.old, clock.old))
+        (⟦<(S, K, C) as Ends>⟧.ends (input.new, output.new, clock.new)) (Some realm.new) result }
+    ensures cause { HasRunCause
+        (⟦<(S, K, C) as Ends>⟧.ends (input.old, output.old, clock.old))
+        (⟦<(S, K, C) as Ends>⟧.ends (input.new, output.new, clock.new)) (status_by result) }
+{
+    let mut actor = Actor::new(1);
+    let mut door = SoloDoor::new(realm, &mut actor);
+    let moment = clock.now();
+    if let Err(fault) = preset_bucket(alloc, settings, &mut door, bucket, owner, moment) {
+        return OnceEnd::Unbegun(fault);
+    }
+    match serve_connection(alloc, settings, &mut door, 1, input, output, clock) {
+        Ok(served) => OnceEnd::Ended(served),
+        Err(fault) => OnceEnd::Stopped(fault),
+    }
+}
+
+/// The settings of a realm of which no word says otherwise.
+fn standard_settings() -> Settings
+    ensures { result ≡ standard_settings }
+{
+    Settings::new(
+        1,
+        4_194_304,
+        4096,
+        16_384,
+        11,
+        120_000_000,
+        7_200_000_000,
+        5_368_709_120,
+        100_000,
+    )
+    .unwrap()
+}
+
+/// The account of the one user.
+fn standard_owner(alloc: Global) -> Result<Text, AllocError>
+    ensures { IfOk result (λ owner. owner ≡ account_of standard_user) }
+{
+    match Users::standard(alloc) {
+        Ok(users) => users.first().account().clone(),
+        Err(_) => Err(AllocError),
+    }
+}
+
+fn end_status(end: ConnEnd) -> u8
+    ensures { result ≡ end_status end }
+{
+    match end {
+        ConnEnd::Clean | ConnEnd::Closed => 0,
+        ConnEnd::Cut | ConnEnd::Refused => 5,
+    }
+}
+
+fn fault_status(fault: ServeFault) -> u8
+    ensures { result ≡ fault_status fault }
+{
+    match fault {
+        ServeFault::ReadFault => 2,
+        ServeFault::WriteFault => 3,
+        ServeFault::OutOfMemory => 4,
+        ServeFault::Late { .. } => 5,
+        ServeFault::Worn => 7,
+    }
+}
+
+fn door_status(fault: DoorFault) -> u8
+    ensures { result ≡ door_status fault }
+{
+    match fault {
+        DoorFault::OutOfMemory => 4,
+        DoorFault::Worn => 7,
+    }
+}
+
+fn status_of(end: OnceEnd) -> Status
+    ensures { result.number ≡ status_by end }
+{
+    let number = match end {
+        OnceEnd::Unmade => 4,
+        OnceEnd::Unbegun(fault) => door_status(fault),
+        OnceEnd::Ended(Served { end, .. }) => end_status(end),
+        OnceEnd::Stopped(fault) => fault_status(fault),
     };
     Status { number }
 }

@@ -38,7 +38,15 @@ where
     let mut input = standard_input(&rt);
     let mut output = standard_output(&rt);
     let mut clock = SystemClock::new(rt);
-    run(rt.alloc(), &words, &mut input, &mut output, &mut clock)
+    let mut realm = None;
+    run(
+        rt.alloc(),
+        &words,
+        &mut input,
+        &mut output,
+        &mut clock,
+        &mut realm,
+    )
 }
 
 /// Does what the program's words ask, from standard input to standard output. A status that is not

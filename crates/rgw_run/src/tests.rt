@@ -112,7 +112,15 @@ fn outcome(
     let mut input = SliceSource::new(bytes, streams.piece, streams.failing_reads);
     let mut output = VecSink::new(alloc, streams.piece, streams.failing_writes);
     let mut clock = StepClock::new(1_700_000_000_000_000, 1_000_000);
-    let status = run(alloc, &words, &mut input, &mut output, &mut clock);
+    let mut realm = None;
+    let status = run(
+        alloc,
+        &words,
+        &mut input,
+        &mut output,
+        &mut clock,
+        &mut realm,
+    );
     Ok((status.number, output.into_bytes()))
 }
 

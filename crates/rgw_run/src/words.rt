@@ -1,9 +1,11 @@
 // The words of the command line.
-ghost use Rattle.std.specs.Prelude.{◌≡◌, ◌↔◌, IfOk, IsErrOf, IsSome, MatchOption, map, string_bytes};
+ghost use Rattle.std.specs.Prelude.{◌≡◌, ◌==◌, ◌↔◌, not, true, None, Some, IfOk, IsErrOf, IsSome, MatchOption, map, string_bytes};
 ghost use Rattle.std.specs.List.{list_all};
 ghost use Rattle.std.specs.Char.{is_ascii_digit};
-ghost use Rattle.rgw_run.specs.Words.{begins_once, begins_with_dash, is_bucket, is_container_name, moment_of, once_of};
+ghost use Rattle.object_words.specs.Limits.{is_name};
+ghost use Rattle.rgw_run.specs.Words.{begins_once, begins_with_dash, is_bucket, moment_of, once_of};
 
+use object_words::BucketName;
 use rgw_model::LATEST_MOMENT;
 use rgw_types::Text;
 use std::alloc::Global;
@@ -16,8 +18,8 @@ const MAX_NAME: usize = 256;
 #[derive(Debug, Drop)]
 pub struct Once {
     /// The name of the container.
-    pub bucket: Text,
-    /// The moment of each request in microseconds since 1970, where the clock is not to be asked.
+    pub bucket: BucketName,
+    /// The moment of each event in microseconds since 1970, where the clock is not to be asked.
     pub now: Option<u64>,
 }
 
@@ -41,17 +43,18 @@ pub fn read_words(alloc: Global, words: &[String]) -> Result<Once, WordsFault>
     let Some((bucket, now)) = once_parts(words) else {
         return Err(WordsFault::Refused);
     };
-    match Text::from_str(alloc, bucket) {
-        Ok(bucket) => Ok(Once { bucket, now }),
-        Err(_) => Err(WordsFault::OutOfMemory),
-    }
+    let Ok(text) = Text::from_str(alloc, bucket) else {
+        return Err(WordsFault::OutOfMemory);
+    };
+    let bucket = BucketName::new(text).unwrap();
+    Ok(Once { bucket, now })
 }
 
 /// The container's name and the moment that the words ask for.
 fn once_parts(words: &[String]) -> Option<(&str, Option<u64>)>
     ensures { MatchOption result (once_of (map string_bytes words.now) ≡ None) (λ parts.
-        once_of (map string_bytes words.now)
-        ≡ Some (record { bucket = parts.0.now; now = parts.1 })) }
+        (once_of (map string_bytes words.now) ≡ Some (record { bucket = parts.0.now; now = parts.1 }))
+        × (is_name 256 parts.0.now ≡ true)) }
 {
     match words {
         [command, option, bucket] => {
@@ -87,9 +90,15 @@ fn begins_with_dash(word: &str) -> bool
 }
 
 fn is_container_name(name: &[u8]) -> bool
-    ensures { result ≡ is_container_name name.now }
+    ensures { result ≡ is_name 256 name.now }
 {
-    !name.is_empty() && name.len() <= MAX_NAME && !name.contains(&0)
+    !name.is_empty() && name.len() <= MAX_NAME && has_no_zero(name)
+}
+
+fn has_no_zero(name: &[u8]) -> bool
+    ensures { result ≡ list_all (λ b. not (b == 0)) name.now }
+{
+    name.iter().all(|byte| *byte != 0)
 }
 
 /// Whether the word can be the value of `--bucket`.
