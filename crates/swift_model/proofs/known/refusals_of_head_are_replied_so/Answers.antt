@@ -1,7 +1,0 @@
-use Rattle.std.proofs.Common.{refl}
-use Rattle.swift_model.proofs.OnLiterals.{replies_on_literals}
-use Rattle.swift_model.proofs.known.refusals_of_head_are_replied_so.Goals as goal
-
-pub returns : goal.returns
-unfolding replies_on_literals
-returns c = record { host = refl; form = refl; framing = refl }
