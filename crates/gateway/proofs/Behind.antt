@@ -1,5 +1,5 @@
 -- What serving a request comes to, as what its head asks.
-use Rattle.std.proofs.Common.{◌≡◌, inl, ℕ, Bool, true, false, List, [], ◌++◌, Option, None, Some, Result, Ok, Err, refl, sym, ap, ◌∙◌, subst}
+use Rattle.std.proofs.Common.{◌≡◌, inl, ℕ, Bool, true, false, List, ◌++◌, Option, None, Some, Ok, Err, refl, sym, ap, ◌∙◌, subst}
 use Rattle.std.specs.Io.KnownBytes.{Consumes}
 use Rattle.gw_io.specs.Ends.{EndsState}
 use Rattle.http_intake.specs.Intake.{IntakeState, GivesHead}
@@ -23,7 +23,6 @@ use Rattle.call_service.specs.declared.served.Served.{Served}
 use Rattle.call_service.specs.declared.served.Served.TheVariants as services
 use Rattle.gateway.specs.declared.serve.ConnEnd.{ConnEnd}
 use Rattle.gateway.specs.declared.serve.ConnEnd.TheVariants as conn
-use Rattle.gateway.specs.declared.turn.Turn.{Turn}
 use Rattle.gateway.specs.Texts.{closing_end}
 use Rattle.gateway.specs.Calls.{MayBegin}
 use Rattle.gateway.specs.Requests.{IsReady, Serves, Stops}

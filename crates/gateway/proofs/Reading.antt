@@ -1,5 +1,5 @@
 -- The bytes of a connection have one reading.
-use Rattle.std.proofs.Common.{◌≡◌, ◌≢◌, ◌⊎◌, inl, inr, ℕ, suc, ◌<◌, ◌≤◌, Bool, true, false, List, [], ◌∷◌, ◌++◌, length, take, drop, refl, sym, ap, ◌∙◌, subst, arith}
+use Rattle.std.proofs.Common.{◌≡◌, ◌⊎◌, inl, inr, ℕ, suc, ◌<◌, ◌≤◌, Bool, true, false, List, [], ◌∷◌, ◌++◌, length, take, drop, refl, sym, ap, ◌∙◌, subst, arith}
 use Rattle.std.proofs.Math.Seq.{take-append_seam}
 use Rattle.std.proofs.lemmas.List.{length-append, length-take, take-append-drop, append_cancel_left, take_all}
 use Rattle.std.specs.Prelude.{MatchBool, nat_le}
@@ -109,9 +109,9 @@ one_ending largest bytes e f x y =
     elim (sort_of largest bytes e x) [
       | inl plain ↦ elim (sort_of largest bytes f y) [
             | inl other ↦ one_end bytes e f plain.0 other.0
-            | inr cut ↦ (cut_there bytes cut.1 cut.2 cut.4 largest e x).0 ∙ sym cut.0
+            | inr cut ↦ (cut_there bytes cut.1.0 cut.1.1 cut.1.3 largest e x).0 ∙ sym cut.0
           ]
-      | inr cut ↦ cut.0 ∙ sym (cut_there bytes cut.1 cut.2 cut.4 largest f y).0
+      | inr cut ↦ cut.0 ∙ sym (cut_there bytes cut.1.0 cut.1.1 cut.1.3 largest f y).0
     ]
 
 -- ---- streams

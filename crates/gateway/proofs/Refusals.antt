@@ -1,5 +1,5 @@
 -- A refusal before any name is looked at, as one request of a connection.
-use Rattle.std.proofs.Common.{◌≡◌, inr, ℕ, [], List, Option, Result, Ok, Err, refl, sym, subst, append-nil}
+use Rattle.std.proofs.Common.{◌≡◌, inr, [], List, Result, Ok, Err, refl, sym, subst, append-nil}
 use Rattle.std.specs.Prelude.{IfOk, IfErr}
 use Rattle.std.proofs.KnownBytes.{Appends-nil}
 use Rattle.std.specs.Io.KnownBytes.{Appends}
@@ -13,13 +13,12 @@ use Rattle.swift_requests.specs.declared.asked.Asked.{Asked}
 use Rattle.swift_requests.specs.declared.asked.Asked.TheVariants.{BadHost, Refused, Put, Get}
 use Rattle.swift_requests.specs.declared.body.BodyUse.{BodyUse}
 use Rattle.call_words.specs.Calls.{alone as by_itself, IsRefused}
-use Rattle.call_service.specs.Bodies.{ReadsAtFault}
-use Rattle.call_service.specs.Serving.{Site, Side, side, WritesAtFault, HasServeCause}
+use Rattle.call_service.specs.Serving.{Site, side}
 use Rattle.call_service.specs.declared.fault.ServeFault.{ServeFault}
 use Rattle.call_service.specs.declared.fault.ServeFault.TheVariants as faults
 use Rattle.call_service.specs.declared.served.Served.{Served}
 use Rattle.call_service.specs.declared.served.Served.TheVariants as services
-use Rattle.gateway.specs.Calls.{MayBegin, IsSettled}
+use Rattle.gateway.specs.Calls.{MayBegin}
 use Rattle.gateway.specs.Requests.{IsUnanswered, Refuses, LeavesRefusal, Serves, Stops, LeavesAsked}
 use Rattle.gateway.proofs.Growing.{advances_none, new_moments}
 use Rattle.gateway.proofs.Turning.{same_left}

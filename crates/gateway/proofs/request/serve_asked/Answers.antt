@@ -1,11 +1,7 @@
-use Rattle.std.proofs.Common.{◌≡◌, ◌≤◌, refl, sym, ap, ◌∙◌, subst, rules, arith}
+use Rattle.std.proofs.Common.{◌≡◌, refl, sym, ap, ◌∙◌, subst, arith}
 use Rattle.swift_requests.specs.Asks.{asked_of}
 use Rattle.swift_requests.specs.Bodies.{body_use}
-use Rattle.swift_requests.specs.declared.asked.Asked.{Asked}
 use Rattle.swift_requests.specs.declared.asked.Asked.TheVariants as asks
-use Rattle.swift_requests.specs.declared.body.BodyUse.{BodyUse}
-use Rattle.call_words.specs.Calls.{IsRefused}
-use Rattle.call_words.specs.Streams.{IsRead, use_of}
 use Rattle.gateway.specs.Calls.{site_of}
 use Rattle.gateway.specs.Requests.{IsBeforeBody}
 use Rattle.gateway.proofs.Heads.{put_body, get_body, before_asked, is_refused}
