@@ -82,9 +82,9 @@ module _ (bytes : List ℕ) (head : Head) (after : List ℕ) (begins : BeginsWit
   cut_there largest e x =
       elim (sort_of largest bytes e x) [
         | inl plain ↦ elim (by_plan (plan_of head) refl e plain.0) [
-              | inl cut ↦ absurd (no_cut_head (plain.1 cut))
-              | inr later ↦ absurd (subst (IsEnd largest bytes) later x)
-            ]
+          | inl cut ↦ absurd (no_cut_head (plain.1 cut))
+          | inr later ↦ absurd (subst (IsEnd largest bytes) later x)
+        ]
         | inr cut ↦ cut
       ]
 
@@ -108,9 +108,9 @@ one_ending : (largest : ℕ) (bytes : List ℕ) (e f : StreamEnd) → IsEnd larg
 one_ending largest bytes e f x y =
     elim (sort_of largest bytes e x) [
       | inl plain ↦ elim (sort_of largest bytes f y) [
-            | inl other ↦ one_end bytes e f plain.0 other.0
-            | inr cut ↦ (cut_there bytes cut.1.0 cut.1.1 cut.1.3 largest e x).0 ∙ sym cut.0
-          ]
+        | inl other ↦ one_end bytes e f plain.0 other.0
+        | inr cut ↦ (cut_there bytes cut.1.0 cut.1.1 cut.1.3 largest e x).0 ∙ sym cut.0
+      ]
       | inr cut ↦ cut.0 ∙ sym (cut_there bytes cut.1.0 cut.1.1 cut.1.3 largest f y).0
     ]
 

@@ -76,14 +76,16 @@ module _ (tells alone : Type 0) (site : Site) (head : Head) (asked : Asked) (ref
     refused_stops faults.Worn x = absurd x
     refused_stops (faults.Late read_at clock) x = absurd x
 
-    pub refused_left : (own : Asked) (result : Result Served ServeFault) → own ≡ asked → IfErr result (LeavesRefusal form asked plan old new before.left after.left before.taken after.taken)
-        → IfErr result (Stops tells alone site form own plan found (side d old before) (side d new after))
-    refused_left own (Ok s) same x = tt
-    refused_left own (Err fault) same x =
-        subst (λ (a : Asked). Stops tells alone site form a plan found (side d old before) (side d new after) fault) (sym same) (refused_stops fault x)
+    pub refused_left : (own : Asked) (other : BodyUse) (result : Result Served ServeFault) → own ≡ asked → plan ≡ other → IfErr result (LeavesRefusal form asked plan old new before.left after.left before.taken after.taken)
+        → IfErr result (Stops tells alone site form own other found (side d old before) (side d new after))
+    refused_left own other (Ok s) same use_is x = tt
+    refused_left own other (Err fault) same use_is x =
+        subst (λ (a : Asked). Stops tells alone site form a other found (side d old before) (side d new after) fault) (sym same)
+        (subst (λ (p : BodyUse). Stops tells alone site form asked p found (side d old before) (side d new after) fault) use_is (refused_stops fault x))
 
-  pub refused_served : (own : Asked) (result : Result Served ServeFault) → own ≡ asked → IfOk result (Refuses form asked plan old new before.left after.left before.taken after.taken)
-      → IfOk result (Serves tells alone site head own plan form (side d old before) (side d new after))
-  refused_served own (Ok s) same x =
-      subst (λ (a : Asked). Serves tells alone site head a plan form (side d old before) (side d new after) s) (sym same) (refused_serves s x)
-  refused_served own (Err fault) same x = tt
+  pub refused_served : (own : Asked) (other : BodyUse) (result : Result Served ServeFault) → own ≡ asked → plan ≡ other → IfOk result (Refuses form asked plan old new before.left after.left before.taken after.taken)
+      → IfOk result (Serves tells alone site head own other form (side d old before) (side d new after))
+  refused_served own other (Ok s) same use_is x =
+      subst (λ (a : Asked). Serves tells alone site head a other form (side d old before) (side d new after) s) (sym same)
+      (subst (λ (p : BodyUse). Serves tells alone site head asked p form (side d old before) (side d new after) s) use_is (refused_serves s x))
+  refused_served own other (Err fault) same use_is x = tt
