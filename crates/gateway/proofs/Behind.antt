@@ -1,5 +1,5 @@
 -- What serving a request comes to, as what its head asks.
-use Rattle.std.proofs.Common.{◌≡◌, inl, ℕ, Bool, true, false, List, [], ◌++◌, Option, None, Some, Result, Ok, Err, refl, sym, ap, ◌∙◌, subst}
+use Rattle.std.proofs.Common.{◌≡◌, inl, ℕ, Bool, true, false, List, ◌++◌, Option, None, Some, Ok, Err, refl, sym, ap, ◌∙◌, subst}
 use Rattle.std.specs.Io.KnownBytes.{Consumes}
 use Rattle.gw_io.specs.Ends.{EndsState}
 use Rattle.http_intake.specs.Intake.{IntakeState, GivesHead}
@@ -23,7 +23,6 @@ use Rattle.call_service.specs.declared.served.Served.{Served}
 use Rattle.call_service.specs.declared.served.Served.TheVariants as services
 use Rattle.gateway.specs.declared.serve.ConnEnd.{ConnEnd}
 use Rattle.gateway.specs.declared.serve.ConnEnd.TheVariants as conn
-use Rattle.gateway.specs.declared.turn.Turn.{Turn}
 use Rattle.gateway.specs.Texts.{closing_end}
 use Rattle.gateway.specs.Calls.{MayBegin}
 use Rattle.gateway.specs.Requests.{IsReady, Serves, Stops}
@@ -34,51 +33,46 @@ use Rattle.gateway.proofs.Turning.{goes_on, closes_behind, cut_behind, leaves_be
 module _ (tells alone : Type 0) (site : Site) (k : ℕ) (x z y : Side) (head : Head) (reads : ReadsHead x z head) (asked : Asked) (plan : BodyUse) (bodiless close : Bool)
     (is_asked : asked ≡ asked_of site.settings.largest head) (is_plan : plan ≡ body_use site.settings.largest head asked)
     (is_bodiless' : bodiless ≡ is_bodiless head.method) (is_close : close ≡ closes k head plan) where
-  is_use : plan ≡ use_of site.settings.largest head
-  is_use = is_plan ∙ ap (body_use site.settings.largest head) is_asked
-
   is_closing : close ≡ closes k head (use_of site.settings.largest head)
   is_closing = is_close ∙ ap (closes k head) (is_plan ∙ ap (body_use site.settings.largest head) is_asked)
 
   is_form : ◌≡◌ {A = ReplyForm} (record { bodiless = bodiless; close = close }) (form_of site.settings.largest k head)
   is_form = λ i. record { bodiless = is_bodiless' i; close = (is_close ∙ ap (closes k head) (is_plan ∙ ap (body_use site.settings.largest head) is_asked)) i }
 
-  moved_served : (s : Served) → Serves tells alone site head asked plan (record { bodiless = bodiless; close = close }) z y s
+  moved_served : (s : Served) → Serves tells alone site head asked (use_of site.settings.largest head) (record { bodiless = bodiless; close = close }) z y s
       → Serves tells alone site head (asked_of site.settings.largest head) (use_of site.settings.largest head) (form_of site.settings.largest k head) z y s
   moved_served s served =
-      let one = subst (λ (f : ReplyForm). Serves tells alone site head asked plan f z y s) is_form served in
-      let two = subst (λ (p : BodyUse). Serves tells alone site head asked p (form_of site.settings.largest k head) z y s) is_use one in
-      subst (λ (a : Asked). Serves tells alone site head a (use_of site.settings.largest head) (form_of site.settings.largest k head) z y s) is_asked two
+      let one = subst (λ (f : ReplyForm). Serves tells alone site head asked (use_of site.settings.largest head) f z y s) is_form served in
+      subst (λ (a : Asked). Serves tells alone site head a (use_of site.settings.largest head) (form_of site.settings.largest k head) z y s) is_asked one
 
-  pub served_cut : (s : Served) → s ≡ services.Cut → Serves tells alone site head asked plan (record { bodiless = bodiless; close = close }) z y s
+  pub served_cut : (s : Served) → s ≡ services.Cut → Serves tells alone site head asked (use_of site.settings.largest head) (record { bodiless = bodiless; close = close }) z y s
       → ServesFrom tells alone site k x.intake.buffer x.door y.door x.ends y.ends 0 conn.Cut
   served_cut s is served =
       cut_behind tells alone site k x z y head reads
-      (moved_served services.Cut (subst (λ (t : Served). Serves tells alone site head asked plan (record { bodiless = bodiless; close = close }) z y t) is served))
+      (moved_served services.Cut (subst (λ (t : Served). Serves tells alone site head asked (use_of site.settings.largest head) (record { bodiless = bodiless; close = close }) z y t) is served))
 
   pub served_closed : (s : Served) (end : ConnEnd) → s ≡ services.Replied → close ≡ true → end ≡ closing_end asked
-      → Serves tells alone site head asked plan (record { bodiless = bodiless; close = close }) z y s
+      → Serves tells alone site head asked (use_of site.settings.largest head) (record { bodiless = bodiless; close = close }) z y s
       → ServesFrom tells alone site k x.intake.buffer x.door y.door x.ends y.ends 1 end
   served_closed s end is closed is_end served =
       subst (λ (e : ConnEnd). ServesFrom tells alone site k x.intake.buffer x.door y.door x.ends y.ends 1 e) (sym (is_end ∙ ap closing_end is_asked))
       (closes_behind tells alone site k x z y head reads
-      (moved_served services.Replied (subst (λ (t : Served). Serves tells alone site head asked plan (record { bodiless = bodiless; close = close }) z y t) is served))
+      (moved_served services.Replied (subst (λ (t : Served). Serves tells alone site head asked (use_of site.settings.largest head) (record { bodiless = bodiless; close = close }) z y t) is served))
       (sym is_closing ∙ closed))
 
-  pub served_on : (s : Served) → s ≡ services.Replied → close ≡ false → Serves tells alone site head asked plan (record { bodiless = bodiless; close = close }) z y s
+  pub served_on : (s : Served) → s ≡ services.Replied → close ≡ false → Serves tells alone site head asked (use_of site.settings.largest head) (record { bodiless = bodiless; close = close }) z y s
       → GoesOn tells alone site k x.intake.buffer y.intake.buffer x.door y.door x.ends y.ends × IsReady y.intake
   served_on s is stays served =
       goes_on tells alone site k x z y head reads
-      (moved_served services.Replied (subst (λ (t : Served). Serves tells alone site head asked plan (record { bodiless = bodiless; close = close }) z y t) is served))
+      (moved_served services.Replied (subst (λ (t : Served). Serves tells alone site head asked (use_of site.settings.largest head) (record { bodiless = bodiless; close = close }) z y t) is served))
       (sym is_closing ∙ stays)
 
-  pub served_not : (found : List Event) (fault : ServeFault) → (tells → MayBegin site.settings z.door) → Stops tells alone site (record { bodiless = bodiless; close = close }) asked plan found z y fault
+  pub served_not : (found : List Event) (fault : ServeFault) → (tells → MayBegin site.settings z.door) → Stops tells alone site (record { bodiless = bodiless; close = close }) asked (use_of site.settings.largest head) found z y fault
       → LeavesAt tells alone site k found x y fault
   served_not found fault may left =
-      let one = subst (λ (f : ReplyForm). Stops tells alone site f asked plan found z y fault) is_form left in
-      let two = subst (λ (p : BodyUse). Stops tells alone site (form_of site.settings.largest k head) asked p found z y fault) is_use one in
+      let one = subst (λ (f : ReplyForm). Stops tells alone site f asked (use_of site.settings.largest head) found z y fault) is_form left in
       leaves_behind tells alone site k x z y head reads found may fault
-      (subst (λ (a : Asked). Stops tells alone site (form_of site.settings.largest k head) a (use_of site.settings.largest head) found z y fault) is_asked two)
+      (subst (λ (a : Asked). Stops tells alone site (form_of site.settings.largest k head) a (use_of site.settings.largest head) found z y fault) is_asked one)
 
 -- memory was wanting before the head was judged
 pub not_judged : (tells alone : Type 0) (site : Site) (k : ℕ) (x z : Side) (head : Head) (found : List Event) → (tells → MayBegin site.settings z.door) → ReadsHead x z head

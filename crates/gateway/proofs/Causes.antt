@@ -1,10 +1,9 @@
 -- The counts of faults of a connection, from those of its parts.
-use Rattle.std.proofs.Common.{◌≡◌, ◌≢◌, ℕ, Result, Ok, Err, refl, ◌∙◌, subst}
+use Rattle.std.proofs.Common.{◌≡◌, Result, Ok, Err, ◌∙◌, subst}
 use Rattle.gw_io.specs.Ends.{EndsState}
 use Rattle.gw_io.specs.Outside.{Rose}
 use Rattle.call_service.specs.Serving.{HasServeCause}
 use Rattle.call_service.specs.declared.fault.ServeFault.{ServeFault}
-use Rattle.call_service.specs.declared.fault.ServeFault.TheVariants.{ReadFault, WriteFault}
 
 -- the causes of a later part are those of the whole, where no count rose before
 pub later_cause : {T : Type 0} (old mid new : EndsState) (result : Result T ServeFault) → mid.plan ≡ old.plan → mid.read_faults ≡ old.read_faults → mid.write_faults ≡ old.write_faults

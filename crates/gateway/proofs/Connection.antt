@@ -1,6 +1,6 @@
 -- A whole connection, from its turns.
-use Rattle.std.proofs.Common.{◌≡◌, ◌≢◌, ℕ, suc, ◌+◌, ◌<◌, Bool, true, false, ◌||◌, ◌==◌, List, [], Ok, Err, Result, inl, refl, sym, subst, ◌∙◌, add-one, arith}
-use Rattle.std.specs.Prelude.{nat_le, IfOk}
+use Rattle.std.proofs.Common.{◌≡◌, ℕ, suc, ◌+◌, ◌<◌, Bool, true, false, ◌||◌, ◌==◌, List, [], Ok, Err, Result, inl, refl, sym, subst, add-one, arith}
+use Rattle.std.specs.Prelude.{nat_le}
 use Rattle.std.proofs.lemmas.Bool.Decides.{nat_tests}
 use Rattle.std.proofs.KnownBytes.{Consumes-nil, Appends-nil}
 use Rattle.gw_io.specs.Ends.{EndsState}
@@ -18,7 +18,7 @@ use Rattle.call_service.specs.declared.fault.ServeFault.TheVariants as faults
 use Rattle.gateway.specs.declared.serve.ConnEnd.{ConnEnd}
 use Rattle.gateway.specs.declared.serve.Served.{Served}
 use Rattle.gateway.specs.Calls.{MayBegin}
-use Rattle.gateway.specs.Serving.{ServesFrom, StopsFrom, LeavesAt, IsLeft, ServesConnection}
+use Rattle.gateway.specs.Serving.{ServesFrom, LeavesAt, IsLeft, ServesConnection}
 use Rattle.gateway.specs.Turns.{GoesOn}
 use Rattle.gateway.proofs.Causes.{later_cause, good_cause, fault_cause}
 use Rattle.gateway.proofs.Growing.{advances_none}

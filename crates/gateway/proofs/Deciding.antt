@@ -1,6 +1,6 @@
 -- A task that ended with a reply made an event.
 use Rattle.std.proofs.Common.{◌≡◌, ℕ, List, Option, Some, None}
-use Rattle.realm_model.specs.Accounts.{Looked, Decided, blank}
+use Rattle.realm_model.specs.Accounts.{blank}
 use Rattle.realm_model.specs.Owns.{OwnEvent}
 use Rattle.swift_auth.specs.declared.policy.Deed.{Deed}
 use Rattle.swift_requests.specs.declared.asked.Asked.{Asked}

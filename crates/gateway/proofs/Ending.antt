@@ -1,5 +1,5 @@
 -- The end of a connection, where no further head is read.
-use Rattle.std.proofs.Common.{◌≡◌, ◌≢◌, inl, inr, ℕ, ◌+◌, ◌≤◌, false, List, [], ◌∷◌, ◌++◌, length, Option, Some, None, Result, Ok, Err, refl, sym, ap, ◌∙◌, subst, append-nil, arith}
+use Rattle.std.proofs.Common.{◌≡◌, inl, ℕ, ◌≤◌, false, List, [], ◌∷◌, ◌++◌, Option, Some, None, Result, Ok, Err, refl, sym, ap, ◌∙◌, subst, append-nil, arith}
 use Rattle.std.specs.Prelude.{IfOk, IfErr}
 use Rattle.std.proofs.KnownBytes.{Consumes-nil, Appends-nil}
 use Rattle.std.specs.Io.KnownBytes.{Consumes, Appends, IsAtEnd}
@@ -8,24 +8,21 @@ use Rattle.http_intake.specs.Intake.{IntakeState}
 use Rattle.http_intake.specs.Reading.{HasNoNext}
 use Rattle.http_intake.specs.declared.fault.IntakeFault.{IntakeFault}
 use Rattle.http_intake.specs.declared.fault.IntakeFault.TheVariants as intake
-use Rattle.http_model.specs.declared.reply.BadRequest.{BadRequest}
 use Rattle.http_model.specs.declared.reply.BadRequest.TheVariants as Word
 use Rattle.http_model.specs.declared.reply.StreamEnd.{StreamEnd}
 use Rattle.http_model.specs.declared.reply.StreamEnd.TheVariants as Ends
 use Rattle.http_model.specs.Heads.{skip_breaks}
-use Rattle.http_model.specs.Replies.{bad_request_text}
 use Rattle.http_model.specs.Streams.{IsCutHead}
 use Rattle.realm_model.specs.Doors.{DoorView}
 use Rattle.realm_model.specs.declared.event.Event.{Event}
-use Rattle.realm_door.specs.Steps.{next_count, actor_of_pass}
+use Rattle.realm_door.specs.Steps.{next_count}
 use Rattle.call_words.specs.Streams.{IsEnd}
-use Rattle.call_service.specs.Serving.{Site, Side, side, own_moments, AppendsFront, WritesAtFault, HasServeCause}
+use Rattle.call_service.specs.Serving.{Site, side, WritesAtFault, HasServeCause}
 use Rattle.call_service.specs.declared.fault.ServeFault.{ServeFault}
 use Rattle.call_service.specs.declared.fault.ServeFault.TheVariants as faults
 use Rattle.http_intake.specs.Faults.{CountsFaults}
 use Rattle.gateway.specs.declared.turn.Turn.{Turn}
-use Rattle.gateway.specs.declared.turn.Turn.TheVariants.{Further, Over}
-use Rattle.gateway.specs.Texts.{closing, end_text, end_replies, connection_end}
+use Rattle.gateway.specs.Texts.{end_text, end_replies, connection_end}
 use Rattle.gateway.specs.Calls.{MayBegin}
 use Rattle.gateway.specs.Serving.{ReadsOut, IsOpen, IsTidy, RepliesTo, ServesFrom, FailsReading, LeavesHead, StopsFrom, LeavesAt}
 use Rattle.gateway.specs.Turns.{ComesTo, WritesFew, EndsHeads, end_for, EndsSo, LeavesSo}

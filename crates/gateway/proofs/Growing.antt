@@ -8,7 +8,7 @@ use Rattle.realm_model.specs.Phases.{ActorId}
 use Rattle.realm_model.specs.Histories.{Legal}
 use Rattle.realm_model.specs.Worlds.{same_actor, actor_of}
 use Rattle.realm_model.specs.Owns.{OwnEvent, clock_after, own_from, own_events, NoneBy}
-use Rattle.realm_model.specs.Doors.{DoorView, actor_at}
+use Rattle.realm_model.specs.Doors.{DoorView}
 use Rattle.realm_model.specs.declared.event.Event.{Event}
 use Rattle.realm_model.proofs.Others.{phase-others, account-others}
 use Rattle.realm_door.specs.Steps.{actor_of_pass, next_count, begun, IsUnused, IsSame, Grows}

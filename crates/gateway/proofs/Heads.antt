@@ -1,8 +1,7 @@
 -- What a head asks, and what becomes of the bytes behind it.
-use Rattle.std.proofs.Common.{◌≡◌, ℕ, ◌<◌, ◌≤◌, Bool, true, false, not, cond, ◌&&◌, ◌||◌, ◌==◌, List, [], ◌∷◌, ◌++◌, map, Option, Some, None, refl, sym, ap, ◌∙◌, subst, codes, arith}
-use Rattle.std.specs.Prelude.{bytes_eq, nat_lt, nat_le, is_some}
-use Rattle.std.specs.List.{list_any, list_all, starts_with}
-use Rattle.std.specs.Char.{to_ascii_lowercase}
+use Rattle.std.proofs.Common.{◌≡◌, ℕ, ◌≤◌, Bool, true, false, not, cond, ◌&&◌, ◌||◌, ◌==◌, List, [], ◌∷◌, ◌++◌, Option, Some, None, refl, sym, ap, ◌∙◌, subst, codes, arith}
+use Rattle.std.specs.Prelude.{bytes_eq, is_some}
+use Rattle.std.specs.List.{list_any}
 use Rattle.std.proofs.lemmas.Bool.{and_parts}
 use Rattle.std.proofs.lemmas.Bool.Decides.{nat_tests}
 use Rattle.std.proofs.lemmas.Slice.Eq.{bytes_eq-Decides}
@@ -13,16 +12,15 @@ use Rattle.http_model.specs.declared.head.Framing.{Framing}
 use Rattle.http_model.specs.declared.head.Framing.TheVariants.{Empty, Length, Chunked}
 use Rattle.http_model.specs.declared.head.Head.{Head}
 use Rattle.http_model.specs.Framings.{values_of, framing_by, framing_of}
-use Rattle.http_model.specs.Forms.{is_get, is_put, is_bodiless, is_kind, is_continue, place_of, content_length, has_host, waits}
+use Rattle.http_model.specs.Forms.{is_get, is_put, is_bodiless, is_continue, place_of, content_length, has_host, waits}
 use Rattle.swift_reply.specs.declared.reply.SwiftRefusal.{SwiftRefusal}
 use Rattle.swift_reply.specs.declared.reply.SwiftRefusal.TheVariants as why
 use Rattle.swift_reply.specs.declared.reply.Invalid.TheVariants.{Value}
 use Rattle.swift_requests.specs.Asks.{has_taken_method, later_names, asks_more, is_taken, is_user, has_texts, is_without_length, is_above, refusal_of, asked_at, asked_unless, asked_of}
-use Rattle.swift_requests.specs.Bodies.{body_len, is_within, unwanted, body_use, is_unread, closes}
+use Rattle.swift_requests.specs.Bodies.{body_len, is_within, unwanted, body_use}
 use Rattle.swift_requests.specs.declared.asked.Asked.{Asked}
 use Rattle.swift_requests.specs.declared.asked.Asked.TheVariants.{BadHost, Refused, Put, Get}
-use Rattle.swift_requests.specs.declared.body.BodyUse.{BodyUse}
-use Rattle.swift_requests.specs.declared.body.BodyUse.TheVariants.{Fed, Dropped, Unread}
+use Rattle.swift_requests.specs.declared.body.BodyUse.TheVariants.{Dropped, Unread}
 use Rattle.task_words.specs.declared.command.PutCommand.{PutCommand}
 use Rattle.task_words.specs.declared.command.GetCommand.{GetCommand}
 use Rattle.call_words.specs.Calls.{IsRefused}

@@ -12,3 +12,4 @@ pub mod Connection
 pub mod Refusals
 pub mod Joining
 pub mod Behind
+pub mod Reading

@@ -1,5 +1,5 @@
 -- One request, and what comes behind it.
-use Rattle.std.proofs.Common.{◌≡◌, ℕ, suc, ◌+◌, ◌<◌, ◌≤◌, Bool, false, List, [], ◌∷◌, ◌++◌, length, Option, refl, sym, ap, ◌∙◌, subst, append_assoc, arith}
+use Rattle.std.proofs.Common.{◌≡◌, ℕ, suc, ◌<◌, List, [], ◌∷◌, ◌++◌, refl, sym, ap, ◌∙◌, subst, append_assoc, arith}
 use Rattle.std.specs.Prelude.{MatchBool}
 use Rattle.std.proofs.KnownBytes.{Consumes-trans, Appends-trans}
 use Rattle.std.specs.Io.KnownBytes.{Appends}
@@ -8,25 +8,23 @@ use Rattle.http_model.specs.declared.head.Request.{Request}
 use Rattle.http_model.specs.declared.reply.StreamEnd.{StreamEnd}
 use Rattle.http_model.specs.declared.reply.StreamEnd.TheVariants as Ends
 use Rattle.http_model.proofs.StreamLaws.{more_head}
-use Rattle.realm_model.specs.Settings.{SettingsView}
 use Rattle.realm_model.specs.Doors.{DoorView}
 use Rattle.realm_model.specs.declared.event.Event.{Event}
 use Rattle.realm_door.specs.Steps.{next_count, actor_of_pass, IsSame}
 use Rattle.swift_requests.specs.declared.body.BodyUse.{BodyUse}
 use Rattle.swift_requests.specs.declared.body.BodyUse.TheVariants.{Fed, Dropped, Unread}
 use Rattle.call_words.specs.Calls.{Ground, alone as by_itself, task, Call, call_text, IsOfNext, IsRight, AreRight, AreSame, actor_after}
-use Rattle.call_words.specs.Streams.{use_of, closes_at, form_of, IsBody, TakesCall, IsEnd, IsStreamFrom, IsFrontFrom}
+use Rattle.call_words.specs.Streams.{use_of, form_of, IsBody, TakesCall, IsStreamFrom}
 use Rattle.call_words.proofs.Staying.{stay}
 use Rattle.call_service.specs.Serving.{Site, Side, own_moments, Tells, is_by_end}
 use Rattle.call_service.specs.declared.fault.ServeFault.{ServeFault}
 use Rattle.call_service.specs.declared.fault.ServeFault.TheVariants as faults
 use Rattle.gateway.specs.declared.serve.ConnEnd.{ConnEnd}
 use Rattle.gateway.specs.Moments.{AreToldFor, AreTold, AreBy, AreMade}
-use Rattle.gateway.specs.Texts.{texts_from, end_text, end_replies, connection_end}
+use Rattle.gateway.specs.Texts.{texts_from, end_text, connection_end}
 use Rattle.gateway.specs.Calls.{Advances, IsSettled, AreSettled}
-use Rattle.gateway.specs.Requests.{IsAnswered}
 use Rattle.gateway.specs.Serving.{requests_of, IsTidy, RepliesTo, ServesFrom, FailsReading, StopsFrom, LeavesAt}
-use Rattle.gateway.specs.Turns.{TakesReply, GoesOn}
+use Rattle.gateway.specs.Turns.{GoesOn}
 use Rattle.gateway.proofs.Growing.{advances_both, older_moments}
 
 -- ---- bytes behind a request

@@ -1,5 +1,5 @@
 -- A refusal before any name is looked at, as one request of a connection.
-use Rattle.std.proofs.Common.{◌≡◌, inr, ℕ, [], List, Option, Result, Ok, Err, refl, sym, subst, append-nil}
+use Rattle.std.proofs.Common.{◌≡◌, inr, [], List, Result, Ok, Err, refl, sym, subst, append-nil}
 use Rattle.std.specs.Prelude.{IfOk, IfErr}
 use Rattle.std.proofs.KnownBytes.{Appends-nil}
 use Rattle.std.specs.Io.KnownBytes.{Appends}
@@ -13,13 +13,12 @@ use Rattle.swift_requests.specs.declared.asked.Asked.{Asked}
 use Rattle.swift_requests.specs.declared.asked.Asked.TheVariants.{BadHost, Refused, Put, Get}
 use Rattle.swift_requests.specs.declared.body.BodyUse.{BodyUse}
 use Rattle.call_words.specs.Calls.{alone as by_itself, IsRefused}
-use Rattle.call_service.specs.Bodies.{ReadsAtFault}
-use Rattle.call_service.specs.Serving.{Site, Side, side, WritesAtFault, HasServeCause}
+use Rattle.call_service.specs.Serving.{Site, side}
 use Rattle.call_service.specs.declared.fault.ServeFault.{ServeFault}
 use Rattle.call_service.specs.declared.fault.ServeFault.TheVariants as faults
 use Rattle.call_service.specs.declared.served.Served.{Served}
 use Rattle.call_service.specs.declared.served.Served.TheVariants as services
-use Rattle.gateway.specs.Calls.{MayBegin, IsSettled}
+use Rattle.gateway.specs.Calls.{MayBegin}
 use Rattle.gateway.specs.Requests.{IsUnanswered, Refuses, LeavesRefusal, Serves, Stops, LeavesAsked}
 use Rattle.gateway.proofs.Growing.{advances_none, new_moments}
 use Rattle.gateway.proofs.Turning.{same_left}
@@ -77,14 +76,16 @@ module _ (tells alone : Type 0) (site : Site) (head : Head) (asked : Asked) (ref
     refused_stops faults.Worn x = absurd x
     refused_stops (faults.Late read_at clock) x = absurd x
 
-    pub refused_left : (own : Asked) (result : Result Served ServeFault) → own ≡ asked → IfErr result (LeavesRefusal form asked plan old new before.left after.left before.taken after.taken)
-        → IfErr result (Stops tells alone site form own plan found (side d old before) (side d new after))
-    refused_left own (Ok s) same x = tt
-    refused_left own (Err fault) same x =
-        subst (λ (a : Asked). Stops tells alone site form a plan found (side d old before) (side d new after) fault) (sym same) (refused_stops fault x)
+    pub refused_left : (own : Asked) (other : BodyUse) (result : Result Served ServeFault) → own ≡ asked → plan ≡ other → IfErr result (LeavesRefusal form asked plan old new before.left after.left before.taken after.taken)
+        → IfErr result (Stops tells alone site form own other found (side d old before) (side d new after))
+    refused_left own other (Ok s) same use_is x = tt
+    refused_left own other (Err fault) same use_is x =
+        subst (λ (a : Asked). Stops tells alone site form a other found (side d old before) (side d new after) fault) (sym same)
+        (subst (λ (p : BodyUse). Stops tells alone site form asked p found (side d old before) (side d new after) fault) use_is (refused_stops fault x))
 
-  pub refused_served : (own : Asked) (result : Result Served ServeFault) → own ≡ asked → IfOk result (Refuses form asked plan old new before.left after.left before.taken after.taken)
-      → IfOk result (Serves tells alone site head own plan form (side d old before) (side d new after))
-  refused_served own (Ok s) same x =
-      subst (λ (a : Asked). Serves tells alone site head a plan form (side d old before) (side d new after) s) (sym same) (refused_serves s x)
-  refused_served own (Err fault) same x = tt
+  pub refused_served : (own : Asked) (other : BodyUse) (result : Result Served ServeFault) → own ≡ asked → plan ≡ other → IfOk result (Refuses form asked plan old new before.left after.left before.taken after.taken)
+      → IfOk result (Serves tells alone site head own other form (side d old before) (side d new after))
+  refused_served own other (Ok s) same use_is x =
+      subst (λ (a : Asked). Serves tells alone site head a other form (side d old before) (side d new after) s) (sym same)
+      (subst (λ (p : BodyUse). Serves tells alone site head asked p form (side d old before) (side d new after) s) use_is (refused_serves s x))
+  refused_served own other (Err fault) same use_is x = tt

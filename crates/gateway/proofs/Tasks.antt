@@ -1,5 +1,5 @@
 -- A task of the next actor of a pass, as one request of a connection.
-use Rattle.std.proofs.Common.{◌≡◌, inl, inr, ℕ, ◌+◌, Bool, false, List, [], ◌++◌, Option, Result, Ok, Err, refl, sym, ap, ◌∙◌, subst}
+use Rattle.std.proofs.Common.{◌≡◌, inl, inr, ℕ, false, List, ◌++◌, Option, Result, Ok, Err, refl, sym, ap, ◌∙◌, subst}
 use Rattle.std.specs.Prelude.{IfOk, IfErr}
 use Rattle.std.specs.Io.KnownBytes.{Appends}
 use Rattle.http_intake.specs.Intake.{IntakeState}
@@ -11,7 +11,7 @@ use Rattle.realm_model.specs.Owns.{own_events}
 use Rattle.realm_model.specs.Phases.{ActorId}
 use Rattle.realm_model.specs.Doors.{DoorView, actor_at}
 use Rattle.realm_model.specs.declared.event.Event.{Event}
-use Rattle.realm_door.specs.Steps.{actor_of_pass, next_count, begun, Grows}
+use Rattle.realm_door.specs.Steps.{actor_of_pass, next_count, begun}
 use Rattle.swift_requests.specs.declared.asked.Asked.{Asked}
 use Rattle.swift_requests.specs.declared.asked.Asked.TheVariants.{BadHost, Refused, Put, Get}
 use Rattle.swift_requests.specs.declared.body.BodyUse.{BodyUse}
@@ -28,7 +28,7 @@ use Rattle.call_service.specs.declared.served.Served.TheVariants as services
 use Rattle.realm_model.specs.Settings.{SettingsView}
 use Rattle.task_words.specs.declared.asker.Asker.{Asker}
 use Rattle.gateway.specs.Calls.{standard_asker, site_of, MayBegin, IsSettled}
-use Rattle.gateway.specs.Requests.{TakesBody, IsLeftBy, IsUnanswered, Replies, Serves, Stops, LeavesTask, LeavesAsked, ServesTask, StopsTask}
+use Rattle.gateway.specs.Requests.{TakesBody, IsLeftBy, IsUnanswered, Replies, LeavesTask, LeavesAsked, ServesTask, StopsTask}
 use Rattle.gateway.proofs.Growing.{new_actor, new_moments, grown_count, grown_most, advances_one}
 use Rattle.gateway.proofs.Deciding.{not_blank}
 

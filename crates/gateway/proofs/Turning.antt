@@ -1,24 +1,21 @@
 -- One request of a connection, from its head on.
-use Rattle.std.proofs.Common.{◌≡◌, ◌≢◌, ◌⊎◌, inl, inr, ℕ, suc, ◌+◌, ◌<◌, Bool, true, false, ◌||◌, ◌==◌, List, [], ◌∷◌, ◌++◌, length, Option, Some, None, refl, sym, ap, ◌∙◌, subst, append_assoc, append-nil, length-append, arith}
-use Rattle.std.specs.Prelude.{MatchBool, nat_le}
-use Rattle.std.proofs.KnownBytes.{Consumes-nil, Consumes-trans, Appends-nil, Appends-trans}
-use Rattle.std.specs.Io.KnownBytes.{Consumes, Appends, IsAtEnd}
+use Rattle.std.proofs.Common.{◌≡◌, inl, inr, ℕ, suc, ◌<◌, Bool, true, false, ◌||◌, List, [], ◌∷◌, ◌++◌, length, Option, refl, sym, ap, ◌∙◌, subst, append_assoc, append-nil, arith}
+use Rattle.std.specs.Prelude.{MatchBool}
+use Rattle.std.proofs.KnownBytes.{Consumes-nil, Consumes-trans, Appends-nil}
+use Rattle.std.specs.Io.KnownBytes.{Consumes, Appends}
 use Rattle.http_intake.specs.Intake.{IntakeState}
 use Rattle.http_model.specs.declared.head.Head.{Head}
 use Rattle.http_model.specs.declared.head.Request.{Request}
 use Rattle.http_model.specs.declared.reply.ReplyForm.{ReplyForm}
-use Rattle.http_model.specs.declared.reply.StreamEnd.{StreamEnd}
 use Rattle.http_model.specs.declared.reply.StreamEnd.TheVariants as Ends
-use Rattle.http_model.specs.Forms.{content_length, wants_close}
 use Rattle.http_model.specs.Heads.{BeginsWith}
-use Rattle.http_model.specs.declared.head.TheConstants.{REQUEST_LIMIT}
 use Rattle.http_model.proofs.PlainLemmas.{begun_not_blank}
 use Rattle.http_model.proofs.StreamLaws.{more_head}
 use Rattle.realm_model.specs.Doors.{DoorView}
 use Rattle.realm_model.specs.declared.event.Event.{Event}
 use Rattle.realm_door.specs.Steps.{next_count, begun}
 use Rattle.swift_requests.specs.Asks.{asked_of}
-use Rattle.swift_requests.specs.Bodies.{body_use, is_unread, closes}
+use Rattle.swift_requests.specs.Bodies.{is_unread, closes}
 use Rattle.swift_requests.specs.declared.asked.Asked.{Asked}
 use Rattle.swift_requests.specs.declared.asked.Asked.TheVariants.{BadHost, Refused, Put, Get}
 use Rattle.swift_requests.specs.declared.body.BodyUse.{BodyUse}
@@ -29,10 +26,10 @@ use Rattle.call_service.specs.Serving.{Site, Side, side, Acts, IsStopped}
 use Rattle.call_service.specs.declared.fault.ServeFault.{ServeFault}
 use Rattle.call_service.specs.declared.fault.ServeFault.TheVariants as faults
 use Rattle.gateway.specs.declared.serve.ConnEnd.TheVariants as conn
-use Rattle.gateway.specs.Texts.{texts_from, closing_end}
+use Rattle.gateway.specs.Texts.{closing_end}
 use Rattle.gateway.specs.Calls.{MayBegin, IsSettled, AreSettled}
 use Rattle.gateway.specs.Requests.{IsReady, TakesBody, IsAnswered, IsLeftBy, IsUnanswered, Replies, IsCut, IsFailed, LeavesAsked, LeavesRequest, Stops}
-use Rattle.gateway.specs.Serving.{RepliesTo, ServesFrom, FailsReading, ReadsHead, LeavesHead, StopsFrom, LeavesAt}
+use Rattle.gateway.specs.Serving.{RepliesTo, ServesFrom, FailsReading, ReadsHead, StopsFrom, LeavesAt}
 use Rattle.gateway.specs.Turns.{TakesReply, GoesOn}
 use Rattle.gateway.proofs.Growing.{advances_none}
 use Rattle.gateway.proofs.Heads.{use_read}

@@ -1,5 +1,5 @@
 -- A body that is not wanted.
-use Rattle.std.proofs.Common.{◌≡◌, ℕ, Bool, true, false, List, Option, Result, Ok, Err, sym, subst}
+use Rattle.std.proofs.Common.{ℕ, Bool, true, false, List, Option, Result, Ok, Err, sym, subst}
 use Rattle.std.specs.Prelude.{IfOk, IfErr}
 use Rattle.http_intake.specs.Intake.{IntakeState}
 use Rattle.swift_requests.specs.declared.body.BodyUse.{BodyUse}

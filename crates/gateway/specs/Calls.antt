@@ -1,5 +1,5 @@
 -- What the history of the realm says of the calls of a connection.
-use Rattle.std.specs.Prelude.{◌≡◌, ℕ, ◌+◌, ◌<◌, ◌≤◌, List, ◌++◌, codes, Some}
+use Rattle.std.specs.Prelude.{◌≡◌, ℕ, ◌+◌, ◌<◌, ◌≤◌, List, ◌++◌, Some}
 use Rattle.realm_model.specs.Doors.{DoorView}
 use Rattle.realm_model.specs.Histories.{Legal}
 use Rattle.realm_model.specs.Settings.{SettingsView}

@@ -2,6 +2,7 @@
 #![tactic(auto)]
 
 mod asker;
+mod laws;
 mod refusal;
 mod request;
 mod serve;
@@ -9,4 +10,5 @@ mod task;
 mod turn;
 
 pub use call_service::ServeFault;
+pub use laws::a_connection_has_one_reading;
 pub use serve::{ConnEnd, Served, serve_connection};

@@ -24,7 +24,7 @@ use realm_model::Settings;
 use std::alloc::Global;
 use swift_auth::User;
 use swift_reply::SwiftRefusal;
-use swift_requests::{Asked, BodyUse, body_use, closes, read_asked};
+use swift_requests::{Asked, body_use, closes, read_asked};
 
 /// How a connection ends behind a reply that closes it.
 fn closing_end(asked: &Asked) -> ConnEnd
@@ -44,7 +44,6 @@ fn serve_asked<D: Door, S: Source, K: Sink, C: Clock>(
     user: &User,
     head: &Head,
     asked: Asked,
-    plan: BodyUse,
     form: ReplyForm,
     door: &mut D,
     clock: &mut C,
@@ -62,13 +61,12 @@ fn serve_asked<D: Door, S: Source, K: Sink, C: Clock>(
     requires behind { IsBehindHead intake.old head.now }
     requires most { settings.now.largest ≤ 5368709120 }
     requires asks { asked ≡ asked_of settings.now.largest head.now }
-    requires plan { plan ≡ use_of settings.now.largest head.now }
     requires form { form.bodiless ≡ is_bodiless head.now.method }
     requires may { D.tells → MayBegin settings.now (D.told door.old) }
-    ensures served { IfOk result (Serves D.tells D.alone (site_of settings.now zone) head.now asked plan form
+    ensures served { IfOk result (Serves D.tells D.alone (site_of settings.now zone) head.now asked (use_of settings.now.largest head.now) form
         (side (D.told door.old) intake.old (⟦<(S, K, C) as Ends>⟧.ends (source.old, sink.old, clock.old)))
         (side (D.told door.new) intake.new (⟦<(S, K, C) as Ends>⟧.ends (source.new, sink.new, clock.new)))) }
-    ensures left { IfErr result (Stops D.tells D.alone (site_of settings.now zone) form asked plan (D.found door.new)
+    ensures left { IfErr result (Stops D.tells D.alone (site_of settings.now zone) form asked (use_of settings.now.largest head.now) (D.found door.new)
         (side (D.told door.old) intake.old (⟦<(S, K, C) as Ends>⟧.ends (source.old, sink.old, clock.old)))
         (side (D.told door.new) intake.new (⟦<(S, K, C) as Ends>⟧.ends (source.new, sink.new, clock.new)))) }
     ensures cause { HasServeCause
@@ -85,7 +83,10 @@ fn serve_asked<D: Door, S: Source, K: Sink, C: Clock>(
         Asked::Get(get) => serve_next_get(
             alloc, settings, zone, user, get, form, door, clock, intake, source, sink, buffer, out,
         ),
-        refused => serve_refused(&refused, plan, form, intake, source, sink, buffer, out),
+        refused => {
+            let plan = body_use(settings.largest, head, &refused);
+            serve_refused(&refused, plan, form, intake, source, sink, buffer, out)
+        }
     }
 }
 
@@ -136,8 +137,8 @@ pub(crate) fn serve_request<D: Door, S: Source, K: Sink, C: Clock>(
     let form = ReplyForm { bodiless, close };
     let end = closing_end(&asked);
     match serve_asked(
-        alloc, settings, zone, user, head, asked, plan, form, door, clock, intake, source, sink,
-        buffer, out,
+        alloc, settings, zone, user, head, asked, form, door, clock, intake, source, sink, buffer,
+        out,
     ) {
         Err(fault) => Err(fault),
         Ok(Served::Cut) => Ok(Turn::Over(0, ConnEnd::Cut)),

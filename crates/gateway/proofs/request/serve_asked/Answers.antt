@@ -1,11 +1,9 @@
-use Rattle.std.proofs.Common.{◌≡◌, ◌≤◌, refl, sym, ap, ◌∙◌, subst, rules, arith}
+use Rattle.call_words.specs.Streams.{use_of}
+use Rattle.realm_model.specs.Settings.{SettingsView}
+use Rattle.std.proofs.Common.{◌≡◌, refl, sym, ap, ◌∙◌, subst, arith}
 use Rattle.swift_requests.specs.Asks.{asked_of}
 use Rattle.swift_requests.specs.Bodies.{body_use}
-use Rattle.swift_requests.specs.declared.asked.Asked.{Asked}
 use Rattle.swift_requests.specs.declared.asked.Asked.TheVariants as asks
-use Rattle.swift_requests.specs.declared.body.BodyUse.{BodyUse}
-use Rattle.call_words.specs.Calls.{IsRefused}
-use Rattle.call_words.specs.Streams.{IsRead, use_of}
 use Rattle.gateway.specs.Calls.{site_of}
 use Rattle.gateway.specs.Requests.{IsBeforeBody}
 use Rattle.gateway.proofs.Heads.{put_body, get_body, before_asked, is_refused}
@@ -41,45 +39,43 @@ serve_next_get-requires-clause-form g c κs within =
 
 pub serve_refused-requires-clause-before : goal.serve_refused-requires-clause-before
 serve_refused-requires-clause-before g c =
-    let plan : body_use c.args.settings.now.largest c.args.head.now c.args.asked ≡ c.args.plan =
-    ap (body_use c.args.settings.now.largest c.args.head.now) c.requires.asks ∙ sym c.requires.plan in
-    subst (IsBeforeBody c.args.intake.now) plan
-    (before_asked c.args.settings.now.largest c.args.head.now c.args.intake.now c.args.asked c.requires.behind (is_refused c.args.asked c.in_default.not-Put c.in_default.not-Get))
+    subst (IsBeforeBody c.args.intake.now) (sym c.body_use-plan.ensures)
+    (before_asked c.settings.inside.largest c.args.head.now c.args.intake.now c.args.asked c.requires.behind (is_refused c.args.asked c.in_default.not-Put c.in_default.not-Get))
 
 pub returns-in-Put-clause-served : goal.returns-in-Put-clause-served
 returns-in-Put-clause-served g c =
     let e : asked_of c.args.settings.now.largest c.args.head.now ≡ asks.Put c.in-Put.put = sym c.requires.asks ∙ c.in-Put.is in
     asked_served g.D.Door.tells g.D.Door.alone (site_of c.args.settings.now c.args.zone) c.args.head.now c.args.asked (asks.Put c.in-Put.put) c.args.form _ _
-    c.args.settings.now.largest c.args.plan c.requires.plan c.in-Put.is c.requires.behind (put_body c.args.settings.now.largest c.args.head.now c.in-Put.put e).3 c.serve_next_put.result c.serve_next_put.ensures.served
+    c.args.settings.now.largest (use_of c.args.settings.now.largest c.args.head.now) refl c.in-Put.is c.requires.behind (put_body c.args.settings.now.largest c.args.head.now c.in-Put.put e).3 c.serve_next_put.result c.serve_next_put.ensures.served
 
 pub returns-in-Put-clause-left : goal.returns-in-Put-clause-left
 returns-in-Put-clause-left g c =
     let e : asked_of c.args.settings.now.largest c.args.head.now ≡ asks.Put c.in-Put.put = sym c.requires.asks ∙ c.in-Put.is in
     asked_left g.D.Door.tells g.D.Door.alone (site_of c.args.settings.now c.args.zone) c.args.head.now c.args.asked (asks.Put c.in-Put.put) c.args.form _ _
-    c.args.settings.now.largest c.args.plan c.requires.plan c.in-Put.is c.requires.behind (put_body c.args.settings.now.largest c.args.head.now c.in-Put.put e).3
+    c.args.settings.now.largest (use_of c.args.settings.now.largest c.args.head.now) refl c.in-Put.is c.requires.behind (put_body c.args.settings.now.largest c.args.head.now c.in-Put.put e).3
     (g.D.Door.found c.serve_next_put.new.door) c.serve_next_put.result c.serve_next_put.ensures.left
 
 pub returns-in-Get-clause-served : goal.returns-in-Get-clause-served
 returns-in-Get-clause-served g c =
     let e : asked_of c.args.settings.now.largest c.args.head.now ≡ asks.Get c.in-Get.get = sym c.requires.asks ∙ c.in-Get.is in
     asked_served g.D.Door.tells g.D.Door.alone (site_of c.args.settings.now c.args.zone) c.args.head.now c.args.asked (asks.Get c.in-Get.get) c.args.form _ _
-    c.args.settings.now.largest c.args.plan c.requires.plan c.in-Get.is c.requires.behind (get_body c.args.settings.now.largest c.args.head.now c.in-Get.get e c.requires.behind.framed).2 c.serve_next_get.result c.serve_next_get.ensures.served
+    c.args.settings.now.largest (use_of c.args.settings.now.largest c.args.head.now) refl c.in-Get.is c.requires.behind (get_body c.args.settings.now.largest c.args.head.now c.in-Get.get e c.requires.behind.framed).2 c.serve_next_get.result c.serve_next_get.ensures.served
 
 pub returns-in-Get-clause-left : goal.returns-in-Get-clause-left
 returns-in-Get-clause-left g c =
     let e : asked_of c.args.settings.now.largest c.args.head.now ≡ asks.Get c.in-Get.get = sym c.requires.asks ∙ c.in-Get.is in
     asked_left g.D.Door.tells g.D.Door.alone (site_of c.args.settings.now c.args.zone) c.args.head.now c.args.asked (asks.Get c.in-Get.get) c.args.form _ _
-    c.args.settings.now.largest c.args.plan c.requires.plan c.in-Get.is c.requires.behind (get_body c.args.settings.now.largest c.args.head.now c.in-Get.get e c.requires.behind.framed).2
+    c.args.settings.now.largest (use_of c.args.settings.now.largest c.args.head.now) refl c.in-Get.is c.requires.behind (get_body c.args.settings.now.largest c.args.head.now c.in-Get.get e c.requires.behind.framed).2
     (g.D.Door.found c.serve_next_get.new.door) c.serve_next_get.result c.serve_next_get.ensures.left
 
 pub returns-in_default-clause-served : goal.returns-in_default-clause-served
 returns-in_default-clause-served g c =
     let refused = is_refused c.args.asked c.in_default.not-Put c.in_default.not-Get in
-    refused_served g.D.Door.tells g.D.Door.alone (site_of c.args.settings.now c.args.zone) c.args.head.now c.args.asked refused c.args.plan c.args.form
-    (g.D.Door.told c.args.door.now) c.args.intake.now c.serve_refused.new.intake _ _ c.requires.may refl c.args.asked c.serve_refused.result refl c.serve_refused.ensures.served
+    refused_served g.D.Door.tells g.D.Door.alone (site_of c.args.settings.now c.args.zone) c.args.head.now c.args.asked refused c.body_use-plan.result c.args.form
+    (g.D.Door.told c.args.door.now) c.args.intake.now c.serve_refused.new.intake _ _ c.requires.may refl c.args.asked (use_of c.args.settings.now.largest c.args.head.now) c.serve_refused.result refl (c.body_use-plan.ensures ∙ ap (λ n. body_use n c.args.head.now c.args.asked) (ap (λ (v : SettingsView). v.largest) c.settings.view_is) ∙ ap (body_use c.args.settings.now.largest c.args.head.now) c.requires.asks) c.serve_refused.ensures.served
 
 pub returns-in_default-clause-left : goal.returns-in_default-clause-left
 returns-in_default-clause-left g c =
     let refused = is_refused c.args.asked c.in_default.not-Put c.in_default.not-Get in
-    refused_left g.D.Door.tells g.D.Door.alone (site_of c.args.settings.now c.args.zone) c.args.head.now c.args.asked refused c.args.plan c.args.form
-    (g.D.Door.told c.args.door.now) c.args.intake.now c.serve_refused.new.intake _ _ c.requires.may refl (g.D.Door.found c.args.door.now) c.args.asked c.serve_refused.result refl c.serve_refused.ensures.left
+    refused_left g.D.Door.tells g.D.Door.alone (site_of c.args.settings.now c.args.zone) c.args.head.now c.args.asked refused c.body_use-plan.result c.args.form
+    (g.D.Door.told c.args.door.now) c.args.intake.now c.serve_refused.new.intake _ _ c.requires.may refl (g.D.Door.found c.args.door.now) c.args.asked (use_of c.args.settings.now.largest c.args.head.now) c.serve_refused.result refl (c.body_use-plan.ensures ∙ ap (λ n. body_use n c.args.head.now c.args.asked) (ap (λ (v : SettingsView). v.largest) c.settings.view_is) ∙ ap (body_use c.args.settings.now.largest c.args.head.now) c.requires.asks) c.serve_refused.ensures.left

@@ -1,10 +1,8 @@
-use Rattle.std.proofs.Common.{refl, sym, ap, ◌∙◌, subst}
+use Rattle.std.proofs.Common.{sym, ◌∙◌, subst}
 use Rattle.realm_model.specs.Settings.{SettingsView}
-use Rattle.realm_model.specs.Doors.{DoorView}
-use Rattle.call_service.specs.Serving.{Site, IsNew, side}
-use Rattle.task_words.specs.declared.asker.Asker.{Asker}
+use Rattle.call_service.specs.Serving.{IsNew}
 use Rattle.swift_requests.specs.declared.asked.Asked.TheVariants as asks
-use Rattle.gateway.specs.Calls.{MayBegin, site_of}
+use Rattle.gateway.specs.Calls.{site_of}
 use Rattle.gateway.proofs.Growing.{new_actor}
 use Rattle.gateway.proofs.Tasks.{served_task, stopped_task, site_is}
 use Rattle.gateway.proofs.task.serve_next_get.Goals as goal

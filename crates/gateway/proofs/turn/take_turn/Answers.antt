@@ -1,10 +1,9 @@
-use Rattle.std.proofs.Common.{refl, sym, ap, ◌∙◌, subst, arith, ◌≤◌}
+use Rattle.std.proofs.Common.{refl, arith}
 use Rattle.std.proofs.KnownBytes.{Appends-nil}
 use Rattle.http_model.specs.declared.reply.StreamEnd.TheVariants as Ends
 use Rattle.gateway.specs.Calls.{site_of}
-use Rattle.gateway.proofs.Causes.{later_cause}
-use Rattle.gateway.proofs.Ending.{heads_end, end_served, end_comes_to, end_cause}
-use Rattle.gateway.proofs.Behind.{reads_head, next_good, next_bad, quiet_cause}
+use Rattle.gateway.proofs.Ending.{end_served, end_comes_to, end_cause}
+use Rattle.gateway.proofs.Behind.{next_good, next_bad, quiet_cause}
 use Rattle.gateway.proofs.turn.take_turn.Goals as goal
 
 pub returns-in-Ok-None-clause-turn : goal.returns-in-Ok-None-clause-turn
