@@ -1,0 +1,36 @@
+//! The counts of the container.
+ghost use Rattle.std.specs.Prelude.{◌≡◌, IfOk};
+
+use crate::ends::tell_end;
+use crate::play::Play;
+use crate::words::{asker, bucket_name};
+use realm_door::{Task, TaskTurn};
+use std::alloc::Global;
+use task_container::{ContainerCommand, ContainerRequest, ContainerTask};
+
+// No count here takes more turns.
+const TURNS: u32 = 16;
+
+/// To count the objects of the container.
+pub fn count_of(alloc: Global) -> anyhow::Result<ContainerRequest>
+    ensures { IfOk result (λ request. request.zone ≡ 1) }
+{
+    Ok(ContainerRequest {
+        zone: 1,
+        asker: asker(alloc)?,
+        command: ContainerCommand::Head {
+            name: bucket_name(alloc)?,
+        },
+    })
+}
+
+/// Counts at moment 0, as the actor of this number, and prints what was counted.
+pub fn count<R: Print>(rt: &R, alloc: Global, play: &mut Play, actor: u64) -> anyhow::Result<()> {
+    let mut task = ContainerTask::new(count_of(alloc)?);
+    for _ in 0..TURNS {
+        if play.turn(rt, alloc, &mut task, actor, 0)? == TaskTurn::Done {
+            break;
+        }
+    }
+    tell_end(rt, actor, task.outcome())
+}
