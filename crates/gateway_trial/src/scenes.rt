@@ -1,0 +1,98 @@
+//! Known connections.
+use crate::host::{realm_with_box, serve, small};
+use std::alloc::Global;
+
+/// Connections to one realm, one after another.
+#[derive(Clone, Copy, Debug)]
+struct Scene {
+    title: &'static str,
+    /// How many frames of 16 bytes the realm has.
+    frames: u32,
+    connections: &'static [&'static [u8]],
+}
+
+const SCENES: &[Scene] = &[
+    Scene {
+        title: "an object is put and got; who is not known, and what is not there",
+        frames: 64,
+        connections: &[
+            b"PUT /swift/v1/AUTH_acme/box/k HTTP/1.1\r\nHost: h\r\nX-Auth-Token: AUTH_tk1\r\nContent-Type: text/plain\r\nContent-Length: 5\r\n\r\nhelloGET /swift/v1/AUTH_acme/box/k HTTP/1.1\r\nHost: h\r\nX-Auth-Token: AUTH_tk1\r\n\r\nGET /swift/v1/AUTH_acme/box/k HTTP/1.1\r\nHost: h\r\n\r\nGET /swift/v1/AUTH_acme/box/m HTTP/1.1\r\nHost: h\r\nX-Auth-Token: AUTH_tk1\r\n\r\n",
+        ],
+    },
+    Scene {
+        title: "an empty object",
+        frames: 64,
+        connections: &[
+            b"PUT /swift/v1/AUTH_acme/box/e HTTP/1.1\r\nHost: h\r\nX-Auth-Token: AUTH_tk1\r\nContent-Length: 0\r\n\r\nHEAD /swift/v1/AUTH_acme/box/e HTTP/1.1\r\nHost: h\r\nX-Auth-Token: AUTH_tk1\r\n\r\n",
+        ],
+    },
+    Scene {
+        title: "ranges over two stripes",
+        frames: 64,
+        connections: &[
+            b"PUT /swift/v1/AUTH_acme/box/k HTTP/1.1\r\nHost: h\r\nX-Auth-Token: AUTH_tk1\r\nContent-Type: text/plain\r\nContent-Length: 26\r\n\r\nabcdefghijklmnopqrstuvwxyzGET /swift/v1/AUTH_acme/box/k HTTP/1.1\r\nHost: h\r\nX-Auth-Token: AUTH_tk1\r\nRange: bytes=15-16\r\n\r\nGET /swift/v1/AUTH_acme/box/k HTTP/1.1\r\nHost: h\r\nX-Auth-Token: AUTH_tk1\r\nRange: bytes=-1\r\n\r\nGET /swift/v1/AUTH_acme/box/k HTTP/1.1\r\nHost: h\r\nX-Auth-Token: AUTH_tk1\r\nRange: bytes=26-\r\n\r\nGET /swift/v1/AUTH_acme/box/k HTTP/1.1\r\nHost: h\r\nX-Auth-Token: AUTH_tk1\r\n\r\n",
+        ],
+    },
+    Scene {
+        title: "another ETag than that of the content",
+        frames: 64,
+        connections: &[
+            b"PUT /swift/v1/AUTH_acme/box/k HTTP/1.1\r\nHost: h\r\nX-Auth-Token: AUTH_tk1\r\nETag: 00000000000000000000000000000000\r\nContent-Length: 17\r\n\r\nabcdefghijklmnopqGET /swift/v1/AUTH_acme/box/k HTTP/1.1\r\nHost: h\r\nX-Auth-Token: AUTH_tk1\r\n\r\n",
+        ],
+    },
+    Scene {
+        title: "an input that ends inside a body",
+        frames: 64,
+        connections: &[
+            b"PUT /swift/v1/AUTH_acme/box/k HTTP/1.1\r\nHost: h\r\nX-Auth-Token: AUTH_tk1\r\nContent-Type: text/plain\r\nContent-Length: 5\r\n\r\nhel",
+            b"GET /swift/v1/AUTH_acme/box/k HTTP/1.1\r\nHost: h\r\nX-Auth-Token: AUTH_tk1\r\n\r\n",
+        ],
+    },
+    Scene {
+        title: "a head that is none",
+        frames: 64,
+        connections: &[b"GET\r\n\r\n"],
+    },
+    Scene {
+        title: "one frame, where an object needs two",
+        frames: 1,
+        connections: &[
+            b"PUT /swift/v1/AUTH_acme/box/k HTTP/1.1\r\nHost: h\r\nX-Auth-Token: AUTH_tk1\r\nContent-Length: 26\r\n\r\nabcdefghijklmnopqrstuvwxyzGET /swift/v1/AUTH_acme/box/k HTTP/1.1\r\nHost: h\r\nX-Auth-Token: AUTH_tk1\r\n\r\n",
+        ],
+    },
+    Scene {
+        title: "two frames, and then none is left",
+        frames: 2,
+        connections: &[
+            b"PUT /swift/v1/AUTH_acme/box/k HTTP/1.1\r\nHost: h\r\nX-Auth-Token: AUTH_tk1\r\nContent-Length: 26\r\n\r\nabcdefghijklmnopqrstuvwxyzPUT /swift/v1/AUTH_acme/box/a HTTP/1.1\r\nHost: h\r\nX-Auth-Token: AUTH_tk1\r\nContent-Length: 1\r\n\r\na",
+        ],
+    },
+    Scene {
+        title: "two clients by turns",
+        frames: 64,
+        connections: &[
+            b"PUT /swift/v1/AUTH_acme/box/k HTTP/1.1\r\nHost: h\r\nX-Auth-Token: AUTH_tk1\r\nContent-Type: text/plain\r\nContent-Length: 5\r\n\r\nhello",
+            b"GET /swift/v1/AUTH_acme/box/k HTTP/1.1\r\nHost: h\r\nX-Auth-Token: AUTH_tk1\r\n\r\nPUT /swift/v1/AUTH_acme/box/k HTTP/1.1\r\nHost: h\r\nX-Auth-Token: AUTH_tk1\r\nContent-Type: text/plain\r\nContent-Length: 3\r\n\r\nabc",
+            b"GET /swift/v1/AUTH_acme/box/k HTTP/1.1\r\nHost: h\r\nX-Auth-Token: AUTH_tk1\r\nIf-None-Match: \"5d41402abc4b2a76b9719d911017c592\"\r\n\r\nGET /swift/v1/AUTH_acme/box/k HTTP/1.1\r\nHost: h\r\nX-Auth-Token: AUTH_tk1\r\nIf-Match: \"5d41402abc4b2a76b9719d911017c592\"\r\n\r\n",
+        ],
+    },
+];
+
+/// Serves the connections of each scene to a realm of its own.
+pub fn serve_scenes<R: Print>(rt: &R, alloc: Global) -> anyhow::Result<()> {
+    for scene in SCENES {
+        let title = scene.title;
+        println!(rt; "== {title}")?;
+        serve_scene(rt, alloc, scene)?;
+    }
+    Ok(())
+}
+
+fn serve_scene<R: Print>(rt: &R, alloc: Global, scene: &Scene) -> anyhow::Result<()> {
+    let settings = small(scene.frames)?;
+    let mut stage = realm_with_box(alloc, &settings)?;
+    for bytes in scene.connections {
+        serve(rt, alloc, &mut stage, bytes)?;
+    }
+    Ok(())
+}
