@@ -1,5 +1,5 @@
 -- A realm of its own: the container is made, and then the connection is served.
-use Rattle.std.proofs.Common.{◌≡◌, ℕ, ◌+◌, ◌⊎◌, ⊎_elim, List, [], ◌∷◌, ◌++◌, length, true, false, None, Result, refl, sym, ap, ◌∙◌, subst}
+use Rattle.std.proofs.Common.{◌≡◌, ℕ, ◌+◌, ◌⊎◌, ⊎_elim, List, [], ◌∷◌, ◌++◌, length, true, false, Option, None, Result, Ok, Err, refl, sym, ap, ◌∙◌, subst}
 use Rattle.gw_io.specs.Ends.{EndsState}
 use Rattle.object_words.proofs.NameLemmas.{at-none}
 use Rattle.realm_model.specs.Settings.{SettingsView}
@@ -12,7 +12,9 @@ use Rattle.call_service.specs.declared.fault.ServeFault.{ServeFault}
 use Rattle.gateway.specs.Calls.{site_of}
 use Rattle.gateway.specs.Serving.{ServesConnection}
 use Rattle.gateway.specs.declared.serve.Served.{Served}
-use Rattle.rgw_run.specs.Runs.{standard_settings, first_door, making, door_behind}
+use Rattle.realm_core.specs.Realms.{RealmView}
+use Rattle.rgw_run.specs.declared.once_end.OnceEnd.{OnceEnd}
+use Rattle.rgw_run.specs.Runs.{standard_settings, first_door, making, door_behind, end_of, LeavesServed, Leaves}
 
 -- the container was made: where the door stands then
 behind : (bucket : List ℕ) (moment : ℕ) (e : DoorView) → Grows standard_settings first_door e → e.seen ≡ making bucket moment → e ≡ door_behind (making bucket moment)
@@ -35,3 +37,11 @@ serves_behind bucket moment found first d e settings owner middle new result sam
     (subst (λ (f : DoorView). row_now settings f.seen bucket ≡ None → d.seen ≡ f.seen ++ preset settings (actor_at f) bucket owner (length f.seen + 1) moment) begins made)) (at-none bucket) in
     subst (λ x. ServesConnection (Unit {0}) (Unit {0}) (site_of standard_settings 1) found x e middle new result) (behind bucket moment d grown seen)
     (subst (λ s. ServesConnection (Unit {0}) (Unit {0}) (site_of s 1) found d e middle new result) same serves)
+
+leaves_by : (bucket : List ℕ) (old new : EndsState) (realm : Option RealmView) (result : Result Served ServeFault) → LeavesServed bucket old new realm result → Leaves bucket old new realm (end_of result)
+leaves_by bucket old new realm (Ok served) leaves = leaves
+leaves_by bucket old new realm (Err fault) leaves = leaves
+
+-- whatever the connection came to
+pub leaves_so : (bucket : List ℕ) (old new : EndsState) (realm : Option RealmView) (result : Result Served ServeFault) (end : OnceEnd) → end ≡ end_of result → LeavesServed bucket old new realm result → Leaves bucket old new realm end
+leaves_so bucket old new realm result end is leaves = subst (λ e. Leaves bucket old new realm e) (sym is) (leaves_by bucket old new realm result leaves)

@@ -72,6 +72,11 @@ status_by (Unbegun fault) = door_status fault
 status_by (Ended served) = end_status served.end
 status_by (Stopped fault) = fault_status fault
 
+-- how it ended, by what the connection came to
+abbrev pub end_of : Result Served ServeFault → OnceEnd
+end_of (Ok served) = Ended served
+end_of (Err fault) = Stopped fault
+
 -- ---- what a run of `once` leaves
 
 -- one moment was told, and nothing was read or written

@@ -4,7 +4,7 @@ ghost use Rattle.object_words.specs.Limits.{is_name};
 ghost use Rattle.swift_auth.specs.Users.{standard_user, account_of};
 ghost use Rattle.realm_core.specs.Realms.{new_realm};
 ghost use Rattle.rgw_run.specs.Words.{once_of};
-ghost use Rattle.rgw_run.specs.Runs.{Runs, RunsOnce, RunsByClock, RunsAt, HasRunCause, Leaves, standard_settings, status_by, end_status, fault_status, door_status};
+ghost use Rattle.rgw_run.specs.Runs.{Runs, RunsOnce, RunsByClock, RunsAt, HasRunCause, Leaves, standard_settings, end_of, status_by, end_status, fault_status, door_status};
 
 use crate::once_end::OnceEnd;
 use crate::status::Status;
@@ -175,7 +175,15 @@ fn serve_in<S: Source, K: Sink, C: Clock>(
     if let Err(fault) = preset_bucket(alloc, settings, &mut door, bucket, owner, moment) {
         return OnceEnd::Unbegun(fault);
     }
-    match serve_connection(alloc, settings, &mut door, 1, input, output, clock) {
+    let outcome = serve_connection(alloc, settings, &mut door, 1, input, output, clock);
+    end_of(outcome)
+}
+
+/// How the run ended, by what the connection came to.
+fn end_of(outcome: Result<Served, ServeFault>) -> OnceEnd
+    ensures { result ≡ end_of outcome }
+{
+    match outcome {
         Ok(served) => OnceEnd::Ended(served),
         Err(fault) => OnceEnd::Stopped(fault),
     }
