@@ -160,7 +160,7 @@ fn words_of_once_are_taken(rt: HostRuntime) -> Result<(), Fail> {
         let words = strings(rt.alloc(), words)?;
         match read_words(rt.alloc(), &words) {
             Ok(once) => {
-                assert_eq!(rt; once.bucket.as_str(), bucket);
+                assert_eq!(rt; once.bucket.as_text().as_str(), bucket);
                 assert_eq!(rt; once.now, now, "{words:?}");
             }
             Err(fault) => panic!(rt; "{words:?}: {fault:?}"),
