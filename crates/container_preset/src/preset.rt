@@ -1,4 +1,4 @@
-ghost use Rattle.std.specs.Prelude.{◌≡◌, ◌⊎◌, ◌+◌, ◌∷◌, ◌++◌, ◌^◌, ◌≤◌, [], None, Some, length, is_some, true, IfErr, IfOk, OnErr, OnOk};
+ghost use Rattle.std.specs.Prelude.{◌≡◌, ◌⊎◌, ◌+◌, ◌∷◌, ◌++◌, ◌^◌, [], None, Some, length, is_some, true, IfErr, IfOk, OnErr, OnOk};
 ghost use Rattle.container_preset.specs.Presets.{Finds, HasMade, HasMadeSome, IsFresh, IsMadeBy, IsThereBy, MakesOne, Stops, event_by, make, made_row, new_row, number_if_absent, preset, row_now};
 ghost use Rattle.object_words.specs.declared.bucket.Bucket.{Bucket as BucketOf};
 ghost use Rattle.realm_door.specs.Steps.{Grows, MayStep};
@@ -81,7 +81,7 @@ fn find_row<D: Door>(
     ensures settings { D.settings door.new ≡ D.settings door.old }
     ensures home { D.home door.new ≡ D.home door.old }
 {
-    has_zone_one(settings);
+    settings.has_zone_one();
     let Ok(name) = bucket.clone() else {
         return Err(DoorFault::OutOfMemory);
     };
@@ -109,13 +109,6 @@ fn fault_of(stopped: Stopped<Op>) -> DoorFault
     ensures { result ≡ stopped.fault }
 {
     stopped.fault
-}
-
-// Each realm has a zone 1. It does nothing: it tells it to the proofs of its callers.
-fn has_zone_one(settings: &Settings)
-    ensures { 1 ≤ settings.now.zones }
-{
-    let _zones = settings.zones;
 }
 
 // Makes a container of which no row was found, by the event of this number.
@@ -153,7 +146,7 @@ fn make_container<D: Door>(
     let Ok(row) = new_row(alloc, settings, owner, id) else {
         return Err(DoorFault::OutOfMemory);
     };
-    has_zone_one(settings);
+    settings.has_zone_one();
     make_shards(alloc, settings, door, bucket, id, moment)?;
     let swap = Op::BucketSwap {
         zone: 1,
@@ -182,7 +175,7 @@ fn make_shards<D: Door>(
     ensures settings { D.settings door.new ≡ D.settings door.old }
     ensures home { D.home door.new ≡ D.home door.old }
 {
-    has_zone_one(settings);
+    settings.has_zone_one();
     for shard in 0..settings.shards {
         let key = ShardKey {
             container: id,

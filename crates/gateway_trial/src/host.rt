@@ -1,5 +1,4 @@
 //! A realm with one container, to which connections are served.
-ghost use Rattle.std.specs.Prelude.{◌≤◌};
 
 use anyhow::Context;
 use container_preset::preset_bucket;
@@ -34,13 +33,6 @@ pub fn small(frames: u32) -> anyhow::Result<Settings> {
     settings.context("the settings are within their bounds")
 }
 
-/// Each realm has a zone 1. It does nothing: it tells it to the proofs of its callers.
-fn has_zone_one(settings: &Settings)
-    ensures { 1 ≤ settings.now.zones }
-{
-    let _zones = settings.zones;
-}
-
 /// A realm in which the container `box` of the one user's account was made.
 pub fn realm_with_box(alloc: Global, settings: &Settings) -> anyhow::Result<RealmStage> {
     let mut stage = RealmStage::new(alloc, settings)?;
@@ -60,7 +52,7 @@ pub fn serve<R: Print>(
     bytes: &[u8],
 ) -> anyhow::Result<()> {
     let settings = stage.settings();
-    has_zone_one(&settings);
+    settings.has_zone_one();
     let mut source = SliceSource::new(bytes, PIECE, &[]);
     let mut sink = VecSink::new(alloc, 4096, &[]);
     let mut clock = StepClock::new(MOMENT, 0);

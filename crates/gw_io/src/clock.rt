@@ -5,7 +5,7 @@ ghost use Rattle.gw_io.specs.Memory.{TellsOnly, TellsSteps, moment_at, moments_o
 ghost use Rattle.gw_io.specs.Outside.{IsAsPlanned};
 
 use crate::Clock;
-use crate::trace::Trace;
+use rgw_types::Trace;
 use std::marker::Model;
 
 /// Tells moments at equal distances.

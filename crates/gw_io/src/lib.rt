@@ -14,7 +14,6 @@ mod ends;
 mod outside;
 mod sink;
 mod source;
-mod trace;
 mod writing;
 
 pub use adapters::{ReaderSource, SystemClock, WriterSink, standard_input, standard_output};

@@ -4,8 +4,8 @@ ghost use Rattle.std.specs.Io.{WritesAtMost};
 ghost use Rattle.std.specs.Io.KnownBytes.{WriteAppends};
 ghost use Rattle.gw_io.specs.Outside.{HasCause, raised};
 
-use crate::trace::Trace;
 use crate::{Failed, Sink};
+use rgw_types::Trace;
 use std::alloc::{AllocError, Global};
 use std::marker::Model;
 

@@ -7,6 +7,8 @@ mod form;
 mod framing;
 mod head;
 mod laws;
+#[cfg(test)]
+mod limits;
 mod plain;
 mod reading;
 mod reply;

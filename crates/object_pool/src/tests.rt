@@ -142,3 +142,72 @@ fn spare_rows_become_rows(rt: HostRuntime) -> Result<(), Fail> {
     assert!(rt; pool.find(&Key::Changes).is_none());
     Ok(())
 }
+
+// A key of 1024 bytes that differs from others at its end.
+fn long_key(number: u16) -> [u8; 1024] {
+    let mut key = [b'k'; 1024];
+    let [high, low] = number.to_be_bytes();
+    key[1022] = high;
+    key[1023] = low;
+    key
+}
+
+// A stripe of 4 MiB, and attributes as 90 pairs of the longest names and values take.
+#[test]
+fn bytes_and_attributes_at_their_greatest(rt: HostRuntime) -> Result<(), Fail> {
+    let alloc = rt.alloc();
+    let mut pool = Pool::new(alloc, 1024, 4096)?;
+    let mut name = String::new(alloc);
+    for _ in 0..1024 {
+        name.push('n')?;
+    }
+    let key = Key::Head {
+        container: u64::MAX,
+        name: Text::from_string(name),
+    };
+    let stripe = vec![in alloc; b's'; 4_194_304]?;
+    let mut place = pool.place(alloc, &key)?;
+    assert_eq!(rt; place.put_bytes(stripe.as_slice()), Ok(()));
+    assert_eq!(rt; place.size(), 4_194_304);
+    let bytes = place.bytes(alloc, 0, 4_194_304)?;
+    assert!(rt; bytes.as_slice() == stripe.as_slice());
+    place.set_attrs(Bytes::from_vec(vec![in alloc; b'a'; 36_000]?));
+    let len = place.attrs().len();
+    assert_eq!(rt; len, 36_000);
+    place.write_attrs(0, &[b'b'; 36_000]);
+    assert!(rt; place.attrs() == [b'b'; 36_000].as_slice());
+    place.drop_object();
+    drop(place);
+    assert_eq!(rt; pool.free(), 1024);
+    Ok(())
+}
+
+// Names of 1024 bytes, pages of 1000 rows, and entries with a thousand tags.
+#[test]
+fn rows_at_their_greatest(rt: HostRuntime) -> Result<(), Fail> {
+    let alloc = rt.alloc();
+    let mut pool = Pool::new(alloc, 1, 16)?;
+    let mut place = pool.place(alloc, &Key::Changes)?;
+    for number in 0..1_001 {
+        let key = bytes(alloc, &long_key(number))?;
+        place.put_row(alloc, key, bytes(alloc, &[b'v'; 318])?)?;
+    }
+    let page = place.page(alloc, b"", 1_000)?;
+    assert!(rt; page.rows.len() == 1_000 && !page.end);
+
+    let last = long_key(1_000);
+    let len = place.row(&last).ok_or("the last row")?.len();
+    assert_eq!(rt; len, 318);
+    place.widen_row(alloc, &last, 16_318)?;
+    place.splice_row(&last, 318, 0, &[b't'; 16_000]);
+    let len = place.row(&last).ok_or("the last row")?.len();
+    assert_eq!(rt; len, 16_318);
+
+    assert!(rt; place.row(&[b's'; 16]).is_none());
+    place.reserve_rows(alloc, 1_000)?;
+    place.put_spare(&[b's'; 16], &[b'v'; 1_040]);
+    assert!(rt; place.take_row(&last));
+    assert_eq!(rt; place.take_rows(&long_key(0), &last), 1_000);
+    assert!(rt; place.exists());
+    Ok(())
+}

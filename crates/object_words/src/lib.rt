@@ -3,6 +3,7 @@
 
 mod bucket;
 mod entry;
+mod etag;
 mod hash;
 mod head;
 mod laws;
@@ -15,6 +16,7 @@ mod why;
 
 pub use bucket::{Bucket, Busy, ShardCount};
 pub use entry::{Entry, EntryPage, EntryRow, Guard, Tag};
+pub use etag::{etag_digits, meets};
 pub use hash::shard_of;
 pub use head::{Changed, Conditions, EtagRule, HeadSeen, NewHead, SeenSlot};
 pub use laws::{

@@ -1,5 +1,6 @@
 mod callers;
 mod twin;
+mod word;
 
 use super::{Omap, OutOfMemory, Page};
 use rgw_types::Bytes;
@@ -57,46 +58,89 @@ fn pages_splices_and_spare_rows(rt: HostRuntime) -> Result<(), Fail> {
     Ok(())
 }
 
-fn name_of(alloc: Global, number: u16) -> Result<String, OutOfMemory> {
-    Ok(format!(in alloc; "k{number:04}")?)
+// Whether the keys of the page are every second number from the first on.
+fn are_every_second(page: &Page, first: u16) -> bool {
+    let mut next = first;
+    for row in page.rows.as_slice() {
+        if row.0.as_slice() != next.to_be_bytes().as_slice() {
+            return false;
+        }
+        next = next.wrapping_add(2);
+    }
+    true
 }
 
 #[test]
 fn ten_thousand_rows_in_falling_order(rt: HostRuntime) -> Result<(), Fail> {
     let alloc = rt.alloc();
     let mut omap = Omap::new(alloc)?;
-    for number in (0..10_000).rev() {
-        put(alloc, &mut omap, name_of(alloc, number)?.as_bytes(), b"")?;
+    for number in (0..10_000_u16).rev() {
+        put(alloc, &mut omap, &number.to_be_bytes(), b"")?;
     }
-    for half in 0..5_000 {
-        assert!(rt; omap.remove(name_of(alloc, 2 * half)?.as_bytes()));
+    let mut removed = 0;
+    for half in 0..5_000_u16 {
+        removed += u16::from(omap.remove(&(2 * half).to_be_bytes()));
     }
-
-    let mut last = Vec::new(alloc);
-    let mut number = 1;
-    for count in 1..=50 {
-        let page = omap.page(alloc, last.as_slice(), 100)?;
-        assert_eq!(rt; page.rows.len(), 100);
-        assert_eq!(rt; page.end, count == 50);
-        for row in page.rows.as_slice() {
-            assert_eq!(rt; row.0.as_slice(), name_of(alloc, number)?.as_bytes());
-            number = number.wrapping_add(2);
-            last = row.0.as_slice().to_vec(alloc)?;
-        }
+    assert_eq!(rt; removed, 5_000);
+    for count in 0..50_u16 {
+        let first = 200 * count + 1;
+        let page = omap.page(alloc, &(200 * count).to_be_bytes(), 100)?;
+        assert!(rt; page.rows.len() == 100 && are_every_second(&page, first));
+        assert_eq!(rt; page.end, count == 49);
     }
-    assert_eq!(rt; last.as_slice(), b"k9999".as_slice());
     Ok(())
 }
 
 #[test]
 fn calls_agree_with_a_sorted_vector(rt: HostRuntime) -> Result<(), Fail> {
     let mut twin = Twin::new(rt.alloc(), 5)?;
+    let mut most_rows = 0;
     for _ in 0..100 {
         for _ in 0..100 {
-            twin.step(&rt)?;
+            assert!(rt; twin.step()?);
         }
-        twin.check(&rt)?;
+        assert!(rt; twin.agrees()?);
+        most_rows = twin.len().max(most_rows);
     }
-    assert!(rt; twin.most_rows() > 256);
+    assert!(rt; most_rows > 256);
+    Ok(())
+}
+
+// A key of 1024 bytes that differs from others at its end.
+fn long_key(number: u16) -> [u8; 1024] {
+    let mut key = [b'k'; 1024];
+    let [high, low] = number.to_be_bytes();
+    key[1022] = high;
+    key[1023] = low;
+    key
+}
+
+// Names of 1024 bytes, pages of 1000 rows, and entries with a thousand tags.
+#[test]
+fn each_call_at_its_greatest_sizes(rt: HostRuntime) -> Result<(), Fail> {
+    let alloc = rt.alloc();
+    let mut omap = Omap::new(alloc)?;
+    for number in 0..1_001 {
+        put(alloc, &mut omap, &long_key(number), &[b'v'; 318])?;
+    }
+    let page = omap.page(alloc, b"", 1_000)?;
+    assert!(rt; page.rows.len() == 1_000 && !page.end);
+
+    let last = long_key(1_000);
+    let len = omap.get(&last).ok_or("the last row")?.len();
+    assert_eq!(rt; len, 318);
+    omap.widen(&last, 16_318)?;
+    omap.splice(&last, 318, 0, &[b't'; 16_000]);
+    let len = omap.get(&last).ok_or("the last row")?.len();
+    assert_eq!(rt; len, 16_318);
+
+    assert!(rt; omap.get(&[b's'; 16]).is_none());
+    omap.reserve(1_000)?;
+    omap.put_spare(&[b's'; 16], &[b'v'; 1_040]);
+    assert!(rt; omap.remove(&last));
+    assert_eq!(rt; omap.remove_range(&long_key(0), &last), 1_000);
+    assert!(rt; !omap.is_empty());
+    omap.clear();
+    assert!(rt; omap.is_empty());
     Ok(())
 }

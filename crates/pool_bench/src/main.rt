@@ -62,7 +62,7 @@ fn measure_objects<R: Clock + Print>(rt: &R, alloc: Global, count: u64) -> anyho
         change = start.elapsed(rt)?.as_nanos().min(change);
     }
     println!(rt;
-        "{:>8} find and seven calls of the place",
+        "{:>8} find and six calls of the place",
         change / u128::from(CALLS)
     )?;
     Ok(())

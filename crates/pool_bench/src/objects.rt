@@ -70,12 +70,12 @@ impl Objects {
     }
 }
 
-// One find and seven calls of the place.
+// One find and six calls of the place.
 fn change(alloc: Global, pool: &mut Pool, key: &Key) -> Result<bool, OutOfMemory> {
     let Some(mut place) = pool.find(key) else {
         return Ok(false);
     };
-    let some = !place.attrs().is_empty() || place.size() > 0;
+    let some = !place.attrs().is_empty();
     let absent = place.row(b"row").is_none();
     let row = Bytes::from_slice(alloc, b"row")?;
     let value = Bytes::from_slice(alloc, b"value")?;

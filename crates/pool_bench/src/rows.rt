@@ -74,12 +74,12 @@ impl SampleRows {
         found
     }
 
-    /// Takes a page of 100 rows from a place by chance.
+    /// Takes a page of 100 rows from a place by chance in the first half.
     pub fn page(&mut self) -> Result<usize, OutOfMemory> {
         self.picked = self.picked.wrapping_add(1);
-        let page = self
-            .omap
-            .page(self.alloc, &key_of(mixed(self.picked)), 100)?;
+        let mut after = key_of(mixed(self.picked));
+        after[0] /= 2;
+        let page = self.omap.page(self.alloc, &after, 100)?;
         Ok(page.rows.len())
     }
 }

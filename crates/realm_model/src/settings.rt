@@ -1,4 +1,4 @@
-ghost use Rattle.std.specs.Prelude.{◌≡◌, ◌↔◌, IsTrue, IsSome, IfSome};
+ghost use Rattle.std.specs.Prelude.{◌≡◌, ◌≤◌, ◌↔◌, IsTrue, IsSome, IfSome};
 ghost use Rattle.realm_model.specs.Settings.{IsSettings, IsBetween, settings_of};
 
 use std::marker::Model;
@@ -84,6 +84,13 @@ impl Settings {
             largest,
             threshold,
         })
+    }
+
+    /// Each realm has a zone 1. It does nothing: it tells it to the proofs of its callers.
+    pub fn has_zone_one(&self)
+        ensures { 1 ≤ self.now.zones }
+    {
+        let _zones = self.zones;
     }
 
     /// The most bytes that all frames of all zones may have.

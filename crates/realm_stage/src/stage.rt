@@ -1,4 +1,4 @@
-ghost use Rattle.std.specs.Prelude.{◌≡◌, ◌≤◌, IfOk, Some, length};
+ghost use Rattle.std.specs.Prelude.{◌≡◌, IfOk, Some, length};
 ghost use Rattle.realm_core.specs.Realms.{new_realm};
 
 use realm_core::{OutOfMemory, Realm};
@@ -65,13 +65,6 @@ impl RealmStage {
     }
 }
 
-/// Each realm has a zone 1. It does nothing: it tells it to the proofs of its callers.
-fn has_zone_one(settings: &Settings)
-    ensures { 1 ≤ settings.now.zones }
-{
-    let _zones = settings.zones;
-}
-
 /// The operation comes back.
 fn stopped(fault: DoorFault, op: Op) -> Stopped<Op>
     ensures { (result.fault ≡ fault) × (result.op ≡ Some op) }
@@ -107,7 +100,7 @@ impl Door for RealmStage {
     }
 
     fn step(&mut self, alloc: Global, op: Op, moment: u64) -> Result<Answered, Stopped<Op>> {
-        has_zone_one(&self.settings);
+        self.settings.has_zone_one();
         if op.zone() != 1 {
             return Err(stopped(DoorFault::Worn, op));
         }

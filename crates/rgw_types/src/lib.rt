@@ -10,6 +10,7 @@ mod stripes;
 #[cfg(test)]
 mod tests;
 mod text;
+mod trace;
 
 pub use items::{Bytes, Items};
 pub use pairs::Pairs;
@@ -17,3 +18,4 @@ pub use pool_key::{Key, LAST_PART, PartNumber, keys_are_in_one_order};
 pub use stamp::{Stamp, stamps_are_in_one_order};
 pub use stripes::{Manifest, tails_are_counted_so};
 pub use text::Text;
+pub use trace::Trace;

@@ -1,44 +1,18 @@
 //! The reply to a GET or a HEAD, by what the head shows (RFC 9110, sections 13 and 14).
-ghost use Rattle.std.specs.Prelude.{◌≡◌, ◌+◌, ◌≤◌, ℕ, List, Some, None, IfSome};
-ghost use Rattle.hex.specs.Hex.{encode_lower};
-ghost use Rattle.object_words.specs.Conditions.{meets};
+ghost use Rattle.std.specs.Prelude.{◌≡◌, ◌+◌, ◌≤◌, Some, None, IfSome};
 ghost use Rattle.task_words.specs.Answers.{is_unmet, is_had, span_of};
 ghost use Rattle.task_get.specs.Replies.{reply_to, range_in};
 
-use object_words::{Conditions, EtagRule, MediaType};
+use object_words::{Conditions, MediaType, etag_digits, meets};
 use rgw_types::{Pairs, Stamp};
 use task_words::{ByteRange, GetCommand, MapReply, Refusal, Span, bytes_taken};
-
-/// The text of an ETag: its bytes in lower-case hexadecimal digits.
-fn digits_of(etag: &[u8; 16]) -> [u8; 32]
-    ensures { result ≡ encode_lower etag.now }
-{
-    let mut digits = [0; 32];
-    if hex::encode_to_slice(etag.as_slice(), &mut digits).is_err() {
-        unreachable!();
-    }
-    digits
-}
-
-/// Whether an object whose ETag has these digits meets the rule.
-fn meets(rule: &EtagRule, digits: &[u8; 32]) -> bool
-    ensures { (etag : List ℕ) → digits.now ≡ encode_lower etag → result ≡ meets rule.now (Some etag) }
-{
-    match rule {
-        EtagRule::Any => true,
-        EtagRule::OneOf(etags) => etags
-            .as_slice()
-            .iter()
-            .any(|etag| digits.as_slice() == etag.as_bytes()),
-    }
-}
 
 /// Whether If-Match fails or, without it, If-Unmodified-Since.
 fn is_unmet(when: &Conditions, etag: &[u8; 16], stamp: &Stamp) -> bool
     ensures { result ≡ is_unmet when.now.matches when.now.unmodified etag.now stamp.now }
 {
     match (&when.matches, when.unmodified) {
-        (Some(rule), _) => !meets(rule, &digits_of(etag)),
+        (Some(rule), _) => !meets(rule, &etag_digits(etag)),
         (None, Some(second)) => second < stamp.micros / 1_000_000,
         (None, None) => false,
     }
@@ -49,7 +23,7 @@ fn is_had(when: &Conditions, etag: &[u8; 16], stamp: &Stamp) -> bool
     ensures { result ≡ is_had when.now.none when.now.modified etag.now stamp.now }
 {
     match (&when.none, when.modified) {
-        (Some(rule), _) => meets(rule, &digits_of(etag)),
+        (Some(rule), _) => meets(rule, &etag_digits(etag)),
         (None, Some(second)) => stamp.micros / 1_000_000 <= second,
         (None, None) => false,
     }

@@ -2,7 +2,7 @@
 use Rattle.std.specs.Prelude.{◌≡◌, ◌≤◌, ◌<◌, ℕ, List, length, Some, unwrap_or}
 use Rattle.md5.specs.Md5.{md5}
 use Rattle.rgw_types.specs.Stripes.{tails_of}
-use Rattle.rgw_model.specs.Answers.{default_kind}
+use Rattle.rgw_model.specs.Kinds.{default_kind}
 use Rattle.object_words.specs.declared.head.NewHead.{NewHead}
 use Rattle.realm_model.specs.Maps.{Made}
 use Rattle.task_words.specs.declared.command.PutCommand.{PutCommand}

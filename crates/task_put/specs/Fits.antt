@@ -4,7 +4,7 @@ use Rattle.std.specs.List.{range_with_len}
 use Rattle.rgw_types.specs.declared.pool_key.Key.{Key}
 use Rattle.rgw_types.specs.Stripes.{tails_of}
 use Rattle.rgw_types.specs.Stamps.{stamp_above}
-use Rattle.rgw_model.specs.Answers.{default_kind}
+use Rattle.rgw_model.specs.Kinds.{default_kind}
 use Rattle.object_words.specs.declared.bucket.Bucket.{Bucket}
 use Rattle.object_words.specs.declared.entry.Guard.{Guard}
 use Rattle.object_words.specs.declared.why.Why.TheVariants as whys

@@ -2,9 +2,8 @@ ghost use Rattle.std.specs.Prelude.{◌≡◌, ◌+◌, ◌≤◌, ◌<◌, [], 
 ghost use Rattle.rgw_types.specs.Stripes.{tails_of as tails_needed};
 ghost use Rattle.task_put.specs.Bodies.{most_bytes, first_bytes, tail_bytes, no_bytes, with_bytes, without_tail, ended, whole_etag, stripe_room, room_of, has_tail};
 
-use crate::trace::Trace;
 use md5::{Digest, Md5};
-use rgw_types::{Bytes, Manifest, PartNumber};
+use rgw_types::{Bytes, Manifest, PartNumber, Trace};
 use std::alloc::{AllocError, Global};
 use std::marker::Model;
 use std::mem::replace;

@@ -12,7 +12,6 @@ mod laws;
 mod splitting;
 mod stage;
 mod task;
-mod trace;
 mod turning;
 
 pub use body::{Progress, PutBody};
@@ -35,5 +34,4 @@ pub use stage::{
     After, Change, Content, Draft, PutRequest, Rest, Split, Stage, Target, Tried, Unfinished,
 };
 pub use task::PutTask;
-pub use trace::Trace;
 pub use turning::steps_keep_where_a_put_stands;

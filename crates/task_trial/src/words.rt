@@ -1,5 +1,4 @@
 //! The container, its objects, and who asks.
-ghost use Rattle.std.specs.Prelude.{◌≤◌};
 
 use anyhow::Context;
 use object_words::{BucketName, Conditions, ObjectName};
@@ -35,13 +34,6 @@ fn settings_of(stripe: u32, frame: u32, frames: u32, shards: u32) -> anyhow::Res
         100_000,
     );
     settings.context("the settings are within their bounds")
-}
-
-/// Each realm has a zone 1. It does nothing: it tells it to the proofs of its callers.
-pub fn has_zone_one(settings: &Settings)
-    ensures { 1 ≤ settings.now.zones }
-{
-    let _zones = settings.zones;
 }
 
 pub fn account(alloc: Global) -> anyhow::Result<Text> {

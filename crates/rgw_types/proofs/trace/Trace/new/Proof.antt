@@ -11,11 +11,11 @@ use denote.Shadow.{pure_i}
 use denote.Steps.{nothing}
 use denote.Triple.Entry.{on_entry}
 use denote.Triple.Walked.{says, ends_at}
-use Rattle.task_put.specs.declared.trace.Trace.{Trace}
-use Rattle.task_put.specs.contracts.trace.Trace as trace
-use Rattle.task_put.specs.contracts.trace.Trace.new as f
-use Rattle.task_put.proofs.trace.Trace.new.Statement.{statement}
-use Rattle.task_put.proofs.trace.Trace.new.Code as code
+use Rattle.rgw_types.specs.declared.trace.Trace.{Trace}
+use Rattle.rgw_types.specs.contracts.trace.Trace as trace
+use Rattle.rgw_types.specs.contracts.trace.Trace.new as f
+use Rattle.rgw_types.proofs.trace.Trace.new.Statement.{statement}
+use Rattle.rgw_types.proofs.trace.Trace.new.Code as code
 
 abbrev made : Trace
 made = record { numbers = [] }

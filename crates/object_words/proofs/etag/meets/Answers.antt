@@ -4,7 +4,7 @@ use Rattle.std.proofs.lemmas.Iterator.{YieldsList-from_slice}
 use Rattle.std.proofs.lemmas.Iterator.Search.{any_from_yields_List}
 use Rattle.object_words.specs.Conditions.{meets}
 use Rattle.object_words.specs.declared.head.EtagRule.TheVariants.{OneOf}
-use Rattle.task_get.proofs.answer.meets.Goals as goal
+use Rattle.object_words.proofs.etag.meets.Goals as goal
 
 pub returns-in-OneOf : goal.returns-in-OneOf
 returns-in-OneOf c etag here =
