@@ -1,0 +1,6 @@
+pub mod Slots
+pub mod Standing
+pub mod Stamps
+pub mod Saying
+pub mod Folding
+pub mod Moments
