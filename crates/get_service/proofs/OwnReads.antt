@@ -58,8 +58,7 @@ head_reads : (r : GetRequest) (slot : SeenSlot) (head : OwnEvent) (later events 
 head_reads r slot head later events x are =
     subst AreOfGet (sym x.stands) (
       subst (λ op. is_of_get op ≡ true) (sym x.granted.op) refl,
-      subst (λ op. is_of_get op ≡ true) (sym x.shown.op) refl,
-      are,
+      (subst (λ op. is_of_get op ≡ true) (sym x.shown.op) refl, are),
     )
 
 all_reads : (r : GetRequest) (events : List OwnEvent) → ReadsAll r events → AreOfGet events

@@ -4,3 +4,5 @@ pub mod Stamps
 pub mod Saying
 pub mod Folding
 pub mod Moments
+pub mod Calm
+pub mod Calms

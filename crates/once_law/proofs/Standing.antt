@@ -267,8 +267,8 @@ module _ (settings : SettingsView) (base : List Event) where
         }
 
   module _ (actor : ActorId) where
-    one_more : (history : List Event) (e : Event) → Legal settings (history ++ e ∷ []) → actor_of e ≡ actor → keeps_rows e.op ≡ true → Standing history (account_of settings history actor) → Standing (history ++ e ∷ []) (account_of settings (history ++ e ∷ []) actor)
-    one_more history e legal by keeps standing =
+    pub stands_one_more : (history : List Event) (e : Event) → Legal settings (history ++ e ∷ []) → actor_of e ≡ actor → keeps_rows e.op ≡ true → Standing history (account_of settings history actor) → Standing (history ++ e ∷ []) (account_of settings (history ++ e ∷ []) actor)
+    stands_one_more history e legal by keeps standing =
         let own = subst (λ a. Standing history (account_of settings history a)) (sym by) standing in
         let next = stands_next history e legal (account_of settings history (actor_of e)) own keeps in
         let account = ap (λ (q : Doings). q.account) (doings-next settings history e) in
@@ -283,7 +283,7 @@ module _ (settings : SettingsView) (base : List Event) where
     stands_behind history (e ∷ es) legal by keeps standing =
         let whole = append_assoc history (e ∷ []) es in
         let legal' = subst (Legal settings) (sym whole) legal in
-        let next = one_more history e (legal_front settings (start settings) (history ++ e ∷ []) es legal') by.0 keeps.0 standing in
+        let next = stands_one_more history e (legal_front settings (start settings) (history ++ e ∷ []) es legal') by.0 keeps.0 standing in
         subst (λ l. Standing l (account_of settings l actor)) whole (stands_behind (history ++ e ∷ []) es legal' by.1 keeps.1 next)
 
   -- an actor without events
