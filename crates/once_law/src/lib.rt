@@ -4,4 +4,4 @@
 
 mod laws;
 
-pub use laws::calls_fold_over_the_maps;
+pub use laws::{calls_fold_over_the_maps, only_room_is_wanting};
