@@ -1,5 +1,5 @@
 -- The own events of a GET read: the container's row, the head, and tails.
-use Rattle.std.proofs.Common.{◌≡◌, ℕ, Bool, true, false, cond, List, [], ◌∷◌, ◌++◌, map, filter, Some, None, Option, refl, sym, ap, ◌∙◌, subst}
+use Rattle.std.proofs.Common.{◌≡◌, ℕ, true, List, [], ◌∷◌, ◌++◌, map, Some, None, Option, refl, sym, subst}
 use Rattle.std.specs.List.{AllByRecursion}
 use Rattle.rgw_types.specs.Stripes.{ManifestView}
 use Rattle.object_words.specs.declared.head.SeenSlot.{SeenSlot}
@@ -18,7 +18,7 @@ use Rattle.task_words.specs.declared.span.ByteRange.{ByteRange}
 use Rattle.task_get.specs.declared.request.GetRequest.{GetRequest}
 use Rattle.task_get.specs.declared.stage.Stage.{Stage}
 use Rattle.task_get.specs.declared.stage.Stage.TheVariants.{Look, Open, Tails, Ended, Late}
-use Rattle.task_get.specs.Gets.{GrantedBy, ReadsHead, ReadsRow, ops_in, ReadsAll, MissesTail, EndsWith, Means, HasOpened, FitsStage}
+use Rattle.task_get.specs.Gets.{ReadsHead, ReadsRow, ops_in, ReadsAll, EndsWith, Means, FitsStage}
 use Rattle.task_get.specs.Pieces.{read_of, reads_of, tail_reads}
 use Rattle.task_get.specs.Replies.{range_of}
 use Rattle.call_words.specs.Events.{is_of_get, AreOfGet}

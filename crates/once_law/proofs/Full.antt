@@ -1,8 +1,8 @@
 -- At one moment a call is replied by the maps, or there was no room.
-use Rattle.std.proofs.Common.{◌≡◌, ℕ, ◌+◌, ◌≤◌, ◌<◌, ◌^◌, true, List, [], ◌∷◌, ◌++◌, length, Some, None, refl, sym, ◌∙◌, ap, subst, arith, append_assoc}
+use Rattle.std.proofs.Common.{◌≡◌, ℕ, ◌+◌, ◌≤◌, List, [], ◌∷◌, ◌++◌, Some, None, sym, ◌∙◌, ap, subst, arith, append_assoc}
 use Rattle.rgw_model.specs.Stamps.{counted_moment}
 use Rattle.realm_model.specs.Settings.{SettingsView, IsSettings}
-use Rattle.realm_model.specs.Accounts.{Account, blank, HoldMet}
+use Rattle.realm_model.specs.Accounts.{Account, blank}
 use Rattle.realm_model.specs.Owns.{OwnEvent, own_events, NoneBy}
 use Rattle.realm_model.specs.Phases.{ActorId, Phase}
 use Rattle.realm_model.specs.Worlds.{start}
@@ -16,7 +16,7 @@ use Rattle.swift_requests.specs.declared.asked.Asked.TheVariants as Asks
 use Rattle.task_words.specs.declared.asker.Asker.{Asker}
 use Rattle.task_words.specs.declared.outcome.Outcome.{Outcome}
 use Rattle.task_words.specs.declared.outcome.Outcome.TheVariants.{Done, BodyFailed, Busy, MovedOften, LateTag, LateRead, NoSpace}
-use Rattle.task_words.specs.Outcomes.{MetHold, IsPutOutcome, IsGetOutcome}
+use Rattle.task_words.specs.Outcomes.{IsPutOutcome, IsGetOutcome}
 use Rattle.task_words.specs.declared.command.PutCommand.{PutCommand}
 use Rattle.task_words.specs.declared.command.GetCommand.{GetCommand}
 use Rattle.call_words.specs.Calls.{Ground, alone, task, Call, IsBorneOut, RestsOn, IsOfNext, actor_after, AreRight, whole}
@@ -25,7 +25,7 @@ use Rattle.call_words.specs.Texts.{outcome_reply, HasReply}
 use Rattle.task_words.specs.Answers.{span_of}
 use Rattle.once_law.specs.Folds.{IsRepliedOrFull, AreRepliedOrFull}
 use Rattle.once_law.specs.Runs.{NoneFrom, AreAt}
-use Rattle.once_law.proofs.Folding.{none_of_later, OfTasks, gets_of_tasks, puts_of_tasks, first_ops, standing_first, rests_before, unused_behind}
+use Rattle.once_law.proofs.Folding.{none_of_later, OfTasks, puts_of_tasks, first_ops, standing_first, rests_before, unused_behind}
 use Rattle.once_law.proofs.Calms.{Calm, calm_first, calm_behind}
 use Rattle.once_law.proofs.Moments.{clock_behind}
 
@@ -88,11 +88,10 @@ module _ (settings : SettingsView) (good : IsSettings settings) (zone : ℕ) (as
       let whole_is : before ++ more ≡ (before ++ first) ++ others = ap (λ l. before ++ l) both ∙ sym (append_assoc before first others) in
       let legal' = subst (Legal settings) whole_is legal in
       let right' = subst (λ l. AreRight settings zone asker pass l next (call ∷ calls) last) whole_is right in
-      let ats = at_both first others (subst (AreAt moment) both at) in
-      (
+      let ats = at_both first others (subst (AreAt moment) both at) in (
         here call.ground right'.2 right'.0 own right'.1 (legal_front settings (start settings) (before ++ first) others legal') ats.0,
         full (before ++ first) others (actor_after next call.ground) calls last later legal' (unused_behind settings zone asker pass (λ count. 0) next call.ground before first right'.0 own unused) right'.2 made by_last
-        (clock_behind settings before first moment low ats.0) ats.1,
+            (clock_behind settings before first moment low ats.0) ats.1,
       )
     where
       here : (g : Ground) → AreRight settings zone asker pass ((before ++ first) ++ others) (actor_after next g) calls last → IsOfNext next g → AreMadeFor pass g first

@@ -94,11 +94,11 @@ module _ (bucket : List ℕ) (moment : ℕ) (e : DoorView) (calls : List Call) (
       let short = shorter front only.later in
       let few : length front ≤ 2 ^ 62 = omega (arith, room, short) in
       let same = λ (count : ℕ) (low : 1 ≤ count) (high : count < last).
-          let none : NoneBy (actor_of_pass 1 count) only.later = none_of_other 1 count last only.later (λ is. omega (arith, is, high)) only.by_last in
-          let s = same_after_others standard_settings front only.later (actor_of_pass 1 count) none in
-          let back : IsSame standard_settings (front ++ only.later) front (actor_of_pass 1 count) = record { events = sym s.events; doings = sym s.doings } in back in
+      let none : NoneBy (actor_of_pass 1 count) only.later = none_of_other 1 count last only.later (λ is. omega (arith, is, high)) only.by_last in
+      let s = same_after_others standard_settings front only.later (actor_of_pass 1 count) none in
+      let back : IsSame standard_settings (front ++ only.later) front (actor_of_pass 1 count) = record { events = sym s.events; doings = sym s.doings } in back in
       let right = stay standard_settings 1 standard_asker 1 (front ++ only.later) front 1 calls last same
-          (subst (λ l. AreRight standard_settings 1 standard_asker 1 l 1 calls last) split settled.right) in
+      (subst (λ l. AreRight standard_settings 1 standard_asker 1 l 1 calls last) split settled.right) in
       let at = calls_at 1 moment e.seen only.later before c.events calls moments rest seen told c.made are in
       let low = made_clock bucket moment in
       let unused = made_by_first bucket moment in
