@@ -23,6 +23,7 @@ use Rattle.task_words.specs.declared.reply.MapReply.TheVariants.{Shown}
 use Rattle.task_words.specs.Answers.{get, answer, span_of}
 use Rattle.task_words.specs.Outcomes.{Body, IsGetOutcome, IsPutOutcome}
 use Rattle.call_words.specs.Texts.{outcome_reply, HasReply, text_if}
+use Rattle.call_words.specs.Events.{AreOfGet, AreOfPut}
 
 -- ---- calls
 
@@ -70,14 +71,15 @@ AreShownBy zone c outcome shown last = shown ≡ []
 abbrev pub whole : List ℕ → Body
 whole bytes = record { bytes = bytes; end = Some Whole }
 
--- the account and the events of an actor bear the end of its task out
+-- the account and the events of an actor bear the end of its task out, and the events are those that such a task makes
 abbrev pub IsBorneOut : ℕ → Asker → Asked → List ℕ → Outcome → List ℕ → Account → List OwnEvent → Type 0
 IsBorneOut zone asker BadHost body outcome shown y events = ⊥
 IsBorneOut zone asker (Refused why) body outcome shown y events = ⊥
 IsBorneOut zone asker (Put c) body outcome shown y events =
-    IsPutOutcome zone asker c (whole body) outcome y events × HasReply (outcome_reply None outcome) × (shown ≡ [])
+    IsPutOutcome zone asker c (whole body) outcome y events × HasReply (outcome_reply None outcome) × (shown ≡ []) × AreOfPut events
 IsBorneOut zone asker (Get c) body outcome shown y events =
     IsGetOutcome zone asker c outcome y × HasReply (outcome_reply (span_of c) outcome) × AreShownBy zone c outcome shown y.decided
+    × AreOfGet events
 
 -- the request is refused before any name is looked at
 abbrev pub IsRefused : Asked → Type 0

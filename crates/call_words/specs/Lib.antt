@@ -1,3 +1,5 @@
 pub mod Texts
+pub mod Events
 pub mod Calls
+pub mod Made
 pub mod Streams

@@ -20,7 +20,8 @@ use Rattle.call_service.specs.Serving.{Site, Side, own_moments, Tells, is_by_end
 use Rattle.call_service.specs.declared.fault.ServeFault.{ServeFault}
 use Rattle.call_service.specs.declared.fault.ServeFault.TheVariants as faults
 use Rattle.gateway.specs.declared.serve.ConnEnd.{ConnEnd}
-use Rattle.gateway.specs.Moments.{AreToldFor, AreTold, AreBy, AreMade}
+use Rattle.gateway.specs.Moments.{AreToldFor, AreTold}
+use Rattle.call_words.specs.Made.{AreBy, AreMade}
 use Rattle.gateway.specs.Texts.{texts_from, end_text, connection_end}
 use Rattle.gateway.specs.Calls.{Advances, IsSettled, AreSettled}
 use Rattle.gateway.specs.Serving.{requests_of, IsTidy, RepliesTo, ServesFrom, FailsReading, StopsFrom, LeavesAt}

@@ -9,7 +9,7 @@ use Rattle.swift_auth.specs.Users.{standard_user, account_of}
 use Rattle.task_words.specs.declared.asker.Asker.{Asker}
 use Rattle.call_words.specs.Calls.{Call, IsOfNext, IsRight, AreRight, actor_after}
 use Rattle.call_service.specs.Serving.{Site}
-use Rattle.gateway.specs.Moments.{AreBy, AreMadeFor, AreMade}
+use Rattle.call_words.specs.Made.{AreBy, AreMadeFor, AreMade}
 
 -- ---- who asks
 

@@ -21,7 +21,8 @@ use Rattle.call_service.specs.declared.fault.ServeFault.{ServeFault}
 use Rattle.call_service.specs.declared.fault.ServeFault.TheVariants as faults
 use Rattle.call_service.specs.declared.served.Served.{Served}
 use Rattle.call_service.specs.declared.served.Served.TheVariants as services
-use Rattle.gateway.specs.Moments.{AreToldFor, AreBy}
+use Rattle.gateway.specs.Moments.{AreToldFor}
+use Rattle.call_words.specs.Made.{AreBy}
 use Rattle.gateway.specs.Calls.{Advances, IsSettled}
 
 -- ---- the intake

@@ -31,11 +31,13 @@ use Rattle.task_get.specs.Gets.{Means, BringsAll, shown_at}
 use Rattle.task_get.specs.Tasks.{account_at, phase_at, events_at, request_of, stage_of, bytes_of, shown_of, means}
 use Rattle.task_get.proofs.Giving.{shown_rests, none_brought, front_at_once, all_brought}
 use Rattle.call_words.specs.Calls.{IsBorneOut}
+use Rattle.call_words.specs.Events.{AreOfGet}
 use Rattle.call_words.specs.Texts.{outcome_reply, text_if}
 use Rattle.call_service.specs.Serving.{AppendsFront, is_by_end}
 use Rattle.call_service.proofs.Fronts.{whole_front, front_longer, front_behind}
 use Rattle.get_service.specs.Texts.{text_up_to, begins, piece_text, ends_get, is_late, end_text}
 use Rattle.get_service.specs.Getting.{IsUpTo, brought_at, IsBegun, HasWritten, Replies, IsPartly}
+use Rattle.get_service.proofs.OwnReads.{means_reads, stage_reads}
 use Rattle.get_service.proofs.Texts.{text_shown, text_longer}
 
 -- ---- what is shown
@@ -56,10 +58,10 @@ rests_on_event r (Shown kind meta etag stamp size start count) y is rests = reco
 rests_on_event r reply y is rests = absurd is
 
 -- it is borne out where these bytes are shown
-borne_by_event : (r : GetRequest) (reply : MapReply) (y : Account) (events : List OwnEvent) (shown : List ℕ) (event : Decided) → IsShown reply → IsGetOutcome r.zone r.asker r.get (Done reply) y → y.decided ≡ Some event → shown ≡ shown_at r event → IsBorneOut r.zone r.asker (Get r.get) [] (Done reply) shown y events
-borne_by_event r (Shown kind meta etag stamp size start count) y events shown event is rests decided bytes =
-    (rests, tt, record { event = event; is_last = decided; bytes = bytes })
-borne_by_event r reply y events shown event is rests decided bytes = absurd is
+borne_by_event : (r : GetRequest) (reply : MapReply) (y : Account) (events : List OwnEvent) (shown : List ℕ) (event : Decided) → IsShown reply → IsGetOutcome r.zone r.asker r.get (Done reply) y → y.decided ≡ Some event → shown ≡ shown_at r event → AreOfGet events → IsBorneOut r.zone r.asker (Get r.get) [] (Done reply) shown y events
+borne_by_event r (Shown kind meta etag stamp size start count) y events shown event is rests decided bytes read =
+    (rests, tt, record { event = event; is_last = decided; bytes = bytes }, read)
+borne_by_event r reply y events shown event is rests decided bytes read = absurd is
 
 -- the rest behind a front
 drop_front : (front rest : List ℕ) → drop (length front) (front ++ rest) ≡ rest
@@ -109,9 +111,10 @@ all_but_late r outcome y events m late = absurd m
 borne_without_bytes : (r : GetRequest) (outcome : Outcome) (y : Account) (events : List OwnEvent) → ends_get outcome ≡ true → Means r outcome y events → brought r.get events ≡ [] → IsBorneOut r.zone r.asker (Get r.get) [] outcome [] y events
 borne_without_bytes r (Done (Shown kind meta etag stamp size start count)) y events ends m none =
     let by = m.0.0 in
-    (m.0, tt, record { event = by.event; is_last = by.is_last; bytes = sym none ∙ m.1.1 by.event by.is_last })
-borne_without_bytes r (Done (Same etag stamp)) y events ends m none = (m.0, tt, refl)
-borne_without_bytes r (Done (Refused refusal)) y events ends m none = (m.0, tt, refl)
+    let read = means_reads r (Done (Shown kind meta etag stamp size start count)) y events m in
+    (m.0, tt, record { event = by.event; is_last = by.is_last; bytes = sym none ∙ m.1.1 by.event by.is_last }, read)
+borne_without_bytes r (Done (Same etag stamp)) y events ends m none = (m.0, tt, refl, means_reads r (Done (Same etag stamp)) y events m)
+borne_without_bytes r (Done (Refused refusal)) y events ends m none = (m.0, tt, refl, means_reads r (Done (Refused refusal)) y events m)
 borne_without_bytes r outcome y events ends m none = let e : false ≡ true = ends in cc
 
 ends_by_event : (outcome : Outcome) → ends_get outcome ≡ true → is_by_end outcome ≡ false
@@ -153,7 +156,8 @@ module _ (tells : Type 0) (settings : SettingsView) (form : ReplyForm) where
             let whole : shown_at r on.event ≡ begun.bytes ++ front.rest = front.joined ∙ ap (λ l. l ++ front.rest) (sym (begun.is_brought is)) in
             let left : rest ≡ front.rest =
             ap (λ o. drop (length begun.bytes) (shown_now r o)) on.decided ∙ ap (drop (length begun.bytes)) whole ∙ drop_front begun.bytes front.rest in
-            borne_by_event r begun.reply y (events_at d) shown on.event begun.shows rests.0 on.decided (ap (λ l. begun.bytes ++ l) left ∙ sym whole);
+            borne_by_event r begun.reply y (events_at d) shown on.event begun.shows rests.0 on.decided (ap (λ l. begun.bytes ++ l) left ∙ sym whole)
+            (stage_reads r (stage_of t) y (phase_at settings d) (events_at d) fits.stage);
       }
 
   begun_front : (t : GetTask) (d : DoorView) (before now : Option (List ℕ)) → IsBegun tells form t d (Appends before now) → IsBegun tells form t d (AppendsFront before now)
@@ -271,7 +275,8 @@ module _ (tells : Type 0) (settings : SettingsView) (form : ReplyForm) where
               let rests = shown_rests r (stage_of t) y (phase_at settings d) (events_at d) begun.reply (up is).1.stage (begun.is_shown is) in
               let on = rests_on_event r begun.reply y begun.shows rests.0 in
               borne_by_event r begun.reply y (events_at d) begun.bytes on.event begun.shows rests.0 on.decided
-              (begun.is_brought is ∙ all_but_late r outcome y (events_at d) (meant is) late on.event on.decided);
+              (begun.is_brought is ∙ all_but_late r outcome y (events_at d) (meant is) late on.event on.decided)
+              (means_reads r outcome y (events_at d) (meant is));
         }
 
     unbegun_ends : (grown : List ℕ → Type 0) (ends : Bool) → ends_get outcome ≡ ends → is_late outcome ≡ false → (tells → brought_at (request_of t) d ≡ []) → grown (cond ends (text_if form (outcome_reply (span_of (request_of t).get) outcome) []) []) → Replies tells settings form (request_of t) d grown

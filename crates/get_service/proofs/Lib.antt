@@ -1,5 +1,6 @@
 pub mod Texts
 pub mod Acting
+pub mod OwnReads
 pub mod Getting
 pub mod Stopping
 pub mod Serving

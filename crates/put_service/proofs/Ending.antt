@@ -25,6 +25,7 @@ use Rattle.task_put.specs.Tasks.{request_of, stage_of, fault_of, fits}
 use Rattle.task_put.specs.Fits.{body_of}
 use Rattle.task_put.proofs.Stepping.{means_it}
 use Rattle.call_words.specs.Calls.{whole}
+use Rattle.call_words.specs.Events.{AreOfPut}
 use Rattle.http_intake.specs.Intake.{IntakeState}
 use Rattle.realm_model.specs.declared.event.Event.{Event}
 use Rattle.call_service.specs.Bodies.{HasGiven, HasGivenAll, DropsBody, LeavesBody}
@@ -34,6 +35,7 @@ use Rattle.call_service.proofs.Passing.{give_all, cut_behind, fail_behind}
 use Rattle.call_service.specs.Serving.{is_by_end, Asks}
 use Rattle.call_service.proofs.Asking.{both_ask}
 use Rattle.put_service.specs.Standing.{IsByEvent, IsByBody, IsSteadyAt, IsSteady}
+use Rattle.put_service.proofs.Orders.{of_put}
 use Rattle.put_service.specs.Parts.{Place, AsksAt, EndsSo, HasEnded, RunsTask, StopsBody}
 
 -- an event brought the outcome
@@ -97,6 +99,12 @@ pub means_put : (t : PutTask) (settings : SettingsView) (d : DoorView) (outcome 
     → IsPutOutcome (request_of t).zone (request_of t).asker (request_of t).command (body_of (request_of t)) outcome (account_of settings d.seen (actor_at d)) (own_events d.seen (actor_at d))
 means_put t settings d outcome ended sound f = (means_it t settings d outcome ended sound f).0
 
+-- its events are such as a PUT makes
+events_of_put : (t : PutTask) (settings : SettingsView) (d : DoorView) (outcome : Outcome) → stage_of t ≡ Ended outcome → fault_of t ≡ None → fits t settings d
+    → AreOfPut (own_events d.seen (actor_at d))
+events_of_put t settings d outcome ended sound f =
+    of_put (own_events d.seen (actor_at d)) (means_it t settings d outcome ended sound f).1
+
 -- ---- the whole task
 
 -- the outcome was there before the end of the body
@@ -118,6 +126,7 @@ ended_before tells alone settings r t x y body front given s over request unende
           let at_request = subst (λ (q : PutRequest). IsPutOutcome q.zone q.asker q.command (body_of q) by.0 account events) request (means_put t settings y.door by.0 by.1 sound (up told)) in
           before_end r.zone r.asker r.command (r.bytes ++ front) body account events by.0 by.2
           (subst (λ e. IsPutOutcome r.zone r.asker r.command (record { bytes = r.bytes ++ front; end = e }) by.0 account events) unended at_request);
+      of_put = λ told. events_of_put t settings y.door by.0 by.1 sound (up told);
       asks = subst (λ m. AsksAt tells alone settings m x y) (sym by.2.1) asks;
     }
 
@@ -138,6 +147,7 @@ ended_behind tells alone settings now r t x y d b body same given request none u
       right = λ told.
           let at_request = subst (λ (q : PutRequest). IsPutOutcome q.zone q.asker q.command (body_of q) ends.outcome account events) request (means_put t settings y.door ends.outcome ends.ended sound (up told)) in
           subst (λ (w : Body). IsPutOutcome r.zone r.asker r.command w ends.outcome account events) (λ i. record { bytes = none i ++ body; end = first_end (unended i) Whole }) at_request;
+      of_put = λ told. events_of_put t settings y.door ends.outcome ends.ended sound (up told);
       asks = both_ask tells alone settings now (is_by_end ends.outcome) x.door d y.door x.told b y.told same first ends.asks;
     }
 

@@ -84,7 +84,7 @@ module _ (tells alone : Type 0) (site : Site) (form : ReplyForm) (c : PutCommand
     outcome = ran.outcome;
     shown = [];
     written = subst (λ o. Appends old.taken new.taken (text_if form (outcome_reply None o) [])) (ap outcome_in (sym ended ∙ ran.ended)) written;
-    right = λ told. (ran.right told, end_has_reply ran.outcome ran.is_end, refl);
+    right = λ told. (ran.right told, end_has_reply ran.outcome ran.is_end, refl, ran.of_put told);
     asks = ran.asks;
   }
 
@@ -99,7 +99,7 @@ module _ (tells alone : Type 0) (site : Site) (form : ReplyForm) (c : PutCommand
       outcome = ran.outcome;
       shown = [];
       written = subst (λ o. AppendsFront old.taken new.taken (text_if form (outcome_reply None o) [])) (ap outcome_in (sym ended ∙ ran.ended)) leaves;
-      right = λ told. (ran.right told, end_has_reply ran.outcome ran.is_end, refl);
+      right = λ told. (ran.right told, end_has_reply ran.outcome ran.is_end, refl, ran.of_put told);
       more = is_by_end ran.outcome;
       asks = ran.asks;
     },

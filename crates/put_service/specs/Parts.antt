@@ -10,6 +10,7 @@ use Rattle.http_intake.specs.Intake.{IntakeState}
 use Rattle.task_words.specs.declared.outcome.Outcome.{Outcome}
 use Rattle.task_words.specs.Outcomes.{IsPutOutcome}
 use Rattle.call_words.specs.Calls.{whole}
+use Rattle.call_words.specs.Events.{AreOfPut}
 use Rattle.task_put.specs.declared.stage.PutRequest.{PutRequest}
 use Rattle.task_put.specs.declared.stage.Stage.TheVariants.{Ended}
 use Rattle.task_put.specs.declared.task.PutTask.{PutTask}
@@ -95,6 +96,7 @@ pub record HasEnded (tells alone : Type 0) (settings : SettingsView) (r : PutReq
   pub is_end : IsEnd outcome
   pub right : tells → IsPutOutcome r.zone r.asker r.command (whole body) outcome
       (account_of settings y.door.seen (actor_at y.door)) (own_events y.door.seen (actor_at y.door))
+  pub of_put : tells → AreOfPut (own_events y.door.seen (actor_at y.door))
   pub asks : AsksAt tells alone settings (is_by_end outcome) x y
 
 -- the task ended; or the input ended inside the body

@@ -3,7 +3,7 @@ ghost use Rattle.std.specs.Io.KnownBytes.{Appends};
 ghost use Rattle.http_intake.specs.Intake.{IsUnchunked};
 ghost use Rattle.swift_requests.specs.declared.asked.Asked.TheVariants.{Put};
 ghost use Rattle.task_put.specs.Bodies.{most_bytes};
-ghost use Rattle.task_put.specs.Taking.{WantsBytes, ended_request};
+ghost use Rattle.task_put.specs.Taking.{ended_request};
 ghost use Rattle.task_put.specs.Tasks.{request_of, stage_of, fault_of};
 ghost use Rattle.task_words.specs.declared.command.BodyEnd.TheVariants.{Whole};
 ghost use Rattle.call_words.specs.Texts.{outcome_reply, text_if};

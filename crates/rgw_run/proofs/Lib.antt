@@ -2,3 +2,6 @@ pub mod Counted
 pub mod Numbers
 pub mod Starting
 pub mod Ending
+pub mod Container
+pub mod Told
+pub mod Exactly

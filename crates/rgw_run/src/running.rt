@@ -4,6 +4,7 @@ ghost use Rattle.object_words.specs.Limits.{is_name};
 ghost use Rattle.swift_auth.specs.Users.{standard_user, account_of};
 ghost use Rattle.realm_core.specs.Realms.{new_realm};
 ghost use Rattle.rgw_run.specs.Words.{once_of};
+ghost use Rattle.rgw_run.specs.Exact.{RunsExactlyIf};
 ghost use Rattle.rgw_run.specs.Runs.{Runs, RunsOnce, RunsByClock, RunsAt, HasRunCause, Leaves, standard_settings, end_of, status_by, end_status, fault_status, door_status};
 
 use crate::once_end::OnceEnd;
@@ -41,6 +42,11 @@ pub fn run<S: Source, K: Sink, C: Clock>(
 ) -> Status
     requires { realm.old ≡ None }
     ensures runs { Runs (once_of (map string_bytes words.now))
+        (⟦<(S, K, C) as Ends>⟧.ends (input.old, output.old, clock.old))
+        (⟦<(S, K, C) as Ends>⟧.ends (input.new, output.new, clock.new)) realm.new result.number }
+
+    // At one moment the replies are those of one bucket map, folded over the requests from the empty container.
+    ensures exact { RunsExactlyIf (once_of (map string_bytes words.now))
         (⟦<(S, K, C) as Ends>⟧.ends (input.old, output.old, clock.old))
         (⟦<(S, K, C) as Ends>⟧.ends (input.new, output.new, clock.new)) realm.new result.number }
 

@@ -1,0 +1,137 @@
+-- What the rows and the bucket maps of a zone reply to calls, one after another (OpenStack Object Storage API v1, objects).
+use Rattle.std.specs.Prelude.{◌≡◌, ℕ, Bool, false, List, [], ◌∷◌, Option, Some, None, if◌then◌else◌}
+use Rattle.std.specs.List.{AllByRecursion}
+use Rattle.object_words.specs.declared.bucket.Bucket.{Bucket}
+use Rattle.swift_requests.specs.declared.asked.Asked.{Asked}
+use Rattle.swift_requests.specs.declared.asked.Asked.TheVariants as Asks
+use Rattle.task_words.specs.declared.asker.Asker.{Asker}
+use Rattle.task_words.specs.declared.outcome.Outcome.{Outcome}
+use Rattle.task_words.specs.declared.outcome.Outcome.TheVariants.{Done, Busy, MovedOften, LateTag, NoSpace}
+use Rattle.task_words.specs.declared.reply.MapReply.{MapReply}
+use Rattle.task_words.specs.declared.reply.MapReply.TheVariants.{Refused}
+use Rattle.task_words.specs.declared.reply.Refusal.{Refusal}
+use Rattle.task_words.specs.declared.reply.Refusal.TheVariants.{NoContainer, OtherEtag}
+use Rattle.task_words.specs.Answers.{Command, put, get, container_of, name_of, deed_of, answer, is_other_etag}
+use Rattle.task_words.specs.Rows.{row_refusal}
+use Rattle.call_words.specs.Calls.{Ground, alone, task, Call}
+use Rattle.once_law.specs.Maps.{Rows, Slots, with_slot}
+
+-- ---- one command
+
+-- the reply, the bytes that it shows, and the slots after it
+pub record Said : Type 0 where
+  pub reply : MapReply
+  pub shown : List ℕ
+  pub slots : Slots
+
+-- a refusal leaves the slots as they were
+abbrev pub refused : Refusal → Slots → Said
+refused refusal slots = record { reply = Refused refusal; shown = []; slots = slots }
+
+-- the body was sent with the ETag of other bytes
+abbrev pub has_other_etag : Command → Bool
+has_other_etag (put c bytes) = is_other_etag c.etag bytes
+has_other_etag (get c) = false
+
+-- the object answer on the slot of the name, at a clock
+abbrev pub said_of_name : Bucket → Slots → Command → ℕ → ℕ → Said
+said_of_name row slots command zone clock =
+    let a = answer (slots row.id (name_of command)) command zone clock in
+    record { reply = a.reply; shown = a.shown; slots = with_slot slots row.id (name_of command) a.after }
+
+-- in a container that grants it: a body with another ETag is refused
+abbrev pub said_in : Bucket → Slots → Command → ℕ → ℕ → Said
+said_in row slots command zone clock =
+    if has_other_etag command then refused OtherEtag slots else said_of_name row slots command zone clock
+
+-- the row refuses it, or grants it
+abbrev pub said_by : Option Refusal → Option Bucket → Slots → Command → ℕ → ℕ → Said
+said_by (Some refusal) row slots command zone clock = refused refusal slots
+said_by None None slots command zone clock = refused NoContainer slots
+said_by None (Some row) slots command zone clock = said_in row slots command zone clock
+
+-- what stays the same from call to call: the zone, who asks, the rows; and the clock at the event that decides the reply to
+-- the actor of each count
+pub record Fixed : Type 0 where
+  pub zone : ℕ
+  pub asker : Asker
+  pub rows : Rows
+  pub clocks : ℕ → ℕ
+
+-- what a command of this actor is replied
+abbrev pub said : Fixed → Slots → Command → ℕ → Said
+said x slots command actor =
+    let row = x.rows (container_of command) in
+    said_by (row_refusal x.asker row (deed_of command)) row slots command x.zone (x.clocks actor)
+
+-- ---- ends of a task
+
+-- an end that is no reply of the maps: a shard was held, or did not serve; a tag was too old; there was no room
+abbrev pub IsOutside : Outcome → Type 0
+IsOutside (Busy id) = Unit {0}
+IsOutside MovedOften = Unit {0}
+IsOutside LateTag = Unit {0}
+IsOutside (NoSpace free needed) = Unit {0}
+IsOutside outcome = ⊥
+
+-- the task ended with the reply of the maps, or with an end that is none
+abbrev pub IsSaid : Said → Outcome → List ℕ → Type 0
+IsSaid s (Done reply) shown = (reply ≡ s.reply) × (shown ≡ s.shown)
+IsSaid s outcome shown = IsOutside outcome × (shown ≡ [])
+
+-- an end that is no reply of the maps leaves the slots as they were
+abbrev pub left_by : Said → Outcome → Slots → Slots
+left_by s (Done reply) slots = s.slots
+left_by s outcome slots = slots
+
+-- ---- one call
+
+-- the command that it is; none where the request is refused before any name is looked at
+abbrev pub command_in : Asked → List ℕ → Option Command
+command_in Asks.BadHost body = None
+command_in (Asks.Refused why) body = None
+command_in (Asks.Put c) body = Some (put c body)
+command_in (Asks.Get c) body = Some (get c)
+
+abbrev pub command_of : Call → Option Command
+command_of call = command_in call.asked call.request.body
+
+-- a request alone is no command, and shows no bytes
+abbrev pub IsSaidTo : Fixed → Slots → Option Command → Ground → List ℕ → Type 0
+IsSaidTo x slots None alone shown = shown ≡ []
+IsSaidTo x slots (Some command) (task actor outcome) shown = IsSaid (said x slots command actor) outcome shown
+IsSaidTo x slots command basis shown = ⊥
+
+abbrev pub left_behind : Fixed → Slots → Option Command → Ground → Slots
+left_behind x slots (Some command) (task actor outcome) = left_by (said x slots command actor) outcome slots
+left_behind x slots command basis = slots
+
+-- the call is replied as the rows and the slots say
+abbrev pub IsFolded : Fixed → Slots → Call → Type 0
+IsFolded x slots call = IsSaidTo x slots (command_of call) call.ground call.shown
+
+-- the slots after it
+abbrev pub slots_after : Fixed → Slots → Call → Slots
+slots_after x slots call = left_behind x slots (command_of call) call.ground
+
+-- ---- calls
+
+-- each call is replied as the rows and the slots say that the calls before it left
+abbrev pub AreFolded : Fixed → Slots → List Call → Type 0
+AreFolded x slots [] = Unit {0}
+AreFolded x slots (call ∷ calls) = IsFolded x slots call × AreFolded x (slots_after x slots call) calls
+
+-- the slots after all of them
+abbrev pub slots_behind : Fixed → Slots → List Call → Slots
+slots_behind x slots [] = slots
+slots_behind x slots (call ∷ calls) = slots_behind x (slots_after x slots call) calls
+
+-- the maps replied, or there was no room
+abbrev pub IsRepliedOrFull : Ground → Type 0
+IsRepliedOrFull alone = Unit {0}
+IsRepliedOrFull (task actor (Done reply)) = Unit {0}
+IsRepliedOrFull (task actor (NoSpace free needed)) = Unit {0}
+IsRepliedOrFull basis = ⊥
+
+abbrev pub AreRepliedOrFull : List Call → Type 0
+AreRepliedOrFull calls = AllByRecursion (λ call. IsRepliedOrFull call.ground) calls

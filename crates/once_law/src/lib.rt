@@ -1,0 +1,7 @@
+//! The replies to calls that nobody else's events come between are those of the bucket maps, folded over
+//! the calls from what stood before them.
+#![tactic(auto)]
+
+mod laws;
+
+pub use laws::{calls_fold_over_the_maps, only_room_is_wanting};

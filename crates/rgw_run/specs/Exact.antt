@@ -1,0 +1,80 @@
+-- What a run of `once` at one moment replies: the replies of one bucket map, folded over the calls from the empty container.
+use Rattle.std.specs.Prelude.{◌≡◌, ℕ, List, [], bytes_eq, Option, Some, None, Result, Ok, Err, IfSome, refl, if◌then◌else◌}
+use Rattle.gw_io.specs.Ends.{EndsState}
+use Rattle.rgw_model.specs.Stamps.{counted_moment}
+use Rattle.realm_core.specs.Realms.{RealmView}
+use Rattle.realm_model.specs.Doors.{DoorView}
+use Rattle.realm_model.specs.declared.event.Event.{Event}
+use Rattle.swift_auth.specs.Users.{standard_user, account_of}
+use Rattle.container_preset.specs.Presets.{made_row}
+use Rattle.call_words.specs.Calls.{Call}
+use Rattle.call_service.specs.Serving.{Side}
+use Rattle.call_service.specs.declared.fault.ServeFault.{ServeFault}
+use Rattle.call_service.specs.declared.fault.ServeFault.TheVariants as faults
+use Rattle.gateway.specs.Calls.{standard_asker, site_of}
+use Rattle.gateway.specs.Serving.{LeavesAt, ServesConnection}
+use Rattle.gateway.specs.declared.serve.Served.{Served}
+use Rattle.once_law.specs.Maps.{Rows, no_slots}
+use Rattle.once_law.specs.Folds.{Fixed, AreFolded, AreRepliedOrFull}
+use Rattle.rgw_run.specs.declared.once_end.OnceEnd.{OnceEnd}
+use Rattle.rgw_run.specs.declared.once_end.OnceEnd.TheVariants.{Unmade, Unbegun, Ended, Stopped}
+use Rattle.rgw_run.specs.declared.words.Once.{Once}
+use Rattle.rgw_run.specs.Runs.{standard_settings, making, door_behind, with_clock, Leaves, RunsAt}
+
+-- ---- the calls
+
+-- the calls that were replied whole before a fault
+abbrev pub calls_before : (found : List Event) (x y : Side) (fault : ServeFault) → LeavesAt (Unit {0}) (Unit {0}) (site_of standard_settings 1) 1 found x y fault → List Call
+calls_before found x y faults.ReadFault left = left.calls
+calls_before found x y faults.OutOfMemory left = left.calls
+calls_before found x y faults.WriteFault left = left.calls
+calls_before found x y faults.Worn left = left.calls
+calls_before found x y (faults.Late read_at clock) left = left.calls
+
+-- the calls of a connection whose replies were written whole
+abbrev pub calls_in : (found : List Event) (d e : DoorView) (old new : EndsState) (result : Result Served ServeFault) → ServesConnection (Unit {0}) (Unit {0}) (site_of standard_settings 1) found d e old new result → List Call
+calls_in found d e old new (Ok served) serves = serves.served.calls
+calls_in found d e old new (Err fault) serves = calls_before found _ _ fault (serves.left fault refl).1
+
+-- ---- the bucket map
+
+-- the one row, of a container that was made by the first events of the realm: a read of its name, its shards and it
+abbrev pub one_row : List ℕ → Rows
+one_row bucket name =
+    if bytes_eq name bucket then Some (made_row standard_settings (account_of standard_user) 1 13) else None
+
+-- what stays the same from call to call of a run at one moment
+abbrev pub fixed_at : List ℕ → ℕ → Fixed
+fixed_at bucket moment = record {
+  zone = 1;
+  asker = standard_asker;
+  rows = one_row bucket;
+  clocks = λ actor. counted_moment moment;
+}
+
+-- The calls are replied as the map of the one container says, which has no name at first; but where there is no room, which
+-- leaves the map as it was.
+pub record AreExact (bucket : List ℕ) (moment : ℕ) (calls : List Call) : Type 0 where
+  pub folded : AreFolded (fixed_at bucket moment) no_slots calls
+  pub full : AreRepliedOrFull calls
+
+-- ---- a run
+
+-- the calls whose replies were written whole are so replied, however the run ended
+abbrev pub IsExactEnd : (bucket : List ℕ) (moment : ℕ) (old new : EndsState) (realm : Option RealmView) (end : OnceEnd) → Leaves bucket old new realm end → Type 0
+IsExactEnd bucket moment old new realm Unmade leaves = Unit {0}
+IsExactEnd bucket moment old new realm (Unbegun fault) leaves = Unit {0}
+IsExactEnd bucket moment old new realm (Ended served) leaves =
+    AreExact bucket moment (calls_in leaves.door.seen (door_behind (making bucket leaves.moment)) leaves.door leaves.middle new (Ok served) leaves.serves)
+IsExactEnd bucket moment old new realm (Stopped fault) leaves =
+    AreExact bucket moment (calls_in leaves.door.seen (door_behind (making bucket leaves.moment)) leaves.door leaves.middle new (Err fault) leaves.serves)
+
+-- a run at one moment, with the replies of the bucket map
+pub record RunsExactly (bucket : List ℕ) (moment : ℕ) (old new : EndsState) (realm : Option RealmView) (status : ℕ) : Type 0 where
+  pub runs : RunsAt bucket moment old new realm status
+  pub exact : IsExactEnd bucket moment (with_clock old moment []) (with_clock new moment runs.told) realm runs.runs.end runs.runs.leaves
+
+-- where the words say the moment
+abbrev pub RunsExactlyIf : Option Once → EndsState → EndsState → Option RealmView → ℕ → Type 0
+RunsExactlyIf words old new realm status =
+    IfSome words (λ asked. IfSome asked.now (λ moment. RunsExactly asked.bucket moment old new realm status))
