@@ -1,5 +1,5 @@
 -- The own events of a GET read: the container's row, the head, and tails.
-use Rattle.std.proofs.Common.{◌≡◌, ℕ, Bool, true, false, cond, List, [], ◌∷◌, ◌++◌, map, filter, Some, None, Option, refl, sym, ap, ◌∙◌, subst}
+use Rattle.std.proofs.Common.{◌≡◌, ℕ, true, List, [], ◌∷◌, ◌++◌, map, Some, None, Option, refl, sym, subst}
 use Rattle.std.specs.List.{AllByRecursion}
 use Rattle.rgw_types.specs.Stripes.{ManifestView}
 use Rattle.object_words.specs.declared.head.SeenSlot.{SeenSlot}
@@ -15,10 +15,12 @@ use Rattle.task_words.specs.declared.reply.MapReply.{MapReply}
 use Rattle.task_words.specs.declared.reply.MapReply.TheVariants.{Refused}
 use Rattle.task_words.specs.declared.reply.Refusal.TheVariants.{Unauthorized, Denied, NoContainer}
 use Rattle.task_words.specs.declared.span.ByteRange.{ByteRange}
+use Rattle.task_words.specs.Outcomes.{IsGetOutcome}
+use Rattle.call_service.specs.Serving.{MissesStripe}
 use Rattle.task_get.specs.declared.request.GetRequest.{GetRequest}
 use Rattle.task_get.specs.declared.stage.Stage.{Stage}
 use Rattle.task_get.specs.declared.stage.Stage.TheVariants.{Look, Open, Tails, Ended, Late}
-use Rattle.task_get.specs.Gets.{GrantedBy, ReadsHead, ReadsRow, ops_in, ReadsAll, MissesTail, EndsWith, Means, HasOpened, FitsStage}
+use Rattle.task_get.specs.Gets.{ReadsHead, ReadsRow, ops_in, ReadsAll, EndsWith, Means, FitsStage}
 use Rattle.task_get.specs.Pieces.{read_of, reads_of, tail_reads}
 use Rattle.task_get.specs.Replies.{range_of}
 use Rattle.call_words.specs.Events.{is_of_get, AreOfGet}
@@ -91,3 +93,10 @@ stage_reads r (Tails v) y p events x =
     (front_reads x.tails _ (subst OpsOfGet x.asked (tails_read r.zone r.get (Live x.new x.stamp))))
 stage_reads r (Ended outcome given) y p events x = means_reads r outcome y events x.0
 stage_reads r (Late v outcome) y p events x = means_reads r outcome y events x.0
+
+-- a GET for which a stripe was gone: that is its last own event
+pub misses_stripe : (r : GetRequest) (read_at clock : ℕ) (y : Account) (events : List OwnEvent) → Means r (LateRead read_at clock) y events
+    → IsGetOutcome r.zone r.asker r.get (LateRead read_at clock) y × MissesStripe clock events
+misses_stripe r read_at clock y events x =
+    let m = x.1 in
+    (x.0, record { front = m.begins.look ∷ m.head ∷ m.tails; last = m.last; stands = m.begins.stands; missed = m.missed })

@@ -1,52 +1,40 @@
 -- At one moment no shard is held or left, and no tag comes to its end.
-use Rattle.std.proofs.Common.{◌≡◌, ◌⊎◌, inl, inr, ℕ, ◌+◌, ◌≤◌, ◌<◌, ◌==◌, ◌&&◌, ◌||◌, not, Bool, true, false, cond, List, [], ◌∷◌, ◌++◌, Some, None, Option, refl, sym, ◌∙◌, ap, subst, arith, nat_lt, nat_le, append_assoc}
+use Rattle.std.proofs.Common.{◌≡◌, ◌⊎◌, inl, inr, ℕ, ◌+◌, ◌<◌, ◌==◌, ◌&&◌, ◌||◌, not, Bool, true, false, cond, List, [], ◌∷◌, Some, None, Option, refl, sym, ◌∙◌, ap, subst, arith, nat_lt}
 use Rattle.std.specs.List.{AllByRecursion}
 use Rattle.std.specs.Prelude.{is_some}
-use Rattle.std.proofs.lemmas.List.{append-nil}
 use Rattle.std.proofs.lemmas.Bool.Decides.{nat_tests}
 use Rattle.rgw_types.specs.declared.pool_key.Key.{Key}
-use Rattle.rgw_model.specs.Stamps.{counted_moment}
 use Rattle.object_words.specs.declared.bucket.Bucket.{Bucket}
-use Rattle.object_words.specs.declared.entry.Guard.{Guard}
-use Rattle.object_words.specs.declared.head.Changed.{Changed}
-use Rattle.object_words.specs.declared.head.Conditions.{Conditions}
-use Rattle.object_words.specs.declared.head.NewHead.{NewHead}
 use Rattle.object_words.specs.declared.why.Why.{Why}
-use Rattle.object_words.specs.declared.why.Why.TheVariants.{Held, Moved, Closed, NoTag, Expired, NotMet, NoSpace}
-use Rattle.object_words.specs.Conditions.{fails}
-use Rattle.object_words.specs.Heads.{Head, etag_of, seen_stamp, frames_for}
-use Rattle.object_words.specs.HeadCalls.{guard_refusal, condition_refusal, space_refusal, write_refusal, written, change_of}
+use Rattle.object_words.specs.declared.why.Why.TheVariants.{Held, NoTag}
 use Rattle.object_words.specs.Hashes.{shard_of}
-use Rattle.object_words.specs.Keys.{is_key, shard_key, head_key, container_of, instance_of, number_of}
+use Rattle.object_words.specs.Keys.{is_key, shard_key, container_of, instance_of, number_of}
 use Rattle.object_words.specs.Names.{Named, at, entries}
 use Rattle.object_words.specs.Refusals.{first_refusal, fate_refusal, hold_refusal, change_refusal}
 use Rattle.object_words.specs.ShardCalls.{prepare_refusal, tag_refusal, complete_refusal}
 use Rattle.object_words.specs.Shards.{Shard, entry_at}
 use Rattle.object_words.specs.Tags.{has_tag, guard_of}
 use Rattle.object_words.proofs.KeyLemmas.{same_key}
-use Rattle.realm_model.specs.Settings.{SettingsView, IsSettings}
+use Rattle.realm_model.specs.Settings.{SettingsView}
 use Rattle.realm_model.specs.Tests.{is_so}
-use Rattle.realm_model.specs.Ops.{zone_of}
-use Rattle.realm_model.specs.States.{State, number_next, clock_at, at_moment}
+use Rattle.realm_model.specs.States.{State}
 use Rattle.realm_model.specs.Steps.{reply_or, on_shard, new_tag, reply_of}
-use Rattle.realm_model.specs.Phases.{ActorId, RowRead, Stage, pending, tried, over, OwnTag, OwnChange, Phase}
-use Rattle.realm_model.specs.Needs.{is_between, is_pending, is_over, has_no_tag, has_read, names_shard, is_tag_of, is_change, is_tried_again, is_shard_of_tag, may_change_head, has_parts}
+use Rattle.realm_model.specs.Phases.{ActorId, RowRead, Stage, pending, tried, over, OwnTag, Phase}
+use Rattle.realm_model.specs.Needs.{is_pending, is_over, has_no_tag, has_read, names_shard, is_tag_of, is_change, is_tried_again}
 use Rattle.realm_model.specs.Allowed.{meets_need}
-use Rattle.realm_model.specs.Learnt.{at_stage, with_try, announced, changed, tag_after, learnt}
-use Rattle.realm_model.specs.Accounts.{Looked, HoldMet, MovedCount, ExpiredCount, Account, has_shard, looked_since, is_left, moved_at, moved_after, expired_after, held_after}
-use Rattle.realm_model.specs.Worlds.{World, start, actor_of}
-use Rattle.realm_model.specs.Histories.{world_of, state_of, phase_of, Legal}
+use Rattle.realm_model.specs.Accounts.{Looked, MovedCount, has_shard, looked_since, is_left, moved_at}
+use Rattle.realm_model.specs.Histories.{world_of, state_of, phase_of}
 use Rattle.realm_model.specs.declared.op.Op.{Op}
 use Rattle.realm_model.specs.declared.op.Op.TheVariants.{BucketRead, Prepare, Complete, Cancel, HeadRead, HeadWrite, TailMake, TailRead, Announce, BucketSwap}
 use Rattle.realm_model.specs.declared.event.Reply.{Reply}
-use Rattle.realm_model.specs.declared.event.Reply.TheVariants.{Done, No, Prepared, Changed as changed_reply, Position}
+use Rattle.realm_model.specs.declared.event.Reply.TheVariants.{Done, No, Prepared}
 use Rattle.realm_model.specs.declared.event.Event.{Event}
 use Rattle.realm_model.proofs.Computing.{left_of, right_of}
 use Rattle.realm_model.proofs.ObjectLemmas.{number_same}
 use Rattle.index_law.specs.Invariants.{IndexHolds}
-use Rattle.index_law.specs.Serving.{IsServing, IsMade, ShardsServe}
+use Rattle.index_law.specs.Serving.{IsServing, IsMade}
 use Rattle.index_law.specs.Tables.{rows_of}
-use Rattle.index_law.proofs.Tests.{so, writes}
+use Rattle.index_law.proofs.Tests.{so}
 use Rattle.index_law.proofs.TagLists.{find_any}
 use Rattle.once_law.proofs.Standing.{keeps_rows, OfRow}
 

@@ -1,21 +1,19 @@
 -- An actor that makes its events at one moment, on objects alone, meets no hold, no shard that does not serve, and no tag that
 -- came to its end.
-use Rattle.std.proofs.Common.{◌≡◌, ℕ, ◌+◌, ◌≤◌, ◌<◌, Bool, true, false, cond, List, [], ◌∷◌, ◌++◌, Some, None, Option, refl, sym, ◌∙◌, ap, subst, arith, nat_le, nat_lt, ◌^◌, ◌-◌, min, append_assoc}
+use Rattle.std.proofs.Common.{◌≡◌, ℕ, ◌≤◌, ◌<◌, Bool, true, false, cond, List, [], ◌∷◌, ◌++◌, Some, None, Option, refl, sym, ◌∙◌, ap, subst, arith, nat_le, nat_lt, ◌^◌, ◌-◌, min, append_assoc}
 use Rattle.std.specs.List.{AllByRecursion}
 use Rattle.std.proofs.lemmas.List.{append-nil}
 use Rattle.std.proofs.lemmas.Bool.Decides.{nat_tests}
 use Rattle.rgw_types.specs.declared.pool_key.Key.{Key}
 use Rattle.rgw_model.specs.Stamps.{counted_moment}
-use Rattle.object_words.specs.declared.bucket.Bucket.{Bucket}
 use Rattle.object_words.specs.declared.entry.Guard.{Guard}
 use Rattle.object_words.specs.declared.head.Changed.{Changed}
 use Rattle.object_words.specs.declared.head.Conditions.{Conditions}
 use Rattle.object_words.specs.declared.head.NewHead.{NewHead}
-use Rattle.object_words.specs.declared.why.Why.{Why}
 use Rattle.object_words.specs.declared.why.Why.TheVariants.{Held, Moved, Closed, Expired, NotMet, NoSpace}
 use Rattle.object_words.specs.Conditions.{fails}
 use Rattle.object_words.specs.Heads.{Head, etag_of, seen_stamp, frames_for}
-use Rattle.object_words.specs.HeadCalls.{guard_refusal, condition_refusal, space_refusal, write_refusal, written, change_of}
+use Rattle.object_words.specs.HeadCalls.{guard_refusal, condition_refusal, space_refusal, write_refusal}
 use Rattle.object_words.specs.Keys.{head_key, shard_key}
 use Rattle.object_words.specs.Refusals.{first_refusal}
 use Rattle.object_words.specs.ShardCalls.{prepare_refusal}
@@ -28,11 +26,10 @@ use Rattle.realm_model.specs.Steps.{reply_or, on_shard, new_tag, reply_of}
 use Rattle.realm_model.specs.Phases.{ActorId, Stage, over, OwnTag, OwnChange, Phase, fresh}
 use Rattle.realm_model.specs.Needs.{is_between, may_change_head}
 use Rattle.realm_model.specs.Allowed.{meets_need}
-use Rattle.realm_model.specs.Learnt.{at_stage, with_try, announced, changed, tag_after, learnt}
-use Rattle.realm_model.specs.Accounts.{Looked, HoldMet, MovedCount, ExpiredCount, Account, blank, looked_since, is_left, moved_after, lateness_after, held_after, accounted}
-use Rattle.realm_model.specs.Maps.{heads}
-use Rattle.realm_model.specs.Worlds.{World, start, actor_of}
-use Rattle.realm_model.specs.Histories.{Doings, doings_of, done, world_of, state_of, phase_of, account_of, Legal}
+use Rattle.realm_model.specs.Learnt.{at_stage, with_try, announced, changed, tag_after}
+use Rattle.realm_model.specs.Accounts.{HoldMet, ExpiredCount, Account, blank, looked_since, is_left, moved_after, lateness_after, held_after}
+use Rattle.realm_model.specs.Worlds.{start, actor_of}
+use Rattle.realm_model.specs.Histories.{Doings, world_of, state_of, phase_of, account_of, Legal}
 use Rattle.realm_model.specs.declared.op.Op.{Op}
 use Rattle.realm_model.specs.declared.op.Op.TheVariants.{Prepare, Complete, Cancel, Page, Stats, HeadWrite, Announce}
 use Rattle.realm_model.specs.declared.event.Reply.{Reply}
@@ -40,14 +37,12 @@ use Rattle.realm_model.specs.declared.event.Reply.TheVariants.{No, Prepared, Cha
 use Rattle.realm_model.specs.declared.event.Event.{Event}
 use Rattle.realm_model.proofs.Computing.{left_of, right_of}
 use Rattle.realm_model.proofs.Doing.{doings-next}
-use Rattle.realm_model.proofs.Rising.{bounded}
 use Rattle.realm_model.proofs.Runs.{legal_front, last_is_next}
 use Rattle.index_law.specs.Invariants.{IndexHolds}
 use Rattle.index_law.specs.Serving.{IsServing, IsMade}
-use Rattle.index_law.specs.Tables.{rows_of}
 use Rattle.index_law.proofs.Consequences.{holds_at, shards_at}
 use Rattle.index_law.proofs.Tests.{writes}
-use Rattle.once_law.proofs.Standing.{keeps_rows, OfRow, Standing, stands_one_more}
+use Rattle.once_law.proofs.Standing.{Standing, stands_one_more}
 use Rattle.once_law.proofs.Calm.{is_of_task, IsShardKey, own_key, prepare_key, complete_key, cancel_key, prepare_stays, ends_stay, holds_none, left_count, made_by_look, task_keeps}
 use Rattle.once_law.proofs.Moments.{same_clock, clock_behind}
 use Rattle.once_law.specs.Runs.{AreAt}
@@ -212,22 +207,22 @@ module _ (settings : SettingsView) (good : IsSettings settings) (base : List Eve
         by_op : (op : Op) → is_of_task op ≡ true → meets_need settings p op ≡ true → reply ≡ reply_of settings st op → (moved_after y.moved y.looked op reply number).count ≡ 0
         by_op (Prepare zone key name) task need said =
             left_count y.moved y.looked zone key reply number calm.moved (λ left named.
-                let m = found zone key (prepare_key settings p own zone key name need) (y.moved).last named in
-                let stays = prepare_stays settings st zone key name m.shard m.there (serving zone key m.shard m.there) in
-                let clash : false ≡ true = sym stays ∙ ap is_left (sym said) ∙ left in
-                cc)
+            let m = found zone key (prepare_key settings p own zone key name need) (y.moved).last named in
+            let stays = prepare_stays settings st zone key name m.shard m.there (serving zone key m.shard m.there) in
+            let clash : false ≡ true = sym stays ∙ ap is_left (sym said) ∙ left in
+            cc)
         by_op (Complete zone key name tag version row) task need said =
             left_count y.moved y.looked zone key reply number calm.moved (λ left named.
-                let m = found zone key (complete_key settings p own zone key name tag version row need) (y.moved).last named in
-                let stays = ends_stay settings st zone key name m.shard m.there (serving zone key m.shard m.there) tag in
-                let clash : false ≡ true = sym stays ∙ ap is_left (sym said) ∙ left in
-                cc)
+            let m = found zone key (complete_key settings p own zone key name tag version row need) (y.moved).last named in
+            let stays = ends_stay settings st zone key name m.shard m.there (serving zone key m.shard m.there) tag in
+            let clash : false ≡ true = sym stays ∙ ap is_left (sym said) ∙ left in
+            cc)
         by_op (Cancel zone key name tag) task need said =
             left_count y.moved y.looked zone key reply number calm.moved (λ left named.
-                let m = found zone key (cancel_key settings p own zone key name tag need) (y.moved).last named in
-                let stays = ends_stay settings st zone key name m.shard m.there (serving zone key m.shard m.there) tag in
-                let clash : false ≡ true = sym stays ∙ ap is_left (sym said) ∙ left in
-                cc)
+            let m = found zone key (cancel_key settings p own zone key name tag need) (y.moved).last named in
+            let stays = ends_stay settings st zone key name m.shard m.there (serving zone key m.shard m.there) tag in
+            let clash : false ≡ true = sym stays ∙ ap is_left (sym said) ∙ left in
+            cc)
         by_op (Page zone key from limit) task need said = let clash : false ≡ true = task in absurd (cc)
         by_op (Stats zone key) task need said = let clash : false ≡ true = task in absurd (cc)
         by_op op task need said = calm.moved

@@ -1,12 +1,12 @@
 -- Calls, one after another.
-use Rattle.std.proofs.Common.{◌≡◌, ◌⊎◌, inl, inr, ℕ, ◌+◌, ◌≤◌, ◌<◌, ◌^◌, ◌==◌, Bool, true, false, cond, List, [], ◌∷◌, ◌++◌, length, Some, None, Option, refl, sym, ◌∙◌, ap, subst, arith, append_assoc}
+use Rattle.std.proofs.Common.{◌≡◌, ℕ, ◌+◌, ◌≤◌, ◌<◌, ◌^◌, ◌==◌, true, false, cond, List, [], ◌∷◌, ◌++◌, length, Some, refl, sym, ◌∙◌, ap, subst, arith, append_assoc}
 use Rattle.std.specs.List.{AllByRecursion}
 use Rattle.std.proofs.lemmas.List.{append-nil}
 use Rattle.std.proofs.lemmas.Bool.Decides.{nat_tests}
 use Rattle.object_words.specs.Names.{at}
 use Rattle.object_words.proofs.KeyLemmas.{number_itself}
 use Rattle.realm_model.specs.Settings.{SettingsView}
-use Rattle.realm_model.specs.States.{State, clock_at}
+use Rattle.realm_model.specs.States.{clock_at}
 use Rattle.realm_model.specs.Phases.{ActorId}
 use Rattle.realm_model.specs.Accounts.{Decided, Account, blank}
 use Rattle.realm_model.specs.Owns.{OwnEvent, clock_after, own_from, own_events, NoneBy}
@@ -18,23 +18,21 @@ use Rattle.realm_model.specs.declared.event.Event.{Event}
 use Rattle.realm_model.proofs.ObjectLemmas.{actor_itself}
 use Rattle.realm_model.proofs.Others.{account-others}
 use Rattle.realm_model.proofs.Runs.{legal_front}
-use Rattle.realm_door.specs.Steps.{actor_of_pass, IsSame}
+use Rattle.realm_door.specs.Steps.{actor_of_pass}
 use Rattle.realm_door.proofs.Others.{own-append, same_after_others}
 use Rattle.swift_requests.specs.declared.asked.Asked.{Asked}
 use Rattle.swift_requests.specs.declared.asked.Asked.TheVariants as Asks
 use Rattle.task_words.specs.declared.asker.Asker.{Asker}
 use Rattle.task_words.specs.declared.outcome.Outcome.{Outcome}
-use Rattle.task_words.specs.Answers.{Command, put, get}
 use Rattle.call_words.specs.Calls.{Ground, alone, task, Call, IsBorneOut, RestsOn, IsOfNext, actor_after, AreRight}
 use Rattle.call_words.specs.Events.{is_of_get, is_of_put, AreOfGet, AreOfPut}
 use Rattle.call_words.specs.Made.{AreBy, AreMadeFor, AreMade}
-use Rattle.call_words.proofs.Staying.{in_order}
-use Rattle.once_law.specs.Maps.{Slots, rows_in, slots_in}
+use Rattle.once_law.specs.Maps.{rows_in, slots_in}
 use Rattle.once_law.specs.Folds.{command_in, IsSaidTo, left_behind, AreFolded, slots_behind}
-use Rattle.once_law.specs.Runs.{NoneFrom, AreAlone, AreClocks, fixed_by, AreOfMaps}
+use Rattle.once_law.specs.Runs.{NoneFrom, AreClocks, fixed_by, AreOfMaps}
 use Rattle.once_law.proofs.Standing.{keeps_rows, Standing, stands_first, stands_behind}
 use Rattle.once_law.proofs.Stamps.{found_early}
-use Rattle.once_law.proofs.Saying.{IsDone, get_done, put_done}
+use Rattle.once_law.proofs.Saying.{get_done, put_done}
 
 -- ---- operations
 

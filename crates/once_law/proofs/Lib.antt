@@ -6,3 +6,4 @@ pub mod Folding
 pub mod Moments
 pub mod Calm
 pub mod Calms
+pub mod Missing

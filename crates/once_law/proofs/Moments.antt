@@ -1,13 +1,12 @@
 -- Where each event brings one moment, each reply is decided at it.
-use Rattle.std.proofs.Common.{◌≡◌, ℕ, ◌+◌, ◌≤◌, ◌<◌, max, Bool, true, false, List, [], ◌∷◌, ◌++◌, length, Some, Option, refl, sym, ◌∙◌, ap, subst, arith}
+use Rattle.std.proofs.Common.{◌≡◌, ℕ, ◌≤◌, true, false, List, [], ◌∷◌, ◌++◌, refl, sym, ◌∙◌, ap, subst, arith}
 use Rattle.rgw_model.specs.Stamps.{counted_moment}
 use Rattle.realm_model.specs.Settings.{SettingsView}
 use Rattle.realm_model.specs.States.{clock_at}
 use Rattle.realm_model.specs.Phases.{ActorId}
-use Rattle.realm_model.specs.Accounts.{Decided}
 use Rattle.realm_model.specs.Owns.{clock_after, NoneBy}
 use Rattle.realm_model.specs.Worlds.{start, same_actor, actor_of}
-use Rattle.realm_model.specs.Histories.{state_of, account_of}
+use Rattle.realm_model.specs.Histories.{state_of}
 use Rattle.realm_model.specs.declared.event.Event.{Event}
 use Rattle.realm_model.proofs.Deciding.{decided_stands}
 use Rattle.realm_model.proofs.ObjectLemmas.{actor_itself}

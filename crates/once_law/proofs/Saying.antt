@@ -1,27 +1,26 @@
 -- One call: what its account bears out is what the rows and the slots say.
-use Rattle.std.proofs.Common.{◌≡◌, ◌⊎◌, inl, inr, ℕ, ◌+◌, ◌≤◌, Bool, true, false, cond, List, [], ◌∷◌, ◌++◌, length, Some, None, Option, refl, sym, ◌∙◌, ap, subst, arith}
+use Rattle.std.proofs.Common.{◌≡◌, inl, inr, ℕ, Bool, true, false, cond, List, [], length, Some, None, Option, refl, sym, ◌∙◌, ap, subst, arith}
 use Rattle.rgw_model.specs.declared.slot.Slot.{Slot}
 use Rattle.rgw_model.specs.declared.slot.Slot.TheVariants as Slots
 use Rattle.rgw_model.specs.declared.slot.Content.{Content}
 use Rattle.rgw_types.specs.declared.stamp.Stamp.{Stamp}
 use Rattle.object_words.specs.declared.bucket.Bucket.{Bucket}
 use Rattle.object_words.specs.Conditions.{fails}
-use Rattle.object_words.specs.Keys.{put as put_at}
 use Rattle.object_words.proofs.KeyLemmas.{number_itself}
 use Rattle.realm_model.specs.Settings.{SettingsView}
-use Rattle.realm_model.specs.Accounts.{Looked, Decided, Account}
+use Rattle.realm_model.specs.Accounts.{Decided, Account}
 use Rattle.realm_model.specs.Owns.{OwnEvent}
 use Rattle.realm_model.specs.declared.event.Event.{Event}
 use Rattle.swift_auth.specs.declared.policy.Deed.{Deed}
 use Rattle.swift_auth.specs.declared.policy.Verdict.{Verdict}
 use Rattle.swift_auth.specs.declared.policy.Verdict.TheVariants.{Granted as granted_verdict, Unknown, Denied as denied_verdict}
-use Rattle.swift_auth.specs.Policies.{found_under, verdict_of}
+use Rattle.swift_auth.specs.Policies.{verdict_of}
 use Rattle.task_words.specs.declared.asker.Asker.{Asker}
 use Rattle.task_words.specs.declared.command.GetCommand.{GetCommand}
 use Rattle.task_words.specs.declared.command.PutCommand.{PutCommand}
 use Rattle.task_words.specs.declared.span.ByteRange.{ByteRange}
 use Rattle.task_words.specs.declared.outcome.Outcome.{Outcome}
-use Rattle.task_words.specs.declared.outcome.Outcome.TheVariants.{Done, BodyFailed, Busy, MovedOften, RacedOften, LateTag, LateRead, NoSpace}
+use Rattle.task_words.specs.declared.outcome.Outcome.TheVariants.{Done, BodyFailed, Busy, MovedOften, LateTag, LateRead, NoSpace}
 use Rattle.task_words.specs.declared.reply.MapReply.{MapReply}
 use Rattle.task_words.specs.declared.reply.MapReply.TheVariants.{Stored, Shown, Same, Counted, Refused}
 use Rattle.task_words.specs.declared.reply.Refusal.{Refusal}
@@ -30,14 +29,14 @@ use Rattle.task_words.specs.Answers.{Command, put, get, container_of, name_of, d
 use Rattle.rgw_model.specs.Stamps.{next_stamp}
 use Rattle.task_words.specs.Spans.{bytes_taken}
 use Rattle.task_words.specs.Rows.{refusal_by, row_refusal}
-use Rattle.task_words.specs.Outcomes.{LookedUp, ByRow, ByMap, IsGetReply, IsGetOutcome, IsPutReply, IsPutOutcome}
+use Rattle.task_words.specs.Outcomes.{LookedUp, ByMap, IsGetOutcome, IsPutOutcome}
 use Rattle.call_words.specs.Calls.{AreShownBy, whole}
 use Rattle.call_words.specs.Texts.{outcome_reply, HasReply}
 use Rattle.once_law.specs.Maps.{Slots, rows_in, slots_in, with_slot}
-use Rattle.once_law.specs.Folds.{Said, refused, has_other_etag, said_of_name, said_in, said_by, Fixed, said, IsOutside, IsSaid, left_by}
+use Rattle.once_law.specs.Folds.{Said, refused, has_other_etag, said_of_name, said_in, said_by, Fixed, said, IsSaid, left_by}
 use Rattle.once_law.specs.Runs.{fixed_by}
 use Rattle.once_law.proofs.Slots.{all_slots, with_zone_slot, with_slot_same}
-use Rattle.once_law.proofs.Standing.{OfRow, Found, Unchanged, ChangedOnce, Standing}
+use Rattle.once_law.proofs.Standing.{Found, Unchanged, ChangedOnce, Standing}
 use Rattle.once_law.proofs.Stamps.{HasLater, moves}
 
 -- ---- the row

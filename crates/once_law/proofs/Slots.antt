@@ -1,9 +1,8 @@
 -- What an event leaves of the slots.
-use Rattle.std.proofs.Common.{◌≡◌, ℕ, ◌==◌, Bool, true, false, cond, List, [], ◌∷◌, ◌++◌, Some, None, Option, refl, sym, ◌∙◌, ap, subst}
+use Rattle.std.proofs.Common.{◌≡◌, ℕ, ◌==◌, true, false, cond, List, [], ◌∷◌, ◌++◌, Some, refl, sym, ◌∙◌, ap, subst}
 use Rattle.std.specs.Prelude.{unwrap_or, bytes_eq}
 use Rattle.std.proofs.lemmas.Slice.Eq.{bytes_eq-Decides}
 use Rattle.std.proofs.lemmas.Map.Text.{is_eq-slice_cmp}
-use Rattle.rgw_types.specs.declared.stamp.Stamp.{Stamp}
 use Rattle.rgw_model.specs.declared.slot.Slot.{Slot}
 use Rattle.rgw_model.specs.declared.slot.Slot.TheVariants as Slots
 use Rattle.object_words.specs.declared.head.Changed.{Changed}
@@ -12,19 +11,17 @@ use Rattle.object_words.specs.declared.head.NewHead.{NewHead}
 use Rattle.object_words.specs.declared.head.SeenSlot.{SeenSlot}
 use Rattle.object_words.specs.declared.head.SeenSlot.TheVariants.{Nothing, Live, Mark}
 use Rattle.object_words.specs.declared.entry.Guard.{Guard}
-use Rattle.object_words.specs.Keys.{head_key, put}
+use Rattle.object_words.specs.Keys.{put}
 use Rattle.object_words.specs.Names.{at, with_name}
 use Rattle.object_words.proofs.KeyLemmas.{put_same}
-use Rattle.object_words.proofs.NameLemmas.{is_name_of, at-with_name}
+use Rattle.object_words.proofs.NameLemmas.{at-with_name}
 use Rattle.realm_model.specs.Settings.{SettingsView}
 use Rattle.realm_model.specs.Maps.{Maps, Made, no_maps, mapped, mapped_by, heads, slot_at, whole_bytes, whole_slot}
 use Rattle.realm_model.specs.Maps as maps
 use Rattle.realm_model.specs.Accounts.{slot_now}
 use Rattle.realm_model.specs.Worlds.{start, put_name, made_after}
-use Rattle.realm_model.specs.Histories.{world_of, state_of, Legal}
-use Rattle.realm_model.specs.declared.op.Op.{Op}
+use Rattle.realm_model.specs.Histories.{world_of, Legal}
 use Rattle.realm_model.specs.declared.op.Op.TheVariants.{HeadWrite}
-use Rattle.realm_model.specs.declared.event.Reply.{Reply}
 use Rattle.realm_model.specs.declared.event.Reply.TheVariants.{Changed as changed_reply}
 use Rattle.realm_model.specs.declared.event.Event.{Event}
 use Rattle.realm_model.proofs.Agreeing.{heads_agree}

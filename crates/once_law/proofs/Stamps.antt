@@ -5,7 +5,6 @@ use Rattle.rgw_types.specs.declared.stamp.Stamp.{Stamp}
 use Rattle.rgw_model.specs.declared.slot.Slot.{Slot}
 use Rattle.rgw_model.specs.declared.slot.Slot.TheVariants as Slots
 use Rattle.rgw_model.specs.Stamps.{stamp_of, next_stamp}
-use Rattle.md5.specs.Md5.{md5}
 use Rattle.object_words.specs.declared.head.SeenSlot.{SeenSlot}
 use Rattle.object_words.specs.declared.head.SeenSlot.TheVariants.{Nothing, Live, Mark}
 use Rattle.object_words.specs.Conditions.{fails}

@@ -1,5 +1,5 @@
 -- What the own events of an actor on objects leave of the rows and the slots, and what its account says of them.
-use Rattle.std.proofs.Common.{◌≡◌, ◌⊎◌, inl, inr, ℕ, ◌+◌, ◌≤◌, Bool, true, false, List, [], ◌∷◌, ◌++◌, length, Some, None, Option, refl, sym, ◌∙◌, ap, subst, arith, append_assoc}
+use Rattle.std.proofs.Common.{◌≡◌, ◌⊎◌, inl, inr, ℕ, ◌+◌, ◌≤◌, Bool, true, false, List, [], ◌∷◌, ◌++◌, Some, None, Option, refl, sym, ◌∙◌, ap, subst, arith, append_assoc}
 use Rattle.std.specs.List.{AllByRecursion}
 use Rattle.std.proofs.lemmas.List.{append-nil}
 use Rattle.object_words.specs.declared.bucket.Bucket.{Bucket}
@@ -9,11 +9,11 @@ use Rattle.object_words.specs.declared.head.NewHead.{NewHead}
 use Rattle.object_words.specs.declared.head.SeenSlot.TheVariants.{Live}
 use Rattle.object_words.specs.declared.entry.Guard.{Guard}
 use Rattle.object_words.specs.declared.why.Why.{Why}
-use Rattle.object_words.specs.declared.why.Why.TheVariants.{Expired, Absent}
+use Rattle.object_words.specs.declared.why.Why.TheVariants.{Expired}
 use Rattle.object_words.specs.Names.{at}
 use Rattle.realm_model.specs.Settings.{SettingsView}
 use Rattle.realm_model.specs.States.{State, number_next, clock_at, at_moment, touched}
-use Rattle.realm_model.specs.Steps.{row_reply, reply_of, touch_of, after}
+use Rattle.realm_model.specs.Steps.{row_reply, reply_of, touch_of}
 use Rattle.realm_model.specs.Phases.{ActorId}
 use Rattle.realm_model.specs.Maps.{Maps, Made, heads, mapped, whole_slot}
 use Rattle.realm_model.specs.Accounts.{Looked, Decided, Account, blank, looked_after, slot_now, decided_at, tried_at, decided_after, changes_after, accounted}
@@ -26,7 +26,7 @@ use Rattle.realm_model.specs.declared.event.Reply.TheVariants.{No, Row, Head as 
 use Rattle.realm_model.specs.declared.event.Event.{Event}
 use Rattle.realm_model.proofs.Doing.{doings-next}
 use Rattle.realm_model.proofs.Runs.{state-next, last_is_next, legal_front}
-use Rattle.once_law.specs.Maps.{Slots, rows_in, with_slot}
+use Rattle.once_law.specs.Maps.{rows_in}
 use Rattle.once_law.proofs.Slots.{all_slots, with_zone_slot, slots_still, slots_written}
 
 -- ---- operations

@@ -4,4 +4,4 @@
 
 mod laws;
 
-pub use laws::calls_fold_over_the_maps;
+pub use laws::{calls_fold_over_the_maps, no_stripe_is_missed};

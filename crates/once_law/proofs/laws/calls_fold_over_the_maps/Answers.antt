@@ -1,7 +1,6 @@
 use Rattle.rgw_model.specs.Stamps.{counted_moment}
 use Rattle.once_law.proofs.Folding.{fold}
 use Rattle.once_law.proofs.Moments.{clocks_at}
-use Rattle.once_law.proofs.Calms.{calm_behind}
 use Rattle.once_law.proofs.laws.calls_fold_over_the_maps.Goals as goal
 
 pub returns-clause-maps : goal.returns-clause-maps
