@@ -31,37 +31,42 @@ use Rattle.once_law.specs.Maps.{rows_in, slots_in}
 use Rattle.once_law.specs.Folds.{command_in, IsSaidTo, left_behind, AreFolded, slots_behind}
 use Rattle.once_law.specs.Runs.{NoneFrom, AreClocks, fixed_by, AreOfMaps}
 use Rattle.once_law.proofs.Standing.{keeps_rows, Standing, stands_first, stands_behind}
+use Rattle.once_law.proofs.Calm.{is_of_task, task_keeps}
 use Rattle.once_law.proofs.Stamps.{found_early}
 use Rattle.once_law.proofs.Saying.{get_done, put_done}
 
 -- ---- operations
 
-get_keeps : (op : Op) → is_of_get op ≡ true → keeps_rows op ≡ true
-get_keeps (BucketRead zone name) is = refl
-get_keeps (HeadRead zone container name) is = refl
-get_keeps (TailRead zone write part begin count) is = refl
-get_keeps op is = let e : false ≡ true = is in absurd (cc)
+get_tasks : (op : Op) → is_of_get op ≡ true → is_of_task op ≡ true
+get_tasks (BucketRead zone name) is = refl
+get_tasks (HeadRead zone container name) is = refl
+get_tasks (TailRead zone write part begin count) is = refl
+get_tasks op is = let e : false ≡ true = is in absurd (cc)
 
-put_keeps : (op : Op) → is_of_put op ≡ true → keeps_rows op ≡ true
-put_keeps (BucketRead zone name) is = refl
-put_keeps (TailMake zone write part bytes) is = refl
-put_keeps (Prepare zone key name) is = refl
-put_keeps (Announce zone container instance shard bucket) is = refl
-put_keeps (HeadWrite zone container name guard new when) is = refl
-put_keeps (Complete zone key name tag version row) is = refl
-put_keeps (Cancel zone key name tag) is = refl
-put_keeps op is = let e : false ≡ true = is in absurd (cc)
+put_tasks : (op : Op) → is_of_put op ≡ true → is_of_task op ≡ true
+put_tasks (BucketRead zone name) is = refl
+put_tasks (TailMake zone write part bytes) is = refl
+put_tasks (Prepare zone key name) is = refl
+put_tasks (Announce zone container instance shard bucket) is = refl
+put_tasks (HeadWrite zone container name guard new when) is = refl
+put_tasks (Complete zone key name tag version row) is = refl
+put_tasks (Cancel zone key name tag) is = refl
+put_tasks op is = let e : false ≡ true = is in absurd (cc)
 
-abbrev KeepRows : List OwnEvent → Type 0
-KeepRows events = AllByRecursion (λ e. keeps_rows e.op ≡ true) events
+abbrev pub OfTasks : List OwnEvent → Type 0
+OfTasks events = AllByRecursion (λ e. is_of_task e.op ≡ true) events
 
-gets_keep : (events : List OwnEvent) → AreOfGet events → KeepRows events
-gets_keep [] are = tt
-gets_keep (e ∷ es) are = (get_keeps e.op are.0, gets_keep es are.1)
+pub gets_of_tasks : (events : List OwnEvent) → AreOfGet events → OfTasks events
+gets_of_tasks [] are = tt
+gets_of_tasks (e ∷ es) are = (get_tasks e.op are.0, gets_of_tasks es are.1)
 
-puts_keep : (events : List OwnEvent) → AreOfPut events → KeepRows events
-puts_keep [] are = tt
-puts_keep (e ∷ es) are = (put_keeps e.op are.0, puts_keep es are.1)
+pub puts_of_tasks : (events : List OwnEvent) → AreOfPut events → OfTasks events
+puts_of_tasks [] are = tt
+puts_of_tasks (e ∷ es) are = (put_tasks e.op are.0, puts_of_tasks es are.1)
+
+keep_rows : (es : List Event) → AllByRecursion (λ e. is_of_task e.op ≡ true) es → AllByRecursion (λ e. keeps_rows e.op ≡ true) es
+keep_rows [] are = tt
+keep_rows (e ∷ es) are = (task_keeps e.op are.0, keep_rows es are.1)
 
 -- ---- actors
 
@@ -102,16 +107,41 @@ none_of_later pass count next (call ∷ calls) events later last low settings zo
 
 -- ---- own events
 
-own_ops : (actor : ActorId) (count clock : ℕ) (es : List Event) → AllByRecursion (λ e. actor_of e ≡ actor) es → KeepRows (own_from count clock es actor) → AllByRecursion (λ e. keeps_rows e.op ≡ true) es
-own_ops actor count clock [] by keep = tt
-own_ops actor count clock (e ∷ es) by keep =
+own_ops : (actor : ActorId) (count clock : ℕ) (es : List Event) → AllByRecursion (λ e. actor_of e ≡ actor) es → OfTasks (own_from count clock es actor) → AllByRecursion (λ e. is_of_task e.op ≡ true) es
+own_ops actor count clock [] by are = tt
+own_ops actor count clock (e ∷ es) by are =
     let now = clock_at clock e.moment in
     let own : OwnEvent = record { op = e.op; reply = e.reply; number = count + 1; clock = now } in
     let itself : same_actor actor (actor_of e) ≡ true = subst (λ a. same_actor actor a ≡ true) (sym by.0) (actor_itself actor) in
-    let both = subst (λ b. KeepRows (cond b (own ∷ own_from (count + 1) now es actor) (own_from (count + 1) now es actor))) itself keep in
+    let both = subst (λ b. OfTasks (cond b (own ∷ own_from (count + 1) now es actor) (own_from (count + 1) now es actor))) itself are in
     (both.0, own_ops actor (count + 1) now es by.1 both.1)
 
+-- the events of an actor that made none before
+pub first_ops : (before first : List Event) (pass count : ℕ) → NoneBy (actor_of_pass pass count) before → AreBy pass count first → OfTasks (own_events (before ++ first) (actor_of_pass pass count)) → AllByRecursion (λ e. is_of_task e.op ≡ true) first
+first_ops before first pass count unused own are =
+    let actor = actor_of_pass pass count in
+    let none : own_events before actor ≡ [] = (same_after_others (record { zones = 0; stripe = 0; frame = 0; frames = 0; shards = 0; tag_life = 0; wait = 0; largest = 0; threshold = 0 }) [] before actor unused).events in
+    let joined = own-append 0 0 before first actor ∙ ap (λ (l : List OwnEvent). l ++ own_from (0 + length before) (clock_after 0 before) first actor) none in
+    own_ops actor (0 + length before) (clock_after 0 before) first own (subst OfTasks joined are)
+
+-- an actor without events stands at the first
+pub standing_first : (settings : SettingsView) (before : List Event) (actor : ActorId) → NoneBy actor before → Standing settings before before (account_of settings before actor)
+standing_first settings before actor unused =
+    let at_first : account_of settings before actor ≡ blank = account-others settings [] before actor unused in
+    subst (Standing settings before before) (sym at_first) (stands_first settings before)
+
 -- ---- one call
+
+-- what a longer history says of the actor, a shorter one says, where others alone came in between
+pub rests_before : (settings : SettingsView) (zone : ℕ) (asker : Asker) (pass : ℕ) (history more : List Event) (next : ℕ) (g : Ground) (asked : Asked) (body shown : List ℕ) → IsOfNext next g → NoneBy (actor_of_pass pass next) more
+    → RestsOn settings zone asker pass (history ++ more) asked body shown g → RestsOn settings zone asker pass history asked body shown g
+rests_before settings zone asker pass history more next alone asked body shown of_next none rests = rests
+rests_before settings zone asker pass history more next (task actor outcome) asked body shown of_next none rests =
+    let e : next ≡ actor = sym of_next in
+    let same = same_after_others settings history more (actor_of_pass pass actor) (subst (λ a. NoneBy (actor_of_pass pass a) more) e none) in
+    let account = ap (λ (q : Doings). q.account) same.doings in
+    let there = subst (λ (y : Account). IsBorneOut zone asker asked body outcome shown y (own_events (history ++ more) (actor_of_pass pass actor))) account rests in
+    subst (λ (l : List OwnEvent). IsBorneOut zone asker asked body outcome shown (account_of settings history (actor_of_pass pass actor)) l) same.events there
 
 module _ (settings : SettingsView) (zone : ℕ) (asker : Asker) (pass : ℕ) (clocks : ℕ → ℕ) where
   -- what one call leaves: the rows stay
@@ -128,17 +158,10 @@ module _ (settings : SettingsView) (zone : ℕ) (asker : Asker) (pass : ℕ) (cl
       abbrev y : Account
       y = account_of settings (before ++ first) actor
 
-      kept_rows : KeepRows (own_events (before ++ first) actor) → AllByRecursion (λ e. keeps_rows e.op ≡ true) first
-      kept_rows keep =
-          let none : own_events before actor ≡ [] = (same_after_others settings [] before actor unused).events in
-          let joined = own-append 0 0 before first actor ∙ ap (λ (l : List OwnEvent). l ++ own_from (0 + length before) (clock_after 0 before) first actor) none in
-          own_ops actor (0 + length before) (clock_after 0 before) first own (subst KeepRows joined keep)
-
-      stands : KeepRows (own_events (before ++ first) actor) → Standing settings before (before ++ first) y
-      stands keep =
-          let at_first : account_of settings before actor ≡ blank = account-others settings [] before actor unused in
-          stands_behind settings before actor before first legal own (kept_rows keep)
-          (subst (Standing settings before before) (sym at_first) (stands_first settings before))
+      stands : OfTasks (own_events (before ++ first) actor) → Standing settings before (before ++ first) y
+      stands are =
+          stands_behind settings before actor before first legal own (keep_rows first (first_ops before first pass count unused own are))
+          (standing_first settings before actor unused)
 
       one_task : (asked : Asked) (body : List ℕ) (outcome : Outcome) (shown : List ℕ)
           → ((event : Decided) → y.decided ≡ Some event → clocks count ≡ event.clock)
@@ -149,12 +172,12 @@ module _ (settings : SettingsView) (zone : ℕ) (asker : Asker) (pass : ℕ) (cl
       one_task Asks.BadHost body outcome shown clock borne = absurd borne
       one_task (Asks.Refused why) body outcome shown clock borne = absurd borne
       one_task (Asks.Put c) body outcome shown clock borne =
-          let standing = stands (puts_keep (own_events (before ++ first) actor) borne.3) in
+          let standing = stands (puts_of_tasks (own_events (before ++ first) actor) borne.3) in
           let early = λ (d : Decided) (is : y.decided ≡ Some d). found_early settings (before ++ first) actor d legal few is in
           let done = put_done settings before (before ++ first) zone asker clocks count y standing clock c body outcome (own_events (before ++ first) actor) shown early borne.0 borne.1 borne.2 in
           (standing.roots, done.is_said, done.left)
       one_task (Asks.Get c) body outcome shown clock borne =
-          let standing = stands (gets_keep (own_events (before ++ first) actor) borne.3) in
+          let standing = stands (gets_of_tasks (own_events (before ++ first) actor) borne.3) in
           let done = get_done settings before (before ++ first) zone asker clocks count y standing clock c outcome shown borne.0 borne.1 borne.2 in
           (standing.roots, done.is_said, done.left)
 
@@ -180,32 +203,31 @@ module _ (settings : SettingsView) (zone : ℕ) (asker : Asker) (pass : ℕ) (cl
         (right : AreRight settings zone asker pass ((before ++ first) ++ others) (actor_after next call.ground) calls last)
         (made : AreMade pass calls others later) (by_last : AreBy pass last later)
         (clock : (event : Decided) → (account_of settings ((before ++ first) ++ others) (actor_of_pass pass next)).decided ≡ Some event → clocks next ≡ event.clock) where
-      steps : IsOfNext next call.ground → AreMadeFor pass call.ground first → RestsOn settings zone asker pass ((before ++ first) ++ others) call.asked call.request.body call.shown call.ground → Steps before first call
-      steps of_next own rests = record { roots = parts.0; is_said = parts.1; left = parts.2 } where
-        by_ground : (g : Ground) → AreRight settings zone asker pass ((before ++ first) ++ others) (actor_after next g) calls last → IsOfNext next g → AreMadeFor pass g first
-            → RestsOn settings zone asker pass ((before ++ first) ++ others) call.asked call.request.body call.shown g
-            → ((z : ℕ) → (state_of settings (before ++ first)).root z ≡ (state_of settings before).root z)
-            × IsSaidTo (fixed_by settings before zone asker clocks) (slots_in settings before zone) (command_in call.asked call.request.body) g call.shown
-            × (left_behind (fixed_by settings before zone asker clocks) (slots_in settings before zone) (command_in call.asked call.request.body) g ≡ slots_in settings (before ++ first) zone)
-        by_ground alone right of_next own rests = one_alone call.asked call.request.body call.shown ((before ++ first) ++ others) own rests
-        by_ground (task actor outcome) right of_next own rests =
-            let e : actor ≡ next = of_next in
-            let none = none_of_later pass next (next + 1) calls others later last (omega arith) settings zone asker ((before ++ first) ++ others) right made by_last in
-            let same = same_after_others settings (before ++ first) others (actor_of_pass pass next) none in
-            let account = ap (λ (q : Doings). q.account) same.doings in
-            let own' = subst (λ a. AreBy pass a first) e own in
-            let at_next = subst (λ a. IsBorneOut zone asker call.asked call.request.body outcome call.shown (account_of settings ((before ++ first) ++ others) (actor_of_pass pass a)) (own_events ((before ++ first) ++ others) (actor_of_pass pass a))) e rests in
-            let there = subst (λ (y : Account). IsBorneOut zone asker call.asked call.request.body outcome call.shown y (own_events ((before ++ first) ++ others) (actor_of_pass pass next))) account at_next in
-            let borne = subst (λ (l : List OwnEvent). IsBorneOut zone asker call.asked call.request.body outcome call.shown (account_of settings (before ++ first) (actor_of_pass pass next)) l) same.events there in
-            let done = one_task next unused own' call.asked call.request.body outcome call.shown (λ event is. clock event (ap (λ (y : Account). y.decided) account ∙ is)) borne in
-            subst (λ a. ((z : ℕ) → (state_of settings (before ++ first)).root z ≡ (state_of settings before).root z)
-            × IsSaidTo (fixed_by settings before zone asker clocks) (slots_in settings before zone) (command_in call.asked call.request.body) (task a outcome) call.shown
-            × (left_behind (fixed_by settings before zone asker clocks) (slots_in settings before zone) (command_in call.asked call.request.body) (task a outcome) ≡ slots_in settings (before ++ first) zone)) (sym e) done
+      -- the rows, the reply and the slots
+      abbrev Leaves : Ground → Type 0
+      Leaves g =
+          ((z : ℕ) → (state_of settings (before ++ first)).root z ≡ (state_of settings before).root z)
+          × IsSaidTo (fixed_by settings before zone asker clocks) (slots_in settings before zone) (command_in call.asked call.request.body) g call.shown
+          × (left_behind (fixed_by settings before zone asker clocks) (slots_in settings before zone) (command_in call.asked call.request.body) g ≡ slots_in settings (before ++ first) zone)
 
-        parts : ((z : ℕ) → (state_of settings (before ++ first)).root z ≡ (state_of settings before).root z)
-            × IsSaidTo (fixed_by settings before zone asker clocks) (slots_in settings before zone) (command_in call.asked call.request.body) call.ground call.shown
-            × (left_behind (fixed_by settings before zone asker clocks) (slots_in settings before zone) (command_in call.asked call.request.body) call.ground ≡ slots_in settings (before ++ first) zone)
-        parts = by_ground call.ground right of_next own rests
+      by_ground : (g : Ground) → AreRight settings zone asker pass ((before ++ first) ++ others) (actor_after next g) calls last → IsOfNext next g → AreMadeFor pass g first
+          → RestsOn settings zone asker pass ((before ++ first) ++ others) call.asked call.request.body call.shown g → Leaves g
+      by_ground alone right of_next own rests = one_alone call.asked call.request.body call.shown ((before ++ first) ++ others) own rests
+      by_ground (task actor outcome) right of_next own rests =
+          let e : actor ≡ next = of_next in
+          let none = none_of_later pass next (next + 1) calls others later last (omega arith) settings zone asker ((before ++ first) ++ others) right made by_last in
+          let same = same_after_others settings (before ++ first) others (actor_of_pass pass next) none in
+          let account = ap (λ (q : Doings). q.account) same.doings in
+          let borne = rests_before settings zone asker pass (before ++ first) others next (task actor outcome) call.asked call.request.body call.shown of_next none rests in
+          let at_next = subst (λ a. RestsOn settings zone asker pass (before ++ first) call.asked call.request.body call.shown (task a outcome)) e borne in
+          let own' = subst (λ a. AreBy pass a first) e own in
+          let done = one_task next unused own' call.asked call.request.body outcome call.shown (λ event is. clock event (ap (λ (y : Account). y.decided) account ∙ is)) at_next in
+          subst (λ a. Leaves (task a outcome)) (sym e) done
+
+      steps : IsOfNext next call.ground → AreMadeFor pass call.ground first → RestsOn settings zone asker pass ((before ++ first) ++ others) call.asked call.request.body call.shown call.ground → Steps before first call
+      steps of_next own rests =
+          let parts = by_ground call.ground right of_next own rests in
+          record { roots = parts.0; is_said = parts.1; left = parts.2 }
 
   -- ---- calls
 
@@ -243,7 +265,7 @@ module _ (settings : SettingsView) (zone : ℕ) (asker : Asker) (pass : ℕ) (cl
       }
 
   -- the actors behind a call have no event up to its own
-  unused_behind : (next : ℕ) (g : Ground) (before first : List Event) → IsOfNext next g → AreMadeFor pass g first → NoneFrom pass next before → NoneFrom pass (actor_after next g) (before ++ first)
+  pub unused_behind : (next : ℕ) (g : Ground) (before first : List Event) → IsOfNext next g → AreMadeFor pass g first → NoneFrom pass next before → NoneFrom pass (actor_after next g) (before ++ first)
   unused_behind next alone before first of_next own unused count low =
       subst (λ l. NoneBy (actor_of_pass pass count) (before ++ l)) (sym own)
       (subst (NoneBy (actor_of_pass pass count)) (sym (append-nil before)) (unused count low))

@@ -1,12 +1,13 @@
-//! A law of the definitions: the function does nothing.
+//! Laws of the definitions: the functions here do nothing.
 ghost use Rattle.std.specs.Prelude.{◌≤◌, ◌^◌, ◌++◌, ℕ, List, length};
 ghost use Rattle.rgw_model.specs.Stamps.{counted_moment};
 ghost use Rattle.realm_model.specs.Histories.{state_of, Legal};
-ghost use Rattle.realm_model.specs.Settings.{SettingsView};
+ghost use Rattle.realm_model.specs.Settings.{SettingsView, IsSettings};
 ghost use Rattle.realm_model.specs.declared.event.Event.{Event as EventOf};
 ghost use Rattle.task_words.specs.declared.asker.Asker.{Asker as AskerOf};
 ghost use Rattle.call_words.specs.Calls.{Call};
 ghost use Rattle.once_law.specs.Missing.{MissesNone};
+ghost use Rattle.once_law.specs.Folds.{AreRepliedOrFull};
 ghost use Rattle.once_law.specs.Runs.{AreAlone, AreClocks, AreAt, AreOfMaps};
 
 /// Where nobody else makes events, the replies to calls are those of the rows and the bucket maps, folded
@@ -30,4 +31,16 @@ pub fn calls_fold_over_the_maps()
 /// No read of a stripe is answered that it is gone, since no kind of event takes one away.
 pub fn no_stripe_is_missed()
     ensures { MissesNone }
+{}
+
+/// Where nobody else makes events, and each event brings one moment, every call is replied by the rows and
+/// the bucket maps, but for want of room: no shard is held, none that a row names fails to serve, and no
+/// tag comes to its end.
+pub fn only_room_is_wanting()
+    ensures { (settings : SettingsView) (zone : ℕ) (asker : AskerOf) (pass : ℕ)
+        → (before more : List EventOf) (next : ℕ) (calls : List Call) (last moment : ℕ)
+        → IsSettings settings → Legal settings (before ++ more)
+        → AreAlone settings zone asker pass before more next calls last
+        → (state_of settings before).clock ≤ counted_moment moment → AreAt moment more
+        → AreRepliedOrFull calls }
 {}
