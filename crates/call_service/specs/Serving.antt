@@ -11,10 +11,12 @@ use Rattle.realm_model.specs.Doors.{DoorView, actor_at}
 use Rattle.realm_model.specs.Histories.{Legal, account_of, phase_of}
 use Rattle.realm_model.specs.Accounts.{blank}
 use Rattle.realm_model.specs.Phases.{ActorId, fresh}
-use Rattle.realm_model.specs.Owns.{own_events}
+use Rattle.realm_model.specs.Owns.{OwnEvent, own_events}
 use Rattle.realm_model.specs.Settings.{SettingsView}
 use Rattle.realm_model.specs.Worlds.{actor_of, same_actor}
 use Rattle.realm_model.specs.declared.event.Event.{Event}
+use Rattle.realm_model.specs.declared.event.Reply.TheVariants.{No}
+use Rattle.object_words.specs.declared.why.Why.TheVariants.{Gone}
 use Rattle.realm_door.specs.Steps.{Grows}
 use Rattle.swift_requests.specs.declared.asked.Asked.{Asked}
 use Rattle.swift_requests.specs.declared.asked.Asked.TheVariants.{BadHost, Refused, Put, Get}
@@ -157,6 +159,13 @@ IsLeft tells alone site form asked x y =
     × (more : Bool) × LeavesUnwritten tells alone site more x y)
     ⊎ IsInPart tells alone site form asked x y
 
+-- the last of these events was answered at this clock that the stripe is gone
+pub record MissesStripe (clock : ℕ) (events : List OwnEvent) : Type 0 where
+  pub front : List OwnEvent
+  pub last : OwnEvent
+  pub stands : events ≡ front ++ last ∷ []
+  pub missed : last.reply ≡ No (Gone clock)
+
 -- a stripe of what the GET shows was gone
 abbrev pub IsLateIn : Site → Asked → DoorView → ℕ → ℕ → Type 0
 IsLateIn site BadHost e read_at clock = ⊥
@@ -164,6 +173,7 @@ IsLateIn site (Refused why) e read_at clock = ⊥
 IsLateIn site (Put c) e read_at clock = ⊥
 IsLateIn site (Get c) e read_at clock =
     IsGetOutcome site.zone site.asker c (LateRead read_at clock) (account_of site.settings e.seen (actor_at e))
+    × MissesStripe clock (own_events e.seen (actor_at e))
 
 -- what a fault leaves, where the door's last step found this history
 abbrev pub IsStopped : Type 0 → Type 0 → Site → ReplyForm → Asked → List Event → Side → Side → ServeFault → Type 0

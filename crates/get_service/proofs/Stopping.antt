@@ -10,12 +10,13 @@ use Rattle.task_words.specs.declared.reply.MapReply.{MapReply}
 use Rattle.task_words.specs.Answers.{span_of}
 use Rattle.task_get.specs.declared.request.GetRequest.{GetRequest}
 use Rattle.task_get.specs.declared.task.GetTask.{GetTask}
-use Rattle.task_get.specs.Tasks.{request_of, bytes_of, shown_of, means}
+use Rattle.task_get.specs.Tasks.{account_at, events_at, request_of, bytes_of, shown_of, means}
 use Rattle.call_service.specs.declared.fault.ServeFault.{ServeFault}
 use Rattle.call_service.specs.declared.fault.ServeFault.TheVariants as faults
 use Rattle.call_service.specs.Serving.{AppendsFront}
 use Rattle.get_service.specs.Texts.{StopsPiece, StopsEnd, end_text}
 use Rattle.get_service.specs.Getting.{IsUpTo, brought_at, StopsEvent, HasWritten, IsPartly, Stand, stand, AsksFrom, StopsReply}
+use Rattle.get_service.proofs.OwnReads.{misses_stripe}
 use Rattle.get_service.proofs.Getting.{partly, still_written, piece_in_part, written_still, ended_in_part}
 
 module _ (tells alone : Type 0) (settings : SettingsView) (form : ReplyForm) (found : List Event) where
@@ -53,5 +54,5 @@ module _ (tells alone : Type 0) (settings : SettingsView) (form : ReplyForm) (fo
       let front = subst (λ b. AppendsFront mid now (end_text form (span_of (request_of t).get) b outcome)) stops.0 stops.2 in
       (asks, ended_in_part tells settings form t d outcome up meant x.taken mid now stops.1 unbegun front)
   end_stops t d outcome up meant begun (faults.Late read_at clock) x mid now told asks w stops =
-      (asks, (λ is. (subst (λ o. means (request_of t) o settings d) stops.0 (meant is)).0), partly tells settings form t d begun x.taken now up (written_still tells settings form t d begun x.taken mid now w stops.1))
+      (asks, (λ is. misses_stripe (request_of t) read_at clock (account_at settings d) (events_at d) (subst (λ o. means (request_of t) o settings d) stops.0 (meant is))), partly tells settings form t d begun x.taken now up (written_still tells settings form t d begun x.taken mid now w stops.1))
   end_stops t d outcome up meant begun fault x mid now told asks w stops = absurd stops

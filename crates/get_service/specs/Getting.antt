@@ -21,7 +21,7 @@ use Rattle.task_get.specs.Tasks.{account_at, events_at, request_of, shown_of, Fi
 use Rattle.call_words.specs.Calls.{task, text_by, IsBorneOut}
 use Rattle.call_service.specs.declared.fault.ServeFault.{ServeFault}
 use Rattle.call_service.specs.declared.fault.ServeFault.TheVariants as faults
-use Rattle.call_service.specs.Serving.{Asks, AppendsFront, is_by_end}
+use Rattle.call_service.specs.Serving.{Asks, AppendsFront, is_by_end, MissesStripe}
 use Rattle.get_service.specs.Texts.{text_up_to}
 
 -- ---- the task
@@ -100,5 +100,5 @@ StopsReply tells alone settings form r found x y faults.WriteFault =
     AsksFrom tells alone settings false x y × Replies tells settings form r y.door (AppendsFront x.taken y.taken)
 StopsReply tells alone settings form r found x y (faults.Late read_at clock) =
     AsksFrom tells alone settings false x y
-    × (tells → IsGetOutcome r.zone r.asker r.get (LateRead read_at clock) (account_at settings y.door))
+    × (tells → IsGetOutcome r.zone r.asker r.get (LateRead read_at clock) (account_at settings y.door) × MissesStripe clock (events_at y.door))
     × IsPartly tells settings form r y.door x.taken y.taken

@@ -6,4 +6,5 @@ pub mod Folding
 pub mod Moments
 pub mod Calm
 pub mod Calms
+pub mod Missing
 pub mod Full

@@ -1,3 +1,4 @@
 pub mod Maps
 pub mod Folds
 pub mod Runs
+pub mod Missing

@@ -6,6 +6,7 @@ ghost use Rattle.realm_model.specs.Settings.{SettingsView, IsSettings};
 ghost use Rattle.realm_model.specs.declared.event.Event.{Event as EventOf};
 ghost use Rattle.task_words.specs.declared.asker.Asker.{Asker as AskerOf};
 ghost use Rattle.call_words.specs.Calls.{Call};
+ghost use Rattle.once_law.specs.Missing.{MissesNone};
 ghost use Rattle.once_law.specs.Folds.{AreRepliedOrFull};
 ghost use Rattle.once_law.specs.Runs.{AreAlone, AreClocks, AreAt, AreOfMaps};
 
@@ -25,6 +26,11 @@ pub fn calls_fold_over_the_maps()
         → AreAlone settings zone asker pass before more next calls last
         → (state_of settings before).clock ≤ counted_moment moment → AreAt moment more
         → AreOfMaps settings zone asker before more calls (λ count. counted_moment moment) }
+{}
+
+/// No read of a stripe is answered that it is gone, since no kind of event takes one away.
+pub fn no_stripe_is_missed()
+    ensures { MissesNone }
 {}
 
 /// Where nobody else makes events, and each event brings one moment, every call is replied by the rows and
