@@ -52,5 +52,5 @@ ends_at bytes (Some at) found = (
   found.0.high,
   by_places bytes at (omega (arith, found.0.high)) (λ k below. found.0.before k (omega arith) below),
   (let next : at + 1 ≡ suc at = omega arith in
-  rw next (drop-cons bytes at 0 found.0.high ∙ ap (λ b. b ∷ drop (suc at) bytes) (feed_there (slice_index bytes at) found.1))),
+      rw next (drop-cons bytes at 0 found.0.high ∙ ap (λ b. b ∷ drop (suc at) bytes) (feed_there (slice_index bytes at) found.1))),
 )

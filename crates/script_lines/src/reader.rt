@@ -74,7 +74,11 @@ impl LineReader {
     pub fn line(&self) -> &[u8]
         ensures { result.now ≡ self.now.line }
     {
-        if self.is_given { self.line.as_slice() } else { &[] }
+        if self.is_given {
+            self.line.as_slice()
+        } else {
+            &[]
+        }
     }
 
     /// The next line of the input. A line ends with a line feed; a last line without one counts too. No byte is

@@ -51,18 +51,21 @@ body_means (first ∷ rest) body read =
     let word = first ∷ rest in
     let dash = bytes_eq word (codes "-") in ⊎_elim
     (λ (star : ((first == 42) ≡ true) × (times_in rest ≡ Some body)).
-        times_mean word rest body (ap (λ b. b ∷ rest) (eqb-true first 42 star.0)) star.1)
+    times_mean word rest body (ap (λ b. b ∷ rest) (eqb-true first 42 star.0)) star.1)
     (λ (other : ((first == 42) ≡ false) × (cond dash (Some (Word [])) (Some (Word word)) ≡ Some body)). ⊎_elim
-        (λ (none : (dash ≡ true) × (Some (Word []) ≡ Some body)).
-            subst (IsBody word) (same_Some (Word []) body none.1) (inl (same_word word (codes "-") none.0, refl)))
-        (λ (some : (dash ≡ false) × (Some (Word word) ≡ Some body)).
-            subst (IsBody word) (same_Some (Word word) body some.1)
-            (inr (record {
-              some = λ is. cc;
-              no_dash = λ is. absurd (differ dash some.0 (ap (λ w. bytes_eq w (codes "-")) is));
-              no_star = λ is. absurd (differ (first == 42) other.0 (ap (λ b. b == 42) is));
-            }, refl)))
-        (either_some dash (Some (Word [])) (Some (Word word)) body other.1))
+    (λ (none : (dash ≡ true) × (Some (Word []) ≡ Some body)).
+    subst (IsBody word) (same_Some (Word []) body none.1) (inl (same_word word (codes "-") none.0, refl)))
+    (λ (some : (dash ≡ false) × (Some (Word word) ≡ Some body)).
+    subst (IsBody word) (same_Some (Word word) body some.1)
+    (inr (
+      record {
+        some = λ is. cc;
+        no_dash = λ is. absurd (differ dash some.0 (ap (λ w. bytes_eq w (codes "-")) is));
+        no_star = λ is. absurd (differ (first == 42) other.0 (ap (λ b. b == 42) is));
+      },
+      refl,
+    )))
+    (either_some dash (Some (Word [])) (Some (Word word)) body other.1))
     (either_some (first == 42) (times_in rest) (cond dash (Some (Word [])) (Some (Word word))) body read)
   where
     differ : (t : Bool) → t ≡ false → t ≡ true → ⊥
@@ -113,10 +116,10 @@ verb_means (command ∷ words) verb read =
     let get = cond (bytes_eq command (codes "get")) (get_in words) stat in ⊎_elim
     (λ (p : (bytes_eq command (codes "put") ≡ true) × (put_in words ≡ Some verb)). put_means command words verb (same_word _ _ p.0) p.1)
     (λ (q : (bytes_eq command (codes "put") ≡ false) × (get ≡ Some verb)). ⊎_elim
-        (λ (p : (bytes_eq command (codes "get") ≡ true) × (get_in words ≡ Some verb)). get_means command words verb (same_word _ _ p.0) p.1)
-        (λ (r : (bytes_eq command (codes "get") ≡ false) × (stat ≡ Some verb)). ⊎_elim
-            (λ (p : (bytes_eq command (codes "stat") ≡ true) × (stat_in words ≡ Some verb)). stat_means command words verb (same_word _ _ p.0) p.1)
-            (λ (s : (bytes_eq command (codes "stat") ≡ false) × (None ≡ Some verb)). absurd (none-some verb s.1))
-            (either_some _ (stat_in words) None verb r.1))
-        (either_some _ (get_in words) stat verb q.1))
+    (λ (p : (bytes_eq command (codes "get") ≡ true) × (get_in words ≡ Some verb)). get_means command words verb (same_word _ _ p.0) p.1)
+    (λ (r : (bytes_eq command (codes "get") ≡ false) × (stat ≡ Some verb)). ⊎_elim
+    (λ (p : (bytes_eq command (codes "stat") ≡ true) × (stat_in words ≡ Some verb)). stat_means command words verb (same_word _ _ p.0) p.1)
+    (λ (s : (bytes_eq command (codes "stat") ≡ false) × (None ≡ Some verb)). absurd (none-some verb s.1))
+    (either_some _ (stat_in words) None verb r.1))
+    (either_some _ (get_in words) stat verb q.1))
     (either_some _ (put_in words) get verb read)

@@ -115,5 +115,5 @@ path_means word p is = by (position is_slash word) refl is
         let within = ltb-true (position_or_len is_slash word) (length word) parts.0 in
         let slash : get_or word (position_or_len is_slash word) 0 ≡ 47 = eqb-true _ 47 (passes_at_first is_slash word 0 within) in
         let parted = split_at_first is_slash word 0 within
-            ∙ ap (λ b. take (position_or_len is_slash word) word ++ b ∷ drop (position_or_len is_slash word + 1) word) slash in
+        ∙ ap (λ b. take (position_or_len is_slash word) word ++ b ∷ drop (position_or_len is_slash word + 1) word) slash in
         path_by word at p (subst (λ n. word ≡ take n word ++ 47 ∷ drop (n + 1) word) parts.1 parted) read

@@ -15,3 +15,6 @@ pub use laws::lines_have_one_meaning;
 pub use line::{Line, ScriptBody, Verb};
 pub use reading::read_line;
 pub use replies::{push_bad_line, push_count_line, push_named_line, push_outcome, push_reply_line};
+
+#[cfg(test)]
+mod tests;

@@ -118,11 +118,7 @@ pub fn push_outcome(out: &mut Vec<u8>, outcome: &Outcome, shown: &[u8]) -> Resul
 }
 
 /// Adds the line of a reply: how a task ended, with the bytes that it shows.
-pub fn push_reply_line(
-    out: &mut Vec<u8>,
-    outcome: &Outcome,
-    shown: &[u8],
-) -> Result<(), AllocError>
+pub fn push_reply_line(out: &mut Vec<u8>, outcome: &Outcome, shown: &[u8]) -> Result<(), AllocError>
     ensures { OnOk result (out.new.items
         ≡ out.old.items ++ reply_line (outcome_text outcome.now shown.now)) }
 {

@@ -52,10 +52,7 @@ pub(crate) fn zone_in(word: &[u8], zones: u8) -> Option<u8>
 }
 
 /// The name of an object or a container that the word is.
-pub(crate) fn name_in<const MOST: usize>(
-    alloc: Global,
-    word: &[u8],
-) -> Result<Name<MOST>, NoLine>
+pub(crate) fn name_in<const MOST: usize>(alloc: Global, word: &[u8]) -> Result<Name<MOST>, NoLine>
     ensures { Reads result (name_in MOST word.now) }
 {
     let Ok(text) = str::from_utf8(word) else {

@@ -18,7 +18,7 @@ returns-then-len-gt-LINE_LIMIT c =
           (c.unwrap_or-count.ensures ∙ ap (λ (l : List ℕ). unwrap_or end.result (length l)) bytes)
           (c.from.ensures ∙ ap bool_byte c.is_some.ensures)
           (elim c.then-len-gt-LINE_LIMIT.branch [
-            then-len-gt-LINE_LIMIT-via-then-len-gt-LINE_LIMIT w ↦ inl (omega arith)
+            | then-len-gt-LINE_LIMIT-via-then-len-gt-LINE_LIMIT w ↦ inl (omega arith)
             | then-len-gt-LINE_LIMIT-via-else-len-gt-LINE_LIMIT+then-passed-gt-INPUT_LIMIT w ↦ inr (omega arith)
           ]),
     )
