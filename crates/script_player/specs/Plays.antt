@@ -129,7 +129,7 @@ IsEnded p = EndedBy p.acting
 -- it is not, and no step stopped with a fault
 pub record IsPlaying (p : Player) : Type 0 where
   pub stands : StandsBy p.acting
-  pub open : IsEnded p → ⊥
+  pub going : IsEnded p → ⊥
 
 -- where the player stands behind its events
 abbrev pub StandsAs : Gone → Player → Type 0
