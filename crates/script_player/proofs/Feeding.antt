@@ -1,5 +1,5 @@
 -- A body, piece by piece.
-use Rattle.std.proofs.Common.{◌≡◌, ℕ, ◌+◌, ◌-◌, ◌<◌, ◌≤◌, min, List, [], ◌++◌, take, drop, length, replicate, refl, sym, ap, ◌∙◌, subst, append_assoc, length-append, length-take, length-drop, take-append-drop, arith}
+use Rattle.std.proofs.Common.{◌≡◌, ℕ, ◌+◌, ◌-◌, ◌<◌, ◌≤◌, min, List, [], ◌++◌, take, drop, length, replicate, refl, sym, ap, ◌∙◌, subst, append_assoc, length-append, length-take, length-drop, take-append-drop, arith, Result, Ok, Err, IfOk}
 use Rattle.std.proofs.lemmas.List.{take_at, take-take, drop-replicate, take-replicate, length-take-le}
 use Rattle.task_put.specs.Taking.{room_at}
 use Rattle.task_put.specs.Tasks.{stage_of, fed}
@@ -23,7 +23,7 @@ next_bytes bytes piece at c n inside is few =
     length-append (take at bytes) (take n piece) ∙ ap (λ m. m + length (take n piece)) (length-take-le at bytes inside) ∙ ap (λ m. at + m) (length-take-le n piece few) in
     sym (take_at front rest (at + n) long) ∙ ap (take (at + n)) whole
 
-pub takes_next : (bytes piece : List ℕ) (at c n : ℕ) (old new : PutTask) → at < length bytes → 1 ≤ c → piece ≡ take c (drop at bytes) → n ≡ min (length piece) (room_at (stage_of old)) → new ≡ fed old (take n piece) → TakesNext bytes at old new n
+takes_next : (bytes piece : List ℕ) (at c n : ℕ) (old new : PutTask) → at < length bytes → 1 ≤ c → piece ≡ take c (drop at bytes) → n ≡ min (length piece) (room_at (stage_of old)) → new ≡ fed old (take n piece) → TakesNext bytes at old new n
 takes_next bytes piece at c n old new inside some is count task =
     let sized : length piece ≡ min c (length bytes - at) = ap length is ∙ length-take c (drop at bytes) ∙ ap (min c) (length-drop at bytes) in
     record {
@@ -33,6 +33,11 @@ takes_next bytes piece at c n old new inside some is count task =
       inside = omega (arith, inside, sized, count);
       some = λ room. omega (arith, inside, sized, count, some, room);
     }
+
+pub takes_if : {E : Type 0} (bytes piece : List ℕ) (at c : ℕ) (old new : PutTask) (result : Result ℕ E) → at < length bytes → 1 ≤ c → piece ≡ take c (drop at bytes)
+    → IfOk result (λ n. n ≡ min (length piece) (room_at (stage_of old))) → IfOk result (λ n. new ≡ fed old (take n piece)) → IfOk result (TakesNext bytes at old new)
+takes_if bytes piece at c old new (Ok n) inside some is count task = takes_next bytes piece at c n old new inside some is count task
+takes_if bytes piece at c old new (Err e) inside some is count task = tt
 
 -- so many letters are the next ones
 pub next_letters : (x size total at c : ℕ) → c ≤ size → c ≤ total - at → take c (replicate size x) ≡ take c (drop at (replicate total x))

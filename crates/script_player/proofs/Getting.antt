@@ -30,6 +30,7 @@ use Rattle.task_get.specs.Pieces.{brought}
 use Rattle.task_get.specs.Stages.{IsOpen, IsOver}
 use Rattle.task_get.specs.Tasks.{account_at, phase_at, events_at, request_of, stage_of, bytes_of, where_shown, means, Fits}
 use Rattle.task_get.proofs.Giving.{next_piece_follows, none_at_first}
+use Rattle.script_words.specs.declared.line.Verb.TheVariants.{Get}
 use Rattle.script_player.specs.Requests.{get_request}
 use Rattle.script_player.specs.Meanings.{AreBytesOf, Means}
 use Rattle.script_player.specs.Plays.{asked_get, FitsGet}
@@ -67,12 +68,12 @@ get_as t u same is = same ∙ is ∙ ap (λ (q : GetRequest). get_request q.zone
 
 -- the answer of the bucket map has bytes only where it shows an object
 range_hides : (c : GetCommand) (content : Content) (stamp : Stamp) (range : Option ByteRange) → where_shown (shown_range c.body content stamp range).reply ≡ None → (shown_range c.body content stamp range).shown ≡ []
-range_hides c content stamp None is = refl
-range_hides c content stamp (Some range) is = cc
+range_hides c content stamp None = λ _. refl
+range_hides c content stamp (Some range) = λ is. cc
 
 answer_hides : (c : GetCommand) (slot : Slot) → where_shown (get_answer c slot).reply ≡ None → (get_answer c slot).shown ≡ []
-answer_hides c Slots.Nothing is = refl
-answer_hides c (Slots.Mark stamp) is = refl
+answer_hides c Slots.Nothing = λ _. refl
+answer_hides c (Slots.Mark stamp) = λ _. refl
 answer_hides c (Slots.Live content stamp) =
     let range = shown_range c.body content stamp (bytes_taken (span_of c) (length content.bytes)) in
     let unmet = answered (Refused NotMet) (Slots.Live content stamp) in
@@ -96,10 +97,7 @@ module _ (settings : SettingsView) (t : GetTask) (d : DoorView) (fits : Fits t s
   by_row : ReadsRow r events → brought r.get events ≡ []
   by_row reads = none_at_first r (stage_of t) (account_at settings d) (phase_at settings d) events reads.look fits.stage reads.stands
 
-  -- the bucket map shows no bytes
-  by_map : (reply : MapReply) → where_shown reply ≡ None → GetMeans r (Done reply) (account_at settings d) events → _ → brought r.get events ≡ []
-  by_map reply hidden m all = all
-
+  -- nor does the bucket map show any
   no_bytes : (reply : MapReply) → where_shown reply ≡ None → GetMeans r (Done reply) (account_at settings d) events → brought r.get events ≡ []
   no_bytes (Refused Unauthorized) hidden m = by_row m.1
   no_bytes (Refused (Denied rule)) hidden m = by_row m.1

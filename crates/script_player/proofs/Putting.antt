@@ -6,6 +6,7 @@ use Rattle.realm_model.specs.Accounts.{Account}
 use Rattle.realm_model.specs.Doors.{DoorView, actor_at}
 use Rattle.realm_model.specs.Histories.{account_of}
 use Rattle.realm_model.specs.Owns.{OwnEvent, own_events}
+use Rattle.realm_model.specs.declared.event.Reply.{Reply}
 use Rattle.task_words.specs.declared.asker.Asker.{Asker}
 use Rattle.task_words.specs.declared.command.BodyEnd.{BodyEnd}
 use Rattle.task_words.specs.declared.command.BodyEnd.TheVariants.{Whole, Failed}
@@ -16,17 +17,20 @@ use Rattle.task_words.specs.declared.reply.MapReply.TheVariants.{Stored, Refused
 use Rattle.task_words.specs.declared.reply.Refusal.TheVariants.{Unauthorized, Denied, NoContainer, NotMet, OtherEtag}
 use Rattle.task_words.specs.Outcomes.{IsPutOutcome}
 use Rattle.task_put.specs.Bodies.{most_bytes, no_bytes, first_end}
-use Rattle.task_put.specs.Stages.{IsReady, settled}
+use Rattle.task_put.specs.Stages.{IsOver, IsReady, settled}
+use Rattle.task_put.specs.Stepped.{stepped}
 use Rattle.task_put.specs.Taking.{WantsBytes, room_at, fed_request, ended_request}
 use Rattle.task_put.specs.Tasks.{request_of, stage_of, fault_of, decided, body_ended, fits, IsPutEnd}
 use Rattle.task_put.specs.declared.stage.Draft.{Draft}
 use Rattle.task_put.specs.declared.stage.PutRequest.{PutRequest}
-use Rattle.task_put.specs.declared.stage.Stage.TheVariants.{Looking}
+use Rattle.task_put.specs.declared.stage.Stage.{Stage}
+use Rattle.task_put.specs.declared.stage.Stage.TheVariants.{Looking, Feeding, LookingAgain, Preparing, Announcing, Writing, Cancelling, Completing, LookingForShard, Ended}
 use Rattle.task_put.specs.declared.task.PutTask.{PutTask}
 use Rattle.task_put.proofs.Stepping.{settled_task}
 use Rattle.put_service.specs.Standing.{IsSteady, IsSteadyAt}
-use Rattle.put_service.proofs.Pausing.{steady_fed, steady_ended, steady_wanting, steady_ready, wants_room, wants_unended}
+use Rattle.put_service.proofs.Pausing.{wants_open, ready_open, steady_fed, steady_ended, steady_wanting, steady_ready, wants_room, wants_unended}
 use Rattle.put_service.proofs.Serving.{steady_new}
+use Rattle.put_service.proofs.Steps.{steady_after}
 use Rattle.script_words.specs.Bodies.{body_bytes}
 use Rattle.script_words.specs.declared.line.ScriptBody.{ScriptBody}
 use Rattle.script_words.specs.declared.line.Verb.TheVariants.{Put}
@@ -49,7 +53,7 @@ new_stands task body zone stripe container name few request looks sound = record
     few = few;
     ends = subst (λ e. EndsAt e 0 (length (body_bytes body))) (sym (ap (λ (r : PutRequest). r.end) request)) tt;
   };
-  steady = steady_new task (put_request zone container name [] None) stripe request refl refl looks;
+  steady = λ _. steady_new task (put_request zone container name [] None) stripe request refl refl looks;
   sound = sound;
 }
 
@@ -66,15 +70,19 @@ with_bytes r s all at count more plain is next =
     λ i. record { zone = r.zone; asker = asker i; command = command i; bytes = bytes i; end = r.end } in
     is ∙ fed ∙ ap (λ (q : PutRequest). put_request q.zone q.command.container q.command.name (take (at + count) all) q.end) (sym is)
 
--- the body did not end yet
-pub unended_now : (x : PutPlay) → PutStands x → WantsBytes (stage_of x.task) → (request_of x.task).end ≡ None
-unended_now x s wants = wants_unended (request_of x.task) (stage_of x.task) s.steady wants
+-- a task that wants bytes goes on
+steady_now : (x : PutPlay) → PutStands x → WantsBytes (stage_of x.task) → IsSteady x.task
+steady_now x s wants = s.steady (wants_open (stage_of x.task) wants)
 
-pub has_room : (x : PutPlay) → PutStands x → WantsBytes (stage_of x.task) → x.fed < length (body_bytes x.body) → 1 ≤ room_at (stage_of x.task)
+-- the body did not end yet
+unended_now : (x : PutPlay) → PutStands x → WantsBytes (stage_of x.task) → (request_of x.task).end ≡ None
+unended_now x s wants = wants_unended (request_of x.task) (stage_of x.task) (steady_now x s wants) wants
+
+has_room : (x : PutPlay) → PutStands x → WantsBytes (stage_of x.task) → x.fed < length (body_bytes x.body) → 1 ≤ room_at (stage_of x.task)
 has_room x s wants more =
     let bytes = ap (λ (q : PutRequest). length q.bytes) s.is_put.plain ∙ length-take-le x.fed (body_bytes x.body) s.is_put.fed in
     let few = s.is_put.few in
-    wants_room (request_of x.task) (stage_of x.task) s.steady wants (omega (arith, bytes, few, more))
+    wants_room (request_of x.task) (stage_of x.task) (steady_now x s wants) wants (omega (arith, bytes, few, more))
 
 module _ (x : PutPlay) (task : PutTask) (count : ℕ) (s : PutStands x) (wants : WantsBytes (stage_of x.task)) (takes : TakesNext (body_bytes x.body) x.fed x.task task count) where
   request_now : request_of task ≡ fed_request (request_of x.task) takes.more
@@ -91,7 +99,7 @@ module _ (x : PutPlay) (task : PutTask) (count : ℕ) (s : PutStands x) (wants :
       few = s.is_put.few;
       ends = subst (λ e. EndsAt e (x.fed + count) (length (body_bytes x.body))) (sym ended_as) tt;
     };
-    steady = steady_fed x.task task takes.more takes.task s.steady;
+    steady = λ _. steady_fed x.task task takes.more takes.task (steady_now x s wants);
     sound = ap fault_of takes.task ∙ s.sound;
   }
 
@@ -129,7 +137,7 @@ module _ (x : PutPlay) (task : PutTask) (s : PutStands x) (wants : WantsBytes (s
           few = s.is_put.few;
           ends = subst (λ e. EndsAt e x.fed (length (body_bytes x.body))) (sym ends_whole) size;
         };
-        steady = steady_ended x.task task Whole is s.steady;
+        steady = λ _. steady_ended x.task task Whole is (steady_now x s wants);
         sound = ap fault_of is ∙ s.sound;
       }
 
@@ -156,11 +164,52 @@ put_as x task s same = record {
 pub asked_as : (x : PutPlay) (task : PutTask) → request_of task ≡ request_of x.task → asked_put (play_of task x.body x.fed) ≡ asked_put x
 asked_as x task same = ap (λ (q : PutRequest). record { zone = q.zone; verb = Put q.command.container q.command.name x.body }) same
 
-pub decided_stands : (x : PutPlay) (task : PutTask) → task ≡ decided x.task → IsSteady task → PutStands x → PutStands (play_of task x.body x.fed)
-decided_stands x task is steady s = record {
-  is_put = put_as x task s.is_put (ap request_of is);
-  steady = steady;
-  sound = ap fault_of is ∙ s.sound;
+-- the end of the body changes nothing at an outcome
+over_settled : (stage : Stage) → IsOver stage → IsOver (settled stage)
+over_settled (Ended outcome) over = over
+over_settled (Looking draft) over = absurd over
+over_settled (Feeding write key draft) over = absurd over
+over_settled (LookingAgain c) over = absurd over
+over_settled (Preparing key c) over = absurd over
+over_settled (Announcing key guard c) over = absurd over
+over_settled (Writing key guard c) over = absurd over
+over_settled (Cancelling key tag a) over = absurd over
+over_settled (Completing key change) over = absurd over
+over_settled (LookingForShard change) over = absurd over
+
+over_decided : (t u : PutTask) → u ≡ decided t → IsOver (stage_of t) → IsOver (stage_of u)
+over_decided t u is over = subst (λ (x : PutTask). IsOver x.stage) (sym is) (over_settled t.stage over)
+
+module _ (x : PutPlay) (task : PutTask) (is : task ≡ decided x.task) (s : PutStands x) where
+  decided_as : ((IsOver (stage_of task) → ⊥) → IsSteady task) → PutStands (play_of task x.body x.fed)
+  decided_as steady = record {
+    is_put = put_as x task s.is_put (ap request_of is);
+    steady = steady;
+    sound = ap fault_of is ∙ s.sound;
+  }
+
+  -- more bytes are wanted, an event comes next, or the outcome is there
+  pub wanting_stands : WantsBytes (stage_of task) → PutStands (play_of task x.body x.fed)
+  wanting_stands wants =
+      decided_as (λ _. steady_wanting x.task task is (s.steady (λ over. wants_open (stage_of task) wants (over_decided x.task task is over))) wants)
+
+  pub ready_stands : IsReady (stage_of task) → PutStands (play_of task x.body x.fed)
+  ready_stands ready =
+      decided_as (λ _. steady_ready x.task task is (s.steady (λ over. ready_open (stage_of task) ready (over_decided x.task task is over))) ready)
+
+  pub over_stands : IsOver (stage_of task) → PutStands (play_of task x.body x.fed)
+  over_stands over = decided_as (λ going. absurd (going over))
+
+  pub decided_asked : asked_put (play_of task x.body x.fed) ≡ asked_put x
+  decided_asked = asked_as x task (ap request_of is)
+
+-- an event was made
+pub next_stands : (x : PutPlay) (task : PutTask) → PutStands x → IsReady (stage_of x.task) → request_of task ≡ request_of x.task → fault_of task ≡ None
+    → (number : ℕ) × (reply : Reply) × (task ≡ stepped x.task number reply) → PutStands (play_of task x.body x.fed)
+next_stands x task s ready request sound steps = record {
+  is_put = put_as x task s.is_put request;
+  steady = λ _. steady_after x.task task ready (s.steady (ready_open (stage_of x.task) ready)) steps;
+  sound = sound;
 }
 
 pub decided_fits : (settings : SettingsView) (d : DoorView) (t u : PutTask) → u ≡ decided t → fits t settings d → fits u settings d

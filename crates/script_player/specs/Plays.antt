@@ -81,10 +81,10 @@ IsGet x = get.request_of x.task ≡ get_request (asked_get x).zone (get.request_
 abbrev pub IsStat : ContainerTask → Type 0
 IsStat t = stat.request_of t ≡ stat_request (asked_stat t).zone (name_of (stat.request_of t).command)
 
--- no step stopped with a fault
+-- no step stopped with a fault; a PUT is at the body that it was fed, as long as it goes on
 pub record PutStands (x : PutPlay) : Type 0 where
   pub is_put : IsPut x
-  pub steady : IsSteady x.task
+  pub steady : (put_stages.IsOver (put.stage_of x.task) → ⊥) → IsSteady x.task
   pub sound : put.fault_of x.task ≡ None
 
 pub record GetStands (x : GetPlay) : Type 0 where

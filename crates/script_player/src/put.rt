@@ -104,6 +104,7 @@ impl PutPlay {
     }
 
     /// Feeds the next piece of the body, or ends it behind the last one.
+    #[tactic(auto, using(crate::proofs::Putting::fed_stands, crate::proofs::Putting::fed_less, crate::proofs::Putting::fed_asked, crate::proofs::Putting::ended_stands, crate::proofs::Putting::ended_less, crate::proofs::Putting::ended_asked))]
     fn feed(&mut self) -> Result<(), AllocError>
         requires stands { PutStands self.old }
         requires wants { WantsBytes (stage_of self.old.task) }
