@@ -4,3 +4,4 @@ pub mod Putting
 pub mod Getting
 pub mod Counting
 pub mod Staying
+pub mod Words
