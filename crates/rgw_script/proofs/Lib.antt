@@ -1,1 +1,4 @@
 mod Casting
+mod Acting
+mod Holding
+mod Playing

@@ -95,6 +95,7 @@ HasActedSome pass moment most old new =
 
 -- it ended, and stands where its own events bring it
 pub record HasEnded (settings : SettingsView) (history : List Event) (a : Active) : Type 0 where
+  pub used : a.used ≡ has_acted a.pass history
   pub stands : fits a.player settings (door_to a history)
   pub ended : IsEnded a.player
 

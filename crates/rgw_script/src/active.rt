@@ -1,7 +1,7 @@
 //! An actor at work.
-ghost use Rattle.std.specs.Prelude.{◌≡◌, ◌<◌, ◌+◌, ℕ, List, length, false, IfOk, OnOk, IfErr, OnErr};
+ghost use Rattle.std.specs.Prelude.{◌≡◌, ◌≢◌, IfOk, OnOk, IfErr, OnErr};
 ghost use Rattle.realm_core.specs.Realms.{RealmView};
-ghost use Rattle.script_player.specs.Plays.{IsEnded};
+ghost use Rattle.rgw_script.specs.declared.active.Active.{Active as ActiveOf};
 ghost use Rattle.rgw_script.specs.Stages.{role_of, IsOpen, AreBelow, StandsIn, IsPlayable, HasActed, HasActedSome, HasEnded, StandsAfter, StopsAt};
 
 use crate::fault::ScriptFault;
@@ -56,8 +56,11 @@ impl Active {
         ensures stopped { OnErr result (HasActedSome self.old.pass moment most realm.old.history realm.new.history) }
         ensures cause { IfErr result (StopsAt realm.new.history) }
         ensures open { IsOpen realm.old.settings realm.new }
+        ensures others { (b : ActiveOf) → b.pass ≢ self.old.pass
+            → StandsIn realm.old.settings realm.old.history b → StandsIn realm.old.settings realm.new.history b }
         ensures role { role_of self.new ≡ role_of self.old }
     {
+        others_keep_a_player();
         let mut actor = Actor {
             pass: self.pass,
             count: 0,
@@ -82,6 +85,8 @@ impl Active {
         ensures ended { OnOk result (HasEnded realm.old.settings realm.new.history self.new) }
         ensures cause { IfErr result (StopsAt realm.new.history) }
         ensures open { IsOpen realm.old.settings realm.new }
+        ensures others { (b : ActiveOf) → b.pass ≢ self.old.pass
+            → StandsIn realm.old.settings realm.old.history b → StandsIn realm.old.settings realm.new.history b }
         ensures role { role_of self.new ≡ role_of self.old }
     {
         let gone = self.act(alloc, realm, moment, u64::MAX)?;

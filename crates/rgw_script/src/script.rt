@@ -1,6 +1,7 @@
 //! The lines of a script, one by one.
 ghost use Rattle.std.specs.Prelude.{◌≡◌, ◌+◌, ◌-◌, ◌^◌, ◌<◌, ◌≤◌, ℕ, List, [], true, false, Ok, OnOk, IfErr, OnErr};
 ghost use Rattle.realm_core.specs.Realms.{RealmView};
+ghost use Rattle.realm_model.specs.Settings.{SettingsView};
 ghost use Rattle.realm_model.specs.declared.event.Event.{Event as EventOf};
 ghost use Rattle.script_words.specs.declared.line.Line.TheVariants as lines;
 ghost use Rattle.rgw_script.specs.declared.fault.ScriptFault.TheVariants.{OutOfMemory};
