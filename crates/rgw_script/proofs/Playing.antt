@@ -276,7 +276,7 @@ stands_as by is settings other h a same eq stands = subst (λ s. StandsAfter is 
 -- ---- by what a line is
 
 pub as_played : (settings : SettingsView) (s t : Scene) (line other : Line) (printed : List ℕ) → line ≡ other → printed ≡ [] → Plays settings s other t [] → Plays settings s line t printed
-as_played settings s t line other printed is empty plays = subst (λ p. Plays settings s line t p) (sym empty) (subst (λ l. Plays settings s l t []) (sym is) plays)
+as_played settings s t line other printed is empty played = subst (λ p. Plays settings s line t p) (sym empty) (subst (λ l. Plays settings s l t []) (sym is) played)
 
 pub as_missed : (s : Scene) (line other : Line) (realm : RealmView) → line ≡ other → Misses s other → Misses s line × (realm ≡ realm)
 as_missed s line other realm is missed = (subst (Misses s) (sym is) missed, refl)
