@@ -1,0 +1,7 @@
+pub mod Going
+pub mod Feeding
+pub mod Putting
+pub mod Getting
+pub mod Counting
+pub mod Staying
+pub mod Words

@@ -1,14 +1,18 @@
 //! Laws of players: the functions here do nothing.
-ghost use Rattle.std.specs.Prelude.{◌≡◌, ℕ, List};
+ghost use Rattle.std.specs.Prelude.{◌≡◌, ◌≤◌, ℕ, List, length};
 ghost use Rattle.realm_model.specs.Settings.{SettingsView};
 ghost use Rattle.realm_model.specs.Histories.{Legal};
 ghost use Rattle.realm_model.specs.Doors.{DoorView, IsSeen, actor_at};
 ghost use Rattle.realm_door.specs.Steps.{IsSame};
 ghost use Rattle.task_words.specs.declared.outcome.Outcome.{Outcome as OutcomeOf};
+ghost use Rattle.task_put.specs.Bodies.{most_bytes};
+ghost use Rattle.script_words.specs.Lines.{IsLine};
+ghost use Rattle.script_words.specs.declared.line.Line.TheVariants.{Start, Do};
 ghost use Rattle.script_words.specs.declared.line.Verb.{Verb as VerbOf};
 ghost use Rattle.script_player.specs.declared.player.Player.{Player as PlayerOf};
 ghost use Rattle.script_player.specs.Meanings.{Means};
 ghost use Rattle.script_player.specs.Plays.{fits};
+ghost use Rattle.script_player.specs.Requests.{HasFewBytes};
 
 /// A player stands where it stood when others made events.
 pub fn others_keep_a_player()
@@ -24,4 +28,12 @@ pub fn others_keep_what_an_end_means()
         → e.pass ≡ d.pass → e.count ≡ d.count
         → IsSame settings d.seen e.seen (actor_at d)
         → Means zone verb outcome shown settings d → Means zone verb outcome shown settings e }
+{}
+
+/// What a line of a script asks to put has no more bytes than an object may have.
+pub fn lines_have_few_bytes()
+    ensures start { (zones : ℕ) (bytes actor : List ℕ) (zone : ℕ) (verb : VerbOf) → length bytes ≤ most_bytes
+        → IsLine zones bytes (Start actor zone verb) → HasFewBytes verb }
+    ensures once { (zones : ℕ) (bytes : List ℕ) (zone : ℕ) (verb : VerbOf) → length bytes ≤ most_bytes
+        → IsLine zones bytes (Do zone verb) → HasFewBytes verb }
 {}

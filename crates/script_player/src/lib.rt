@@ -8,7 +8,7 @@ mod player;
 mod put;
 mod stat;
 
-pub use laws::{others_keep_a_player, others_keep_what_an_end_means};
+pub use laws::{lines_have_few_bytes, others_keep_a_player, others_keep_what_an_end_means};
 pub use player::{Gone, Player};
 
 #[cfg(test)]

@@ -1,6 +1,6 @@
 //! A PUT, a GET and a HEAD of a container, event by event, over a realm that is tried.
-ghost use Rattle.std.specs.Prelude.{◌≡◌, ◌≤◌, ℕ, List, length};
-ghost use Rattle.script_player.specs.Plays.{IsPlaying};
+ghost use Rattle.std.specs.Prelude.{◌≡◌, IfOk};
+ghost use Rattle.script_player.specs.Requests.{HasFewBytes};
 
 use super::*;
 use container_preset::preset_bucket;
@@ -65,36 +65,78 @@ fn is_counted(outcome: Option<&Outcome>, count: u64, sum: u64) -> bool {
     }
 }
 
-// The digest is that of RFC 1321's MD5 as md5sum gives it for `hello`.
-#[test]
-fn actors_go_event_by_event(rt: HostRuntime) -> Result<(), Fail> {
-    let alloc = rt.alloc();
-    let settings = settings();
-    let mut door = RealmStage::new(alloc, &settings)?;
+/// A realm in which the container was made.
+fn realm(alloc: Global, settings: &Settings) -> Result<RealmStage, Fail>
+    ensures { IfOk result (λ door. door.settings ≡ settings.now) }
+{
+    let mut door = RealmStage::new(alloc, settings)?;
     let owner = Text::from_str(alloc, "acme")?;
     preset_bucket(
         alloc,
-        &settings,
+        settings,
         &mut door,
         &container(alloc)?,
         &owner,
         MOMENT,
     )?;
+    Ok(door)
+}
 
-    let body = ScriptBody::Word(Bytes::from_slice(alloc, b"hello")?);
-    let verb = Verb::Put {
+/// To store `hello`.
+fn put(alloc: Global) -> Result<Verb, Fail>
+    ensures { IfOk result HasFewBytes }
+{
+    Ok(Verb::Put {
         container: container(alloc)?,
         name: object(alloc)?,
-        body,
-    };
-    let mut writer = Player::new(alloc, &settings, 1, verb)?;
+        body: ScriptBody::Word(Bytes::from_slice(alloc, b"hello")?),
+    })
+}
+
+// The digest is what md5sum gives of `hello`.
+#[test]
+fn a_put_goes_event_by_event(rt: HostRuntime) -> Result<(), Fail> {
+    let alloc = rt.alloc();
+    let settings = settings();
+    let mut door = realm(alloc, &settings)?;
+    let made = door.events();
+    let mut writer = Player::new(alloc, &settings, 1, put(alloc)?)?;
     door.act_as(2);
-    let before = door.events();
     assert_eq!(rt; writer.go(alloc, &mut door, MOMENT, 4)?, Gone::Short);
-    assert_eq!(rt; door.events() - before, 4);
+    assert_eq!(rt; door.events(), made + 4);
     assert!(rt; writer.outcome().is_none());
     assert_eq!(rt; writer.go(alloc, &mut door, MOMENT, 9)?, Gone::Ended);
-    assert_eq!(rt; door.events() - before, 5);
+    assert_eq!(rt; door.events(), made + 5);
     assert!(rt; is_stored(writer.outcome(), 0x5d41_402a_bc4b_2a76_b971_9d91_1017_c592));
+    Ok(())
+}
+
+#[test]
+fn a_get_and_a_head_show_what_was_put(rt: HostRuntime) -> Result<(), Fail> {
+    let alloc = rt.alloc();
+    let settings = settings();
+    let mut door = realm(alloc, &settings)?;
+    let mut writer = Player::new(alloc, &settings, 1, put(alloc)?)?;
+    door.act_as(2);
+    let _ended = writer.go(alloc, &mut door, MOMENT, 9)?;
+
+    let get = Verb::Get {
+        container: container(alloc)?,
+        name: object(alloc)?,
+    };
+    let mut reader = Player::new(alloc, &settings, 1, get)?;
+    door.act_as(3);
+    assert_eq!(rt; reader.go(alloc, &mut door, MOMENT, 1)?, Gone::Short);
+    assert!(rt; reader.shown().is_empty());
+    assert_eq!(rt; reader.go(alloc, &mut door, MOMENT, 9)?, Gone::Ended);
+    assert!(rt; reader.shown() == b"hello".as_slice());
+
+    let stat = Verb::Stat {
+        container: container(alloc)?,
+    };
+    let mut counter = Player::new(alloc, &settings, 1, stat)?;
+    door.act_as(4);
+    assert_eq!(rt; counter.go(alloc, &mut door, MOMENT, 2)?, Gone::Ended);
+    assert!(rt; is_counted(counter.outcome(), 1, 5));
     Ok(())
 }
