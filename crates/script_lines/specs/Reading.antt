@@ -50,7 +50,7 @@ pub record BeginsTooLong (given : ℕ) (all : List ℕ) : Type 0 where
   pub bytes : all ≡ front ++ rest
   pub one : IsUnbroken front
   pub long : (LINE_LIMIT < length front) ⊎ ((INPUT_LIMIT < given + length front)
-    ⊎ ((INPUT_LIMIT < given + (length front + 1)) × ((more : List ℕ) × (rest ≡ 10 ∷ more))))
+      ⊎ ((INPUT_LIMIT < given + (length front + 1)) × ((more : List ℕ) × (rest ≡ 10 ∷ more))))
 
 -- what all the bytes begin with, or why that is not known
 abbrev pub FindsLine : List ℕ → Type 0 → ReaderState → ReaderState → Result Next LineFault → Type 0

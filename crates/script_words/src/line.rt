@@ -26,7 +26,9 @@ pub enum Verb {
         name: ObjectName,
     },
     /// Counts the objects of a container: `stat C`.
-    Stat { container: BucketName },
+    Stat {
+        container: BucketName,
+    },
 }
 
 /// A line of a script.
@@ -41,11 +43,17 @@ pub enum Line {
         verb: Verb,
     },
     /// `step A N`: the actor makes N events, or ends before.
-    Step { actor: ActorName, events: u64 },
+    Step {
+        actor: ActorName,
+        events: u64,
+    },
     /// `run A`: the actor goes on until it ends.
     Run(ActorName),
     /// `stop A`: the actor makes no further event.
     Stop(ActorName),
     /// `do Z VERB ARGS`: an actor without a name, of the zone Z, begins and goes on until it ends.
-    Do { zone: u8, verb: Verb },
+    Do {
+        zone: u8,
+        verb: Verb,
+    },
 }
