@@ -1,0 +1,4 @@
+mod Casting
+mod Acting
+mod Holding
+mod Playing
