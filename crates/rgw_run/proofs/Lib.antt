@@ -1,4 +1,2 @@
-pub mod Counted
-pub mod Numbers
 pub mod Starting
 pub mod Ending
