@@ -1,0 +1,9 @@
+//! The lines of an input, one by one, from a source that gives bytes in pieces.
+#![tactic(auto)]
+
+mod fault;
+mod piece;
+mod reader;
+
+pub use fault::LineFault;
+pub use reader::{INPUT_LIMIT, LINE_LIMIT, LineReader, Next};

@@ -1,0 +1,4 @@
+pub mod Requests
+pub mod Going
+pub mod Plays
+pub mod Meanings

@@ -1,0 +1,172 @@
+-- Where an actor of a script stands.
+use Rattle.std.specs.Prelude.{◌≡◌, ℕ, ◌+◌, ◌-◌, ◌≤◌, List, [], take, length, Option, Some, None}
+use Rattle.realm_model.specs.Settings.{SettingsView}
+use Rattle.realm_model.specs.Doors.{DoorView}
+use Rattle.task_words.specs.declared.command.BodyEnd.{BodyEnd}
+use Rattle.task_words.specs.declared.command.BodyEnd.TheVariants.{Whole, Failed}
+use Rattle.task_put.specs.Bodies.{most_bytes}
+use Rattle.task_put.specs.Stages as put_stages
+use Rattle.task_put.specs.Tasks as put
+use Rattle.task_get.specs.Pieces.{brought}
+use Rattle.task_get.specs.Stages as get_stages
+use Rattle.task_get.specs.Tasks as get
+use Rattle.task_container.specs.Counts.{name_of}
+use Rattle.task_container.specs.Stages as stat
+use Rattle.task_container.specs.declared.task.ContainerTask.{ContainerTask}
+use Rattle.put_service.specs.Standing.{IsSteady}
+use Rattle.script_words.specs.Bodies.{body_bytes}
+use Rattle.script_words.specs.declared.line.Verb.{Verb}
+use Rattle.script_words.specs.declared.line.Verb.TheVariants as verbs
+use Rattle.script_player.specs.Requests.{put_request, get_request, stat_request}
+use Rattle.script_player.specs.declared.get.GetPlay.{GetPlay}
+use Rattle.script_player.specs.declared.player.Acting.{Acting}
+use Rattle.script_player.specs.declared.player.Acting.TheVariants as actings
+use Rattle.script_player.specs.declared.player.Gone.{Gone}
+use Rattle.script_player.specs.declared.player.Gone.TheVariants as gones
+use Rattle.script_player.specs.declared.player.Player.{Player}
+use Rattle.script_player.specs.declared.put.PutPlay.{PutPlay}
+
+-- ---- what is asked
+
+-- in which zone, and what
+pub record Asked : Type 0 where
+  pub zone : ℕ
+  pub verb : Verb
+
+abbrev pub asked_put : PutPlay → Asked
+asked_put x = record {
+  zone = (put.request_of x.task).zone;
+  verb = verbs.Put (put.request_of x.task).command.container (put.request_of x.task).command.name x.body;
+}
+
+abbrev pub asked_get : GetPlay → Asked
+asked_get x = record {
+  zone = (get.request_of x.task).zone;
+  verb = verbs.Get (get.request_of x.task).get.container (get.request_of x.task).get.name;
+}
+
+abbrev pub asked_stat : ContainerTask → Asked
+asked_stat t = record { zone = (stat.request_of t).zone; verb = verbs.Stat (name_of (stat.request_of t).command) }
+
+abbrev pub asked_by : Acting → Asked
+asked_by (actings.Put x) = asked_put x
+asked_by (actings.Get x) = asked_get x
+asked_by (actings.Stat t) = asked_stat t
+
+abbrev pub asked : Player → Asked
+asked p = asked_by p.acting
+
+-- ---- whatever the door tells
+
+-- so much of the body was taken when it ended: it ends behind its last byte
+abbrev pub EndsAt : Option BodyEnd → ℕ → ℕ → Type 0
+EndsAt None fed size = Unit {0}
+EndsAt (Some Whole) fed size = fed ≡ size
+EndsAt (Some Failed) fed size = ⊥
+
+-- the task puts the object, and took the first bytes of its body
+pub record IsPut (x : PutPlay) : Type 0 where
+  pub plain : put.request_of x.task
+      ≡ put_request (asked_put x).zone (put.request_of x.task).command.container (put.request_of x.task).command.name
+      (take x.fed (body_bytes x.body)) (put.request_of x.task).end
+  pub fed : x.fed ≤ length (body_bytes x.body)
+  pub few : length (body_bytes x.body) ≤ most_bytes
+  pub ends : EndsAt (put.request_of x.task).end x.fed (length (body_bytes x.body))
+
+abbrev pub IsGet : GetPlay → Type 0
+IsGet x = get.request_of x.task ≡ get_request (asked_get x).zone (get.request_of x.task).get.container (get.request_of x.task).get.name
+
+abbrev pub IsStat : ContainerTask → Type 0
+IsStat t = stat.request_of t ≡ stat_request (asked_stat t).zone (name_of (stat.request_of t).command)
+
+-- no step stopped with a fault
+pub record PutStands (x : PutPlay) : Type 0 where
+  pub is_put : IsPut x
+  pub steady : IsSteady x.task
+  pub sound : put.fault_of x.task ≡ None
+
+pub record GetStands (x : GetPlay) : Type 0 where
+  pub is_get : IsGet x
+  pub sound : get.fault_of x.task ≡ None
+
+pub record StatStands (t : ContainerTask) : Type 0 where
+  pub is_stat : IsStat t
+  pub sound : stat.fault_of t ≡ None
+
+abbrev pub StandsBy : Acting → Type 0
+StandsBy (actings.Put x) = PutStands x
+StandsBy (actings.Get x) = GetStands x
+StandsBy (actings.Stat t) = StatStands t
+
+-- how many turns may still feed the task: one a piece, and one for the end
+abbrev pub unended : Option BodyEnd → ℕ
+unended None = 1
+unended (Some end) = 0
+
+abbrev pub left_of : PutPlay → ℕ
+left_of x = (length (body_bytes x.body) - x.fed) + unended (put.request_of x.task).end
+
+-- ---- the outcome
+
+abbrev pub PutEnded : PutPlay → Type 0
+PutEnded x = put_stages.IsOver (put.stage_of x.task) × (put.fault_of x.task ≡ None)
+
+abbrev pub GetEnded : GetPlay → Type 0
+GetEnded x = get_stages.IsOver (get.stage_of x.task) × (get.fault_of x.task ≡ None)
+
+abbrev pub StatEnded : ContainerTask → Type 0
+StatEnded t = stat.IsOver t.stage × (stat.fault_of t ≡ None)
+
+abbrev pub EndedBy : Acting → Type 0
+EndedBy (actings.Put x) = PutEnded x
+EndedBy (actings.Get x) = GetEnded x
+EndedBy (actings.Stat t) = StatEnded t
+
+-- the outcome is there
+abbrev pub IsEnded : Player → Type 0
+IsEnded p = EndedBy p.acting
+
+-- it is not, and no step stopped with a fault
+pub record IsPlaying (p : Player) : Type 0 where
+  pub stands : StandsBy p.acting
+  pub going : IsEnded p → ⊥
+
+-- where the player stands behind its events
+abbrev pub StandsAs : Gone → Player → Type 0
+StandsAs gones.Short p = IsPlaying p
+StandsAs gones.Ended p = IsEnded p
+
+-- the bytes shown so far
+abbrev pub shown_by : Acting → List ℕ
+shown_by (actings.Put x) = []
+shown_by (actings.Get x) = x.shown.items
+shown_by (actings.Stat t) = []
+
+abbrev pub shown_of : Player → List ℕ
+shown_of p = shown_by p.acting
+
+-- ---- by what the door tells
+
+-- the task stands where the actor's own events bring it
+pub record FitsPut (x : PutPlay) (settings : SettingsView) (d : DoorView) : Type 0 where
+  pub is_put : IsPut x
+  pub task : put.fits x.task settings d
+
+-- and the bytes kept are those that these brought
+pub record FitsGet (x : GetPlay) (settings : SettingsView) (d : DoorView) : Type 0 where
+  pub is_get : IsGet x
+  pub task : get.Fits x.task settings d
+  pub shown : x.shown.items ≡ brought (get.request_of x.task).get (get.events_at d)
+
+pub record FitsStat (t : ContainerTask) (settings : SettingsView) (d : DoorView) : Type 0 where
+  pub is_stat : IsStat t
+  pub task : stat.fits t settings d
+
+abbrev pub FitsBy : Acting → SettingsView → DoorView → Type 0
+FitsBy (actings.Put x) settings d = FitsPut x settings d
+FitsBy (actings.Get x) settings d = FitsGet x settings d
+FitsBy (actings.Stat t) settings d = FitsStat t settings d
+
+-- the player stands where the own events of the door's actor bring it
+abbrev pub fits : Player → SettingsView → DoorView → Type 0
+fits p settings d = FitsBy p.acting settings d

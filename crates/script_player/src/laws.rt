@@ -1,0 +1,27 @@
+//! Laws of players: the functions here do nothing.
+ghost use Rattle.std.specs.Prelude.{◌≡◌, ℕ, List};
+ghost use Rattle.realm_model.specs.Settings.{SettingsView};
+ghost use Rattle.realm_model.specs.Histories.{Legal};
+ghost use Rattle.realm_model.specs.Doors.{DoorView, IsSeen, actor_at};
+ghost use Rattle.realm_door.specs.Steps.{IsSame};
+ghost use Rattle.task_words.specs.declared.outcome.Outcome.{Outcome as OutcomeOf};
+ghost use Rattle.script_words.specs.declared.line.Verb.{Verb as VerbOf};
+ghost use Rattle.script_player.specs.declared.player.Player.{Player as PlayerOf};
+ghost use Rattle.script_player.specs.Meanings.{Means};
+ghost use Rattle.script_player.specs.Plays.{fits};
+
+/// A player stands where it stood when others made events.
+pub fn others_keep_a_player()
+    ensures { (settings : SettingsView) (p : PlayerOf) (d e : DoorView)
+        → e.pass ≡ d.pass → e.count ≡ d.count → IsSeen d.seen e.seen → Legal settings e.seen
+        → IsSame settings d.seen e.seen (actor_at d)
+        → fits p settings d → fits p settings e }
+{}
+
+/// What an outcome says stays so when others make events.
+pub fn others_keep_what_an_end_means()
+    ensures { (settings : SettingsView) (zone : ℕ) (verb : VerbOf) (outcome : OutcomeOf) (shown : List ℕ) (d e : DoorView)
+        → e.pass ≡ d.pass → e.count ≡ d.count
+        → IsSame settings d.seen e.seen (actor_at d)
+        → Means zone verb outcome shown settings d → Means zone verb outcome shown settings e }
+{}

@@ -1,0 +1,15 @@
+//! One actor of a script at work: its request goes on event by event, through any door, and may stop anywhere.
+#![tactic(auto)]
+
+mod asker;
+mod get;
+mod laws;
+mod player;
+mod put;
+mod stat;
+
+pub use laws::{others_keep_a_player, others_keep_what_an_end_means};
+pub use player::{Gone, Player};
+
+#[cfg(test)]
+mod tests;

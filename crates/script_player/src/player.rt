@@ -1,0 +1,153 @@
+//! One actor of a script.
+ghost use Rattle.std.specs.Prelude.{◌≡◌, ◌↔◌, ◌≤◌, ◌^◌, length, IsSome, IfSome, IfOk, IfErr, OnOk, OnErr};
+ghost use Rattle.turn_cell.specs.declared.machine.DoorFault.TheVariants.{Worn};
+ghost use Rattle.realm_model.specs.Settings.{SettingsView};
+ghost use Rattle.realm_model.specs.Doors.{DoorView};
+ghost use Rattle.realm_model.specs.Histories.{Legal};
+ghost use Rattle.call_service.specs.Serving.{IsNew};
+ghost use Rattle.script_player.specs.Going.{GoesUpTo, Steps, HasGone};
+ghost use Rattle.script_player.specs.Meanings.{Means};
+ghost use Rattle.script_player.specs.Plays.{asked, StandsBy, IsPlaying, IsEnded, StandsAs, shown_of, fits};
+ghost use Rattle.script_player.specs.Requests.{HasFewBytes};
+
+use crate::get::GetPlay;
+use crate::put::PutPlay;
+use crate::stat::{count, counted, new_stat};
+use realm_door::Door;
+use realm_model::Settings;
+use script_words::Verb;
+use std::alloc::{AllocError, Global};
+use task_container::ContainerTask;
+use task_words::Outcome;
+use turn_cell::DoorFault;
+
+/// How far an actor went.
+#[derive(Clone, Copy, Debug, PartialEq, Eq)]
+pub enum Gone {
+    /// It made as many events as it was to make, and the outcome is not there.
+    Short,
+    /// The outcome is there.
+    Ended,
+}
+
+/// The request of an actor, as far as it came.
+#[derive(Drop)]
+pub(crate) enum Acting {
+    Put(PutPlay),
+    Get(GetPlay),
+    Stat(ContainerTask),
+}
+
+/// One actor of a script: a request of the one user, in one zone, which goes on event by event. It keeps
+/// the bytes that a GET shows; of a body of letters it makes 64 KiB at a time.
+#[derive(Drop)]
+pub struct Player {
+    acting: Acting,
+}
+
+impl Player {
+    /// An actor that made no event.
+    pub fn new(
+        alloc: Global,
+        settings: &Settings,
+        zone: u8,
+        verb: Verb,
+    ) -> Result<Player, AllocError>
+        requires few { HasFewBytes verb }
+        ensures asked { IfOk result (λ p. asked p ≡ record { zone = zone; verb = verb }) }
+        ensures playing { IfOk result IsPlaying }
+        ensures fits { IfOk result (λ p. (d : DoorView) → 1 ≤ zone → zone ≤ settings.now.zones
+            → IsNew settings.now d → fits p settings.now d) }
+    {
+        let acting = match verb {
+            Verb::Put {
+                container,
+                name,
+                body,
+            } => Acting::Put(PutPlay::new(alloc, settings, zone, container, name, body)?),
+            Verb::Get { container, name } => {
+                Acting::Get(GetPlay::new(alloc, zone, container, name)?)
+            }
+            Verb::Stat { container } => Acting::Stat(new_stat(alloc, zone, container)?),
+        };
+        Ok(Player { acting })
+    }
+
+    /// Makes the event that comes next; none where the outcome is there without one.
+    fn event<D: Door>(&mut self, alloc: Global, door: &mut D, moment: u64) -> Result<(), DoorFault>
+        requires playing { IsPlaying self.old }
+        requires legal { D.tells → Legal (D.settings door.old) (D.told door.old).seen }
+        requires fits { D.tells → fits self.old (D.settings door.old) (D.told door.old) }
+        ensures stands { OnOk result (StandsBy self.new.acting) }
+        ensures fits { OnOk result (D.tells → fits self.new (D.settings door.old) (D.told door.new)) }
+        ensures steps { OnOk result (D.tells → Steps D.alone (D.settings door.old) moment (IsEnded self.new) (D.told door.old) (D.told door.new)) }
+        ensures stopped { OnErr result (D.tells → GoesUpTo D.alone (D.settings door.old) moment 1 (D.told door.old) (D.told door.new)) }
+        ensures worn { IfErr result (λ f. D.tells → f ≡ Worn → length (D.found door.new) ≡ 2 ^ 62) }
+        ensures asked { asked self.new ≡ asked self.old }
+        ensures settings { D.settings door.new ≡ D.settings door.old }
+        ensures home { D.home door.new ≡ D.home door.old }
+    {
+        match &mut self.acting {
+            Acting::Put(play) => play.event(alloc, door, moment),
+            Acting::Get(play) => play.event(alloc, door, moment),
+            Acting::Stat(task) => count(alloc, task, door, moment),
+        }
+    }
+
+    /// Makes events as the door's present actor, each at this moment, until there are `most` of them or the
+    /// outcome is there. After an error the actor is not to go on.
+    ///
+    /// At `OutOfMemory` the last of the events may have been made.
+    pub fn go<D: Door>(
+        &mut self,
+        alloc: Global,
+        door: &mut D,
+        moment: u64,
+        most: u64,
+    ) -> Result<Gone, DoorFault>
+        requires playing { IsPlaying self.old }
+        requires legal { D.tells → Legal (D.settings door.old) (D.told door.old).seen }
+        requires fits { D.tells → fits self.old (D.settings door.old) (D.told door.old) }
+        ensures stands { IfOk result (λ gone. StandsAs gone self.new) }
+        ensures fits { OnOk result (D.tells → fits self.new (D.settings door.old) (D.told door.new)) }
+        ensures gone { IfOk result (λ gone. D.tells → HasGone gone D.alone (D.settings door.old) moment most (D.told door.old) (D.told door.new)) }
+        ensures stopped { OnErr result (D.tells → GoesUpTo D.alone (D.settings door.old) moment most (D.told door.old) (D.told door.new)) }
+        ensures worn { IfErr result (λ f. D.tells → f ≡ Worn → length (D.found door.new) ≡ 2 ^ 62) }
+        ensures asked { asked self.new ≡ asked self.old }
+        ensures settings { D.settings door.new ≡ D.settings door.old }
+        ensures home { D.home door.new ≡ D.home door.old }
+    {
+        let mut made = 0_u64;
+        'events: while made < most {
+            self.event(alloc, door, moment)?;
+            if self.outcome().is_some() {
+                return Ok(Gone::Ended);
+            }
+            made += 1;
+        }
+        Ok(Gone::Short)
+    }
+
+    /// The outcome, from its event on.
+    pub fn outcome(&self) -> Option<&Outcome>
+        ensures there { IsSome result ↔ IsEnded self.now }
+        ensures right { IfSome result (λ outcome. (settings : SettingsView) (d : DoorView) → fits self.now settings d
+            → Means (asked self.now).zone (asked self.now).verb outcome.now (shown_of self.now) settings d) }
+    {
+        match &self.acting {
+            Acting::Put(play) => play.outcome(),
+            Acting::Get(play) => play.outcome(),
+            Acting::Stat(task) => counted(task),
+        }
+    }
+
+    /// The bytes of the object that the events so far brought; none but of a GET.
+    pub fn shown(&self) -> &[u8]
+        ensures { result.now ≡ shown_of self.now }
+    {
+        match &self.acting {
+            Acting::Get(play) => play.shown(),
+            _ => &[],
+        }
+    }
+}

@@ -1,0 +1,172 @@
+//! A PUT, to which its body is fed as it wants it.
+ghost use Rattle.std.specs.Prelude.{◌≡◌, ◌↔◌, ◌≤◌, ◌<◌, ◌^◌, [], true, false, length, IsSome, IfSome, IfOk, IfErr, OnOk, OnErr};
+ghost use Rattle.turn_cell.specs.declared.machine.DoorFault.TheVariants.{Worn};
+ghost use Rattle.realm_model.specs.Settings.{SettingsView};
+ghost use Rattle.realm_model.specs.Doors.{DoorView};
+ghost use Rattle.realm_model.specs.Histories.{Legal};
+ghost use Rattle.call_service.specs.Serving.{IsNew};
+ghost use Rattle.task_put.specs.Bodies.{most_bytes};
+ghost use Rattle.task_put.specs.Stages.{IsOver, IsReady};
+ghost use Rattle.task_put.specs.Tasks.{stage_of, fits};
+ghost use Rattle.task_put.specs.Taking.{WantsBytes};
+ghost use Rattle.script_words.specs.Bodies.{body_bytes};
+ghost use Rattle.script_words.specs.declared.line.Verb.TheVariants.{Put};
+ghost use Rattle.script_player.specs.Going.{GoesUpTo, Steps};
+ghost use Rattle.script_player.specs.Meanings.{Means};
+ghost use Rattle.script_player.specs.Plays.{asked_put, PutStands, PutEnded, FitsPut, left_of};
+
+use crate::asker::standard_asker;
+use object_words::{BucketName, Conditions, ObjectName};
+use realm_door::{Door, Task};
+use realm_model::Settings;
+use rgw_types::Pairs;
+use script_words::ScriptBody;
+use std::alloc::{AllocError, Global};
+use task_put::{Next, PutTask};
+use task_words::{BodyEnd, Outcome, PutCommand};
+use turn_cell::DoorFault;
+
+/// A body of letters is fed in pieces of so many bytes at most.
+const PIECE: usize = 65536;
+
+/// A PUT, and how far its body was fed to it.
+#[derive(Drop)]
+pub(crate) struct PutPlay {
+    task: PutTask,
+    body: ScriptBody,
+    /// So many bytes of the body were taken.
+    fed: u64,
+}
+
+/// How many bytes a body has.
+fn size_of(body: &ScriptBody) -> u64
+    ensures { result ≡ length (body_bytes body.now) }
+{
+    match body {
+        ScriptBody::Word(bytes) => bytes.len() as u64,
+        ScriptBody::Times(times) => *times,
+    }
+}
+
+impl PutPlay {
+    /// A PUT that made no event, without conditions.
+    pub(crate) fn new(
+        alloc: Global,
+        settings: &Settings,
+        zone: u8,
+        container: BucketName,
+        name: ObjectName,
+        body: ScriptBody,
+    ) -> Result<PutPlay, AllocError>
+        requires few { length (body_bytes body) ≤ most_bytes }
+        ensures asked { IfOk result (λ x. asked_put x ≡ record { zone = zone; verb = Put container name body }) }
+        ensures stands { IfOk result PutStands }
+        ensures open { IfOk result (λ x. PutEnded x → ⊥) }
+        ensures fits { IfOk result (λ x. (d : DoorView) → 1 ≤ zone → zone ≤ settings.now.zones
+            → IsNew settings.now d → FitsPut x settings.now d) }
+    {
+        let put = PutCommand {
+            container,
+            name,
+            kind: None,
+            meta: Pairs::new(alloc),
+            etag: None,
+            when: Conditions {
+                matches: None,
+                none: None,
+                modified: None,
+                unmodified: None,
+            },
+        };
+        let asker = standard_asker(alloc)?;
+        Ok(PutPlay {
+            task: PutTask::new(alloc, settings, zone, asker, put)?,
+            body,
+            fed: 0,
+        })
+    }
+
+    /// Feeds the next piece of the body, or ends it behind the last one.
+    fn feed(&mut self) -> Result<(), AllocError>
+        requires stands { PutStands self.old }
+        requires wants { WantsBytes (stage_of self.old.task) }
+        ensures stands { OnOk result (PutStands self.new) }
+        ensures fits { OnOk result ((settings : SettingsView) (d : DoorView)
+            → fits self.old.task settings d → fits self.new.task settings d) }
+        ensures less { OnOk result (left_of self.new < left_of self.old) }
+        ensures asked { asked_put self.new ≡ asked_put self.old }
+    {
+        if self.fed >= size_of(&self.body) {
+            self.task.finish(BodyEnd::Whole);
+            return Ok(());
+        }
+        let taken = match &self.body {
+            ScriptBody::Word(bytes) => {
+                let rest = &bytes.as_slice()[self.fed as usize..];
+                self.task.feed(rest)?
+            }
+            ScriptBody::Times(times) => {
+                let count = (*times - self.fed).min(PIECE as u64) as usize;
+                self.task.feed(&[b'x'; PIECE][..count])?
+            }
+        };
+        self.fed += taken as u64;
+        Ok(())
+    }
+
+    /// Feeds the body until an event comes next: true. False where the outcome is there.
+    fn make_ready(&mut self) -> Result<bool, AllocError>
+        requires stands { PutStands self.old }
+        ensures stands { OnOk result (PutStands self.new) }
+        ensures fits { OnOk result ((settings : SettingsView) (d : DoorView)
+            → fits self.old.task settings d → fits self.new.task settings d) }
+        ensures ready { IfOk result (λ ready. ready ≡ true → IsReady (stage_of self.new.task)) }
+        ensures over { IfOk result (λ ready. ready ≡ false → IsOver (stage_of self.new.task)) }
+        ensures asked { asked_put self.new ≡ asked_put self.old }
+    {
+        'pieces: loop {
+            match self.task.settle() {
+                Next::Event => return Ok(true),
+                Next::Done => return Ok(false),
+                Next::Wants => self.feed()?,
+            }
+        }
+    }
+
+    /// Makes the event that comes next.
+    pub(crate) fn event<D: Door>(
+        &mut self,
+        alloc: Global,
+        door: &mut D,
+        moment: u64,
+    ) -> Result<(), DoorFault>
+        requires stands { PutStands self.old }
+        requires legal { D.tells → Legal (D.settings door.old) (D.told door.old).seen }
+        requires fits { D.tells → FitsPut self.old (D.settings door.old) (D.told door.old) }
+        ensures stands { OnOk result (PutStands self.new) }
+        ensures fits { OnOk result (D.tells → FitsPut self.new (D.settings door.old) (D.told door.new)) }
+        ensures steps { OnOk result (D.tells → Steps D.alone (D.settings door.old) moment (PutEnded self.new) (D.told door.old) (D.told door.new)) }
+        ensures stopped { OnErr result (D.tells → GoesUpTo D.alone (D.settings door.old) moment 1 (D.told door.old) (D.told door.new)) }
+        ensures worn { IfErr result (λ f. D.tells → f ≡ Worn → length (D.found door.new) ≡ 2 ^ 62) }
+        ensures asked { asked_put self.new ≡ asked_put self.old }
+        ensures settings { D.settings door.new ≡ D.settings door.old }
+        ensures home { D.home door.new ≡ D.home door.old }
+    {
+        let Ok(ready) = self.make_ready() else {
+            return Err(DoorFault::OutOfMemory);
+        };
+        if ready {
+            self.task.event(alloc, door, moment)?;
+        }
+        Ok(())
+    }
+
+    /// The outcome, from its event on.
+    pub(crate) fn outcome(&self) -> Option<&Outcome>
+        ensures there { IsSome result ↔ PutEnded self.now }
+        ensures right { IfSome result (λ outcome. (settings : SettingsView) (d : DoorView) → FitsPut self.now settings d
+            → Means (asked_put self.now).zone (asked_put self.now).verb outcome.now [] settings d) }
+    {
+        self.task.outcome()
+    }
+}

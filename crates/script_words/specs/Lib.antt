@@ -1,0 +1,5 @@
+pub mod Names
+pub mod Lines
+pub mod Bodies
+pub mod Replies
+pub mod Laws

@@ -1,0 +1,107 @@
+-- What the lines of a script say: which words mean which line. (The script's language is own; the limits of names are those of
+-- the Swift API, OpenStack Object Storage API v1, with own numbers.)
+use Rattle.std.specs.Prelude.{◌≡◌, ◌≢◌, ◌⊎◌, ℕ, ◌+◌, ◌^◌, ◌<◌, ◌≤◌, ◌==◌, ◌||◌, not, true, List, [], ◌∷◌, ◌++◌, length, slice_index, codes, Bool}
+use Rattle.std.specs.List.{list_all, slice_split}
+use Rattle.std.specs.Char.{is_ascii_digit}
+use Rattle.std.specs.Str.{is_utf8}
+use Rattle.std.specs.Str.Parse.{digits_value}
+use Rattle.object_words.specs.Limits.{is_name}
+use Rattle.script_words.specs.Names.{is_actor_name}
+use Rattle.script_words.specs.declared.line.Line.{Line}
+use Rattle.script_words.specs.declared.line.Line.TheVariants.{Clock, Start, Step, Run, Stop, Do}
+use Rattle.script_words.specs.declared.line.ScriptBody.{ScriptBody}
+use Rattle.script_words.specs.declared.line.ScriptBody.TheVariants.{Word, Times}
+use Rattle.script_words.specs.declared.line.Verb.{Verb}
+use Rattle.script_words.specs.declared.line.Verb.TheVariants.{Put, Get, Stat}
+
+-- ---- words
+
+-- a space or a tab
+abbrev pub is_blank : ℕ → Bool
+is_blank b = (b == 32) || (b == 9)
+
+-- the words of a line, which one blank parts; two blanks in a row have an empty word between them
+abbrev pub words_of : List ℕ → List (List ℕ)
+words_of line = slice_split is_blank line
+
+-- ---- numbers and zones
+
+-- 1 to 20 decimal digits, zeros in front among them, of a number that 64 bits hold
+pub record IsNumber (word : List ℕ) (n : ℕ) : Type 0 where
+  pub some : 1 ≤ length word
+  pub few : length word ≤ 20
+  pub digits : list_all is_ascii_digit word ≡ true
+  pub value : n ≡ digits_value 10 word
+  pub fits : n < 2 ^ 64
+
+-- one digit that is the number of a zone among so many, from 1
+pub record IsZone (zones : ℕ) (word : List ℕ) (zone : ℕ) : Type 0 where
+  pub digit : word ≡ (48 + zone) ∷ []
+  pub least : 1 ≤ zone
+  pub most : zone ≤ 9
+  pub there : zone ≤ zones
+
+-- ---- names
+
+-- a text within the limit
+pub record IsText (most : ℕ) (word : List ℕ) : Type 0 where
+  pub limits : is_name most word ≡ true
+  pub text : is_utf8 word ≡ true
+
+-- the name of a container in a script has no slash
+pub record IsContainer (word : List ℕ) : Type 0 where
+  pub within : IsText 256 word
+  pub no_slash : list_all (λ b. not (b == 47)) word ≡ true
+
+-- a container and an object, with a slash between them; so the first slash parts them
+pub record IsPath (word container name : List ℕ) : Type 0 where
+  pub parted : word ≡ container ++ 47 ∷ name
+  pub first : IsContainer container
+  pub second : IsText 1024 name
+
+-- ---- bodies
+
+-- the most letters that `*N` may ask for
+abbrev pub most_letters : ℕ
+most_letters = 5368709120
+
+-- a body that stands for itself: not empty, no `-` alone, and no `*` in front
+pub record IsPlain (word : List ℕ) : Type 0 where
+  pub some : word ≢ []
+  pub no_dash : word ≢ codes "-"
+  pub no_star : slice_index word 0 ≢ 42
+
+abbrev pub IsBody : List ℕ → ScriptBody → Type 0
+IsBody word (Word bytes) = ((word ≡ codes "-") × (bytes ≡ [])) ⊎ (IsPlain word × (bytes ≡ word))
+IsBody word (Times n) = (digits : List ℕ) × (word ≡ 42 ∷ digits) × IsNumber digits n × (n ≤ most_letters)
+
+-- ---- lines
+
+-- what an actor does, by its words
+abbrev pub IsVerb : List (List ℕ) → Verb → Type 0
+IsVerb words (Put container name body) =
+    (path : List ℕ) × (word : List ℕ) × (words ≡ codes "put" ∷ path ∷ word ∷ []) × IsPath path container name × IsBody word body
+IsVerb words (Get container name) = (path : List ℕ) × (words ≡ codes "get" ∷ path ∷ []) × IsPath path container name
+IsVerb words (Stat container) = (words ≡ codes "stat" ∷ container ∷ []) × IsContainer container
+
+-- the words are an actor behind this command, and nothing more
+pub record IsOfActor (command : List ℕ) (words : List (List ℕ)) (actor : List ℕ) : Type 0 where
+  pub says : words ≡ command ∷ actor ∷ []
+  pub named : is_actor_name actor ≡ true
+
+-- what a line asks, by its words, in a realm of so many zones
+abbrev pub Says : ℕ → List (List ℕ) → Line → Type 0
+Says zones words (Clock moment) = (number : List ℕ) × (words ≡ codes "clock" ∷ number ∷ []) × IsNumber number moment
+Says zones words (Start actor zone verb) =
+    (digit : List ℕ) × (rest : List (List ℕ)) × (words ≡ codes "start" ∷ actor ∷ digit ∷ rest)
+    × (is_actor_name actor ≡ true) × IsZone zones digit zone × IsVerb rest verb
+Says zones words (Step actor events) =
+    (number : List ℕ) × (words ≡ codes "step" ∷ actor ∷ number ∷ []) × (is_actor_name actor ≡ true) × IsNumber number events
+Says zones words (Run actor) = IsOfActor (codes "run") words actor
+Says zones words (Stop actor) = IsOfActor (codes "stop") words actor
+Says zones words (Do zone verb) =
+    (digit : List ℕ) × (rest : List (List ℕ)) × (words ≡ codes "do" ∷ digit ∷ rest) × IsZone zones digit zone × IsVerb rest verb
+
+-- what a line asks
+abbrev pub IsLine : ℕ → List ℕ → Line → Type 0
+IsLine zones bytes line = Says zones (words_of bytes) line

@@ -1,0 +1,57 @@
+-- The texts of the replies to a script (own), with the codes and lines of the Swift API's refusals.
+use Rattle.std.specs.Prelude.{ℕ, List, [], ◌∷◌, ◌++◌, Option, Some, None, codes, decimal}
+use Rattle.hex.specs.Hex.{encode_lower}
+use Rattle.call_words.specs.Texts.{refusal_in, refusal_by}
+use Rattle.swift_reply.specs.declared.reply.SwiftRefusal.{SwiftRefusal}
+use Rattle.swift_reply.specs.Replies.{refusal_code, refusal_line}
+use Rattle.task_words.specs.declared.outcome.Outcome.{Outcome}
+use Rattle.task_words.specs.declared.outcome.Outcome.TheVariants.{Done, BodyFailed, LateRead}
+use Rattle.task_words.specs.declared.reply.MapReply.{MapReply}
+use Rattle.task_words.specs.declared.reply.MapReply.TheVariants.{Stored, Shown, Same, Counted, Refused}
+
+-- the code and the line of a refusal
+abbrev pub refusal_text : SwiftRefusal → List ℕ
+refusal_text refusal = decimal (refusal_code refusal) ++ 32 ∷ refusal_line refusal
+
+-- bytes behind a blank, where there are any
+abbrev pub behind_blank : List ℕ → List ℕ
+behind_blank [] = []
+behind_blank (b ∷ bytes) = 32 ∷ b ∷ bytes
+
+-- what is replied of an object or a container, with the bytes that are shown
+abbrev pub map_text : MapReply → List ℕ → List ℕ
+map_text (Stored etag stamp) shown = codes "201 " ++ encode_lower etag
+map_text (Shown kind meta etag stamp size start count) shown = codes "200 " ++ decimal size ++ behind_blank shown
+map_text (Same etag stamp) shown = codes "304 " ++ encode_lower etag
+map_text (Counted row objects bytes) shown = codes "200 objects=" ++ decimal objects ++ codes " bytes=" ++ decimal bytes
+map_text (Refused refusal) shown = refusal_text (refusal_in refusal)
+
+-- a refusal, if it is one
+abbrev pub refusal_text_if : Option SwiftRefusal → List ℕ
+refusal_text_if None = codes "400 Body failed"
+refusal_text_if (Some refusal) = refusal_text refusal
+
+-- What is replied where a task ended so, with the bytes that are shown. No script has a condition or a body that fails, so
+-- that the text of such an end is never printed.
+abbrev pub outcome_text : Outcome → List ℕ → List ℕ
+outcome_text (Done reply) shown = map_text reply shown
+outcome_text (LateRead read_at clock) shown = codes "late " ++ decimal read_at ++ 32 ∷ decimal clock
+outcome_text outcome shown = refusal_text_if (refusal_by outcome)
+
+-- ---- the lines that are printed
+
+-- a reply to a line that names no actor
+abbrev pub reply_line : List ℕ → List ℕ
+reply_line reply = reply ++ 10 ∷ []
+
+-- a reply behind the name of its actor
+abbrev pub named_line : List ℕ → List ℕ → List ℕ
+named_line actor reply = actor ++ 32 ∷ reply ++ 10 ∷ []
+
+-- how many events an actor made that has not ended
+abbrev pub count_line : List ℕ → ℕ → List ℕ
+count_line actor events = actor ++ 32 ∷ decimal events ++ 10 ∷ []
+
+-- the line of this number, from 1, is bad
+abbrev pub bad_line : ℕ → List ℕ
+bad_line number = codes "bad line " ++ decimal number ++ 10 ∷ []
