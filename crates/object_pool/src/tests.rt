@@ -203,8 +203,8 @@ fn rows_at_their_greatest(rt: HostRuntime) -> Result<(), Fail> {
     let len = place.row(&last).ok_or("the last row")?.len();
     assert_eq!(rt; len, 16_318);
 
-    assert!(rt; place.row(&[b's'; 16]).is_none());
     place.reserve_rows(alloc, 1_000)?;
+    assert!(rt; place.row(&[b's'; 16]).is_none());
     place.put_spare(&[b's'; 16], &[b'v'; 1_040]);
     assert!(rt; place.take_row(&last));
     assert_eq!(rt; place.take_rows(&long_key(0), &last), 1_000);
