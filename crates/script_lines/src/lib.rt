@@ -2,8 +2,11 @@
 #![tactic(auto)]
 
 mod fault;
+mod front;
+mod laws;
 mod piece;
 mod reader;
 
 pub use fault::LineFault;
+pub use laws::{first_lines_go_first, last_lines_end};
 pub use reader::{INPUT_LIMIT, LINE_LIMIT, LineReader, Next};

@@ -1,8 +1,10 @@
-ghost use Rattle.std.specs.Prelude.{◌≡◌, IfOk, Contains};
+ghost use Rattle.std.specs.Prelude.{◌≡◌, IfOk};
 ghost use Rattle.script_lines.specs.Faults.{CountsFaults};
+ghost use Rattle.script_lines.specs.Lines.{IsUnbroken};
 ghost use Rattle.script_lines.specs.Reading.{fresh, GivesNext};
 
 use crate::LineFault;
+use crate::front::{Front, find_front};
 use crate::piece::Piece;
 use gw_io::Source;
 use std::alloc::{AllocError, Global};
@@ -41,6 +43,7 @@ pub struct LineReader {
 impl Model for LineReader {
     ghost use Rattle.std.specs.Prelude.{◌≤◌, [], ◌++◌, length, if◌then◌else◌};
     ghost use Rattle.script_lines.specs.declared.reader.TheConstants.{LINE_LIMIT, INPUT_LIMIT};
+    ghost use Rattle.script_lines.specs.Lines.{IsUnbroken};
     ghost use Rattle.script_lines.specs.Reading.{ReaderState};
 
     ghost Value = { ReaderState };
@@ -51,7 +54,7 @@ impl Model for LineReader {
       given = reader.given;
     } };
 
-    ghost invariant = { λ reader. (length reader.line.items ≤ LINE_LIMIT) × (reader.given ≤ INPUT_LIMIT) };
+    ghost invariant = { λ reader. IsUnbroken reader.line.items × (length reader.line.items ≤ LINE_LIMIT) × (reader.given ≤ INPUT_LIMIT) };
 }
 
 impl LineReader {
@@ -81,10 +84,23 @@ impl LineReader {
         ensures found { GivesNext (S.left source.old) (S.left source.new) self.old self.new result }
 
         // Nothing is read while a whole line waits.
-        ensures unread { Contains self.old.waits 10 → source.new ≡ source.old }
+        ensures unread { ¬ (IsUnbroken self.old.waits) → source.new ≡ source.old }
 
         ensures cause { CountsFaults (S.faults source.old) (S.faults source.new) result }
     {
-        Err(LineFault::OutOfMemory)
+        if self.is_given {
+            self.line.clear();
+            self.is_given = false;
+        }
+        let front = find_front(&mut self.line, &mut self.piece, self.given, source)?;
+        let feed = match front {
+            Front::TooLong => return Ok(Next::TooLong),
+            Front::Part if self.line.is_empty() => return Ok(Next::End),
+            Front::Part => 0,
+            Front::Line => 1,
+        };
+        self.given += self.line.len() as u64 + feed;
+        self.is_given = true;
+        Ok(Next::Line)
     }
 }

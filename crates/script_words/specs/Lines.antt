@@ -1,6 +1,6 @@
 -- What the lines of a script say: which words mean which line. (The script's language is own; the limits of names are those of
 -- the Swift API, OpenStack Object Storage API v1, with own numbers.)
-use Rattle.std.specs.Prelude.{◌≡◌, ◌≢◌, ◌⊎◌, ℕ, ◌+◌, ◌^◌, ◌<◌, ◌≤◌, ◌==◌, ◌||◌, not, true, List, [], ◌∷◌, ◌++◌, length, slice_index, codes, Bool}
+use Rattle.std.specs.Prelude.{◌≡◌, ◌≢◌, ◌⊎◌, ℕ, ◌+◌, ◌^◌, ◌≤◌, ◌==◌, ◌&&◌, ◌||◌, not, true, nat_lt, nat_le, List, [], ◌∷◌, ◌++◌, length, slice_index, codes, Bool}
 use Rattle.std.specs.List.{list_all, slice_split}
 use Rattle.std.specs.Char.{is_ascii_digit}
 use Rattle.std.specs.Str.{is_utf8}
@@ -27,12 +27,14 @@ words_of line = slice_split is_blank line
 -- ---- numbers and zones
 
 -- 1 to 20 decimal digits, zeros in front among them, of a number that 64 bits hold
+abbrev pub is_number : List ℕ → Bool
+is_number word =
+    nat_lt 0 (length word) && (nat_le (length word) 20
+    && (list_all is_ascii_digit word && nat_lt (digits_value 10 word) (2 ^ 64)))
+
 pub record IsNumber (word : List ℕ) (n : ℕ) : Type 0 where
-  pub some : 1 ≤ length word
-  pub few : length word ≤ 20
-  pub digits : list_all is_ascii_digit word ≡ true
+  pub digits : is_number word ≡ true
   pub value : n ≡ digits_value 10 word
-  pub fits : n < 2 ^ 64
 
 -- one digit that is the number of a zone among so many, from 1
 pub record IsZone (zones : ℕ) (word : List ℕ) (zone : ℕ) : Type 0 where
@@ -43,21 +45,22 @@ pub record IsZone (zones : ℕ) (word : List ℕ) (zone : ℕ) : Type 0 where
 
 -- ---- names
 
--- a text within the limit
-pub record IsText (most : ℕ) (word : List ℕ) : Type 0 where
-  pub limits : is_name most word ≡ true
-  pub text : is_utf8 word ≡ true
+-- a text of at most so many bytes that may be a name
+abbrev pub is_text : ℕ → List ℕ → Bool
+is_text most word = is_name most word && is_utf8 word
+
+abbrev pub is_slash : ℕ → Bool
+is_slash b = b == 47
 
 -- the name of a container in a script has no slash
-pub record IsContainer (word : List ℕ) : Type 0 where
-  pub within : IsText 256 word
-  pub no_slash : list_all (λ b. not (b == 47)) word ≡ true
+abbrev pub is_container : List ℕ → Bool
+is_container word = list_all (λ b. not (is_slash b)) word && is_text 256 word
 
 -- a container and an object, with a slash between them; so the first slash parts them
 pub record IsPath (word container name : List ℕ) : Type 0 where
   pub parted : word ≡ container ++ 47 ∷ name
-  pub first : IsContainer container
-  pub second : IsText 1024 name
+  pub first : is_container container ≡ true
+  pub second : is_text 1024 name ≡ true
 
 -- ---- bodies
 
@@ -82,7 +85,7 @@ abbrev pub IsVerb : List (List ℕ) → Verb → Type 0
 IsVerb words (Put container name body) =
     (path : List ℕ) × (word : List ℕ) × (words ≡ codes "put" ∷ path ∷ word ∷ []) × IsPath path container name × IsBody word body
 IsVerb words (Get container name) = (path : List ℕ) × (words ≡ codes "get" ∷ path ∷ []) × IsPath path container name
-IsVerb words (Stat container) = (words ≡ codes "stat" ∷ container ∷ []) × IsContainer container
+IsVerb words (Stat container) = (words ≡ codes "stat" ∷ container ∷ []) × (is_container container ≡ true)
 
 -- the words are an actor behind this command, and nothing more
 pub record IsOfActor (command : List ℕ) (words : List (List ℕ)) (actor : List ℕ) : Type 0 where

@@ -5,7 +5,7 @@ use Rattle.call_words.specs.Texts.{refusal_in, refusal_by}
 use Rattle.swift_reply.specs.declared.reply.SwiftRefusal.{SwiftRefusal}
 use Rattle.swift_reply.specs.Replies.{refusal_code, refusal_line}
 use Rattle.task_words.specs.declared.outcome.Outcome.{Outcome}
-use Rattle.task_words.specs.declared.outcome.Outcome.TheVariants.{Done, BodyFailed, LateRead}
+use Rattle.task_words.specs.declared.outcome.Outcome.TheVariants.{Done, LateRead}
 use Rattle.task_words.specs.declared.reply.MapReply.{MapReply}
 use Rattle.task_words.specs.declared.reply.MapReply.TheVariants.{Stored, Shown, Same, Counted, Refused}
 

@@ -2,11 +2,16 @@
 #![tactic(auto)]
 
 mod actor;
+mod laws;
 mod line;
+mod no_line;
 mod reading;
 mod replies;
+mod verbs;
+mod words;
 
 pub use actor::ActorName;
+pub use laws::lines_have_one_meaning;
 pub use line::{Line, ScriptBody, Verb};
 pub use reading::read_line;
 pub use replies::{push_bad_line, push_count_line, push_named_line, push_outcome, push_reply_line};

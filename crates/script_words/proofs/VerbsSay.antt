@@ -1,0 +1,122 @@
+-- Bodies and verbs: the grammar and the reading of words say the same.
+use Rattle.std.proofs.Common.{◌≡◌, inl, inr, ⊎_elim, ℕ, ◌≤◌, ◌==◌, Bool, true, false, cond, List, [], ◌∷◌, Some, None, refl, sym, ap, ◌∙◌, subst, codes}
+use Rattle.std.specs.Prelude.{bytes_eq, nat_le}
+use Rattle.std.specs.Option.{option_map, option_and_then}
+use Rattle.std.proofs.lemmas.Bool.{eqb-true, le-leb, leb-true, false_from_ne_true}
+use Rattle.std.proofs.lemmas.Option.{none-some, same_Some, cond_some}
+use Rattle.script_words.specs.Lines.{is_container, most_letters, IsPlain, IsBody, IsVerb}
+use Rattle.script_words.specs.Reading.{number_in, container_in, path_in, times_in, body_in, put_in, get_in, stat_in, verb_in}
+use Rattle.script_words.specs.declared.line.ScriptBody.{ScriptBody}
+use Rattle.script_words.specs.declared.line.ScriptBody.TheVariants.{Word, Times}
+use Rattle.script_words.specs.declared.line.Verb.{Verb}
+use Rattle.script_words.specs.declared.line.Verb.TheVariants.{Put, Get, Stat}
+use Rattle.script_words.specs.declared.verbs.Path.{Path}
+use Rattle.script_words.proofs.Options.{map_some, then_some, either_some, same_word}
+use Rattle.script_words.proofs.WordsSay.{number_says, number_means, path_says, path_means, kept}
+
+-- ---- bodies
+
+plain_says : (word : List ℕ) → IsPlain word → body_in word ≡ Some (Word word)
+plain_says [] plain = absurd (plain.some refl)
+plain_says (first ∷ rest) plain =
+    let no_star : (first == 42) ≡ false = false_from_ne_true (first == 42) (λ is. plain.no_star (eqb-true first 42 is)) in
+    let no_dash : bytes_eq (first ∷ rest) (codes "-") ≡ false =
+    false_from_ne_true (bytes_eq (first ∷ rest) (codes "-")) (λ is. plain.no_dash (same_word (first ∷ rest) (codes "-") is)) in
+    ap (λ t. cond t (times_in rest) (cond (bytes_eq (first ∷ rest) (codes "-")) (Some (Word [])) (Some (Word (first ∷ rest))))) no_star
+    ∙ ap (λ t. cond t (Some (Word [])) (Some (Word (first ∷ rest)))) no_dash
+
+pub body_says : (word : List ℕ) (body : ScriptBody) → IsBody word body → body_in word ≡ Some body
+body_says word (Word bytes) is = ⊎_elim
+    (λ (none : (word ≡ codes "-") × (bytes ≡ [])). ap body_in none.0 ∙ ap (λ b. Some (Word b)) (sym none.1))
+    (λ (some : IsPlain word × (bytes ≡ word)). plain_says word some.0 ∙ ap (λ b. Some (Word b)) (sym some.1)) is
+body_says word (Times n) is =
+    let few : nat_le n most_letters ≡ true = le-leb n most_letters is.3 in
+    ap body_in is.1 ∙ ap (option_and_then (λ m. cond (nat_le m most_letters) (Some (Times m)) None)) (number_says is.0 n is.2)
+    ∙ ap (λ t. cond t (Some (Times n)) None) few
+
+times_mean : (word digits : List ℕ) (body : ScriptBody) → word ≡ 42 ∷ digits → times_in digits ≡ Some body → IsBody word body
+times_mean word digits body is read =
+    let number = then_some (λ m. cond (nat_le m most_letters) (Some (Times m)) None) (number_in digits) body read in
+    let parts = limit (nat_le number.0 most_letters) number.0 body refl number.2 in
+    subst (IsBody word) parts.1 (digits, is, number_means digits number.0 number.1, parts.0)
+  where
+    limit : (few : Bool) (n : ℕ) (body : ScriptBody) → nat_le n most_letters ≡ few
+        → cond few (Some (Times n)) None ≡ Some body → (n ≤ most_letters) × (Times n ≡ body)
+    limit true n body few read = (leb-true n most_letters few, same_Some (Times n) body read)
+    limit false n body few read = absurd (none-some body read)
+
+pub body_means : (word : List ℕ) (body : ScriptBody) → body_in word ≡ Some body → IsBody word body
+body_means [] body read = absurd (none-some body read)
+body_means (first ∷ rest) body read =
+    let word = first ∷ rest in
+    let dash = bytes_eq word (codes "-") in ⊎_elim
+    (λ (star : ((first == 42) ≡ true) × (times_in rest ≡ Some body)).
+        times_mean word rest body (ap (λ b. b ∷ rest) (eqb-true first 42 star.0)) star.1)
+    (λ (other : ((first == 42) ≡ false) × (cond dash (Some (Word [])) (Some (Word word)) ≡ Some body)). ⊎_elim
+        (λ (none : (dash ≡ true) × (Some (Word []) ≡ Some body)).
+            subst (IsBody word) (same_Some (Word []) body none.1) (inl (same_word word (codes "-") none.0, refl)))
+        (λ (some : (dash ≡ false) × (Some (Word word) ≡ Some body)).
+            subst (IsBody word) (same_Some (Word word) body some.1)
+            (inr (record {
+              some = λ is. cc;
+              no_dash = λ is. absurd (differ dash some.0 (ap (λ w. bytes_eq w (codes "-")) is));
+              no_star = λ is. absurd (differ (first == 42) other.0 (ap (λ b. b == 42) is));
+            }, refl)))
+        (either_some dash (Some (Word [])) (Some (Word word)) body other.1))
+    (either_some (first == 42) (times_in rest) (cond dash (Some (Word [])) (Some (Word word))) body read)
+  where
+    differ : (t : Bool) → t ≡ false → t ≡ true → ⊥
+    differ true is other = cc
+    differ false is other = cc
+
+-- ---- verbs
+
+pub verb_says : (words : List (List ℕ)) (verb : Verb) → IsVerb words verb → verb_in words ≡ Some verb
+verb_says words (Put container name body) is =
+    ap verb_in is.2 ∙ ap (option_and_then (λ (p : Path). option_map (λ b. Put p.container p.name b) (body_in is.1))) (path_says is.0 container name is.3)
+    ∙ ap (option_map (λ b. Put container name b)) (body_says is.1 body is.4)
+verb_says words (Get container name) is =
+    ap verb_in is.1 ∙ ap (option_map (λ (p : Path). Get p.container p.name)) (path_says is.0 container name is.2)
+verb_says words (Stat container) is =
+    ap verb_in is.0 ∙ ap (option_map (λ c. Stat c)) (kept (is_container container) container container is.1 refl)
+
+put_means : (command : List ℕ) (words : List (List ℕ)) (verb : Verb) → command ≡ codes "put" → put_in words ≡ Some verb → IsVerb (command ∷ words) verb
+put_means command [] verb is read = absurd (none-some verb read)
+put_means command (path ∷ []) verb is read = absurd (none-some verb read)
+put_means command (path ∷ word ∷ more ∷ words) verb is read = absurd (none-some verb read)
+put_means command (path ∷ word ∷ []) verb is read =
+    let first = then_some (λ (p : Path). option_map (λ b. Put p.container p.name b) (body_in word)) (path_in path) verb read in
+    let p = first.0 in
+    let second = map_some (λ b. Put p.container p.name b) (body_in word) verb first.2 in
+    subst (IsVerb (command ∷ path ∷ word ∷ [])) second.2
+    (path, word, ap (λ c. c ∷ path ∷ word ∷ []) is, path_means path p first.1, body_means word second.0 second.1)
+
+get_means : (command : List ℕ) (words : List (List ℕ)) (verb : Verb) → command ≡ codes "get" → get_in words ≡ Some verb → IsVerb (command ∷ words) verb
+get_means command [] verb is read = absurd (none-some verb read)
+get_means command (path ∷ more ∷ words) verb is read = absurd (none-some verb read)
+get_means command (path ∷ []) verb is read =
+    let first = map_some (λ (p : Path). Get p.container p.name) (path_in path) verb read in
+    subst (IsVerb (command ∷ path ∷ [])) first.2 (path, ap (λ c. c ∷ path ∷ []) is, path_means path first.0 first.1)
+
+stat_means : (command : List ℕ) (words : List (List ℕ)) (verb : Verb) → command ≡ codes "stat" → stat_in words ≡ Some verb → IsVerb (command ∷ words) verb
+stat_means command [] verb is read = absurd (none-some verb read)
+stat_means command (word ∷ more ∷ words) verb is read = absurd (none-some verb read)
+stat_means command (word ∷ []) verb is read =
+    let first = map_some (λ c. Stat c) (container_in word) verb read in
+    let name = cond_some (is_container word) word first.0 first.1 in
+    subst (IsVerb (command ∷ word ∷ [])) (ap (λ c. Stat c) name.1 ∙ first.2) (ap (λ c. c ∷ word ∷ []) is, name.0)
+
+pub verb_means : (words : List (List ℕ)) (verb : Verb) → verb_in words ≡ Some verb → IsVerb words verb
+verb_means [] verb read = absurd (none-some verb read)
+verb_means (command ∷ words) verb read =
+    let stat = cond (bytes_eq command (codes "stat")) (stat_in words) None in
+    let get = cond (bytes_eq command (codes "get")) (get_in words) stat in ⊎_elim
+    (λ (p : (bytes_eq command (codes "put") ≡ true) × (put_in words ≡ Some verb)). put_means command words verb (same_word _ _ p.0) p.1)
+    (λ (q : (bytes_eq command (codes "put") ≡ false) × (get ≡ Some verb)). ⊎_elim
+        (λ (p : (bytes_eq command (codes "get") ≡ true) × (get_in words ≡ Some verb)). get_means command words verb (same_word _ _ p.0) p.1)
+        (λ (r : (bytes_eq command (codes "get") ≡ false) × (stat ≡ Some verb)). ⊎_elim
+            (λ (p : (bytes_eq command (codes "stat") ≡ true) × (stat_in words ≡ Some verb)). stat_means command words verb (same_word _ _ p.0) p.1)
+            (λ (s : (bytes_eq command (codes "stat") ≡ false) × (None ≡ Some verb)). absurd (none-some verb s.1))
+            (either_some _ (stat_in words) None verb r.1))
+        (either_some _ (get_in words) stat verb q.1))
+    (either_some _ (put_in words) get verb read)
