@@ -1,0 +1,6 @@
+pub mod Going
+pub mod Feeding
+pub mod Putting
+pub mod Getting
+pub mod Counting
+pub mod Staying

@@ -1,12 +1,14 @@
 -- Where an actor of a script stands.
-use Rattle.std.specs.Prelude.{◌≡◌, ℕ, ◌+◌, ◌-◌, ◌≤◌, List, [], take, length, Option, Some, None}
+use Rattle.std.specs.Prelude.{◌≡◌, ℕ, ◌+◌, ◌-◌, ◌≤◌, List, [], ◌++◌, take, length, Option, Some, None}
 use Rattle.realm_model.specs.Settings.{SettingsView}
 use Rattle.realm_model.specs.Doors.{DoorView}
 use Rattle.task_words.specs.declared.command.BodyEnd.{BodyEnd}
 use Rattle.task_words.specs.declared.command.BodyEnd.TheVariants.{Whole, Failed}
 use Rattle.task_put.specs.Bodies.{most_bytes}
 use Rattle.task_put.specs.Stages as put_stages
+use Rattle.task_put.specs.Taking.{room_at}
 use Rattle.task_put.specs.Tasks as put
+use Rattle.task_put.specs.declared.task.PutTask.{PutTask}
 use Rattle.task_get.specs.Pieces.{brought}
 use Rattle.task_get.specs.Stages as get_stages
 use Rattle.task_get.specs.Tasks as get
@@ -79,10 +81,10 @@ IsGet x = get.request_of x.task ≡ get_request (asked_get x).zone (get.request_
 abbrev pub IsStat : ContainerTask → Type 0
 IsStat t = stat.request_of t ≡ stat_request (asked_stat t).zone (name_of (stat.request_of t).command)
 
--- no step stopped with a fault
+-- no step stopped with a fault; a PUT is at the body that it was fed, as long as it goes on
 pub record PutStands (x : PutPlay) : Type 0 where
   pub is_put : IsPut x
-  pub steady : IsSteady x.task
+  pub steady : (put_stages.IsOver (put.stage_of x.task) → ⊥) → IsSteady x.task
   pub sound : put.fault_of x.task ≡ None
 
 pub record GetStands (x : GetPlay) : Type 0 where
@@ -97,6 +99,14 @@ abbrev pub StandsBy : Acting → Type 0
 StandsBy (actings.Put x) = PutStands x
 StandsBy (actings.Get x) = GetStands x
 StandsBy (actings.Stat t) = StatStands t
+
+-- so many bytes behind the first were taken: some, if there was room
+pub record TakesNext (bytes : List ℕ) (at : ℕ) (old new : PutTask) (count : ℕ) : Type 0 where
+  pub more : List ℕ
+  pub task : new ≡ put.fed old more
+  pub next : take at bytes ++ more ≡ take (at + count) bytes
+  pub inside : at + count ≤ length bytes
+  pub some : 1 ≤ room_at (put.stage_of old) → 1 ≤ count
 
 -- how many turns may still feed the task: one a piece, and one for the end
 abbrev pub unended : Option BodyEnd → ℕ

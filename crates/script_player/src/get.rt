@@ -37,7 +37,7 @@ impl GetPlay {
     ) -> Result<GetPlay, AllocError>
         ensures asked { IfOk result (λ x. asked_get x ≡ record { zone = zone; verb = Get container name }) }
         ensures stands { IfOk result GetStands }
-        ensures open { IfOk result (λ x. GetEnded x → ⊥) }
+        ensures going { IfOk result (λ x. GetEnded x → ⊥) }
         ensures fits { IfOk result (λ x. (settings : SettingsView) (d : DoorView) → 1 ≤ zone → zone ≤ settings.zones
             → IsNew settings d → FitsGet x settings d) }
     {
@@ -72,7 +72,7 @@ impl GetPlay {
         moment: u64,
     ) -> Result<(), DoorFault>
         requires stands { GetStands self.old }
-        requires open { GetEnded self.old → ⊥ }
+        requires going { GetEnded self.old → ⊥ }
         requires legal { D.tells → Legal (D.settings door.old) (D.told door.old).seen }
         requires fits { D.tells → FitsGet self.old (D.settings door.old) (D.told door.old) }
         ensures stands { OnOk result (GetStands self.new) }

@@ -13,7 +13,7 @@ ghost use Rattle.script_words.specs.Bodies.{body_bytes};
 ghost use Rattle.script_words.specs.declared.line.Verb.TheVariants.{Put};
 ghost use Rattle.script_player.specs.Going.{GoesUpTo, Steps};
 ghost use Rattle.script_player.specs.Meanings.{Means};
-ghost use Rattle.script_player.specs.Plays.{asked_put, PutStands, PutEnded, FitsPut, left_of};
+ghost use Rattle.script_player.specs.Plays.{asked_put, TakesNext, PutStands, PutEnded, FitsPut, left_of};
 
 use crate::asker::standard_asker;
 use object_words::{BucketName, Conditions, ObjectName};
@@ -48,6 +48,23 @@ fn size_of(body: &ScriptBody) -> u64
     }
 }
 
+/// Feeds the next piece of a body to the task, from the byte at `at` on. So many bytes were taken.
+fn feed_piece(task: &mut PutTask, body: &ScriptBody, at: u64) -> Result<usize, AllocError>
+    requires more { at < length (body_bytes body.now) }
+    ensures taken { IfOk result (TakesNext (body_bytes body.now) at task.old task.new) }
+    ensures fits { OnOk result ((settings : SettingsView) (d : DoorView)
+        → fits task.old settings d → fits task.new settings d) }
+    ensures err { OnErr result (task.new ≡ task.old) }
+{
+    match body {
+        ScriptBody::Word(bytes) => task.feed(&bytes.as_slice()[at as usize..]),
+        ScriptBody::Times(times) => {
+            let count = (*times - at).min(PIECE as u64) as usize;
+            task.feed(&[b'x'; PIECE][..count])
+        }
+    }
+}
+
 impl PutPlay {
     /// A PUT that made no event, without conditions.
     pub(crate) fn new(
@@ -61,7 +78,7 @@ impl PutPlay {
         requires few { length (body_bytes body) ≤ most_bytes }
         ensures asked { IfOk result (λ x. asked_put x ≡ record { zone = zone; verb = Put container name body }) }
         ensures stands { IfOk result PutStands }
-        ensures open { IfOk result (λ x. PutEnded x → ⊥) }
+        ensures going { IfOk result (λ x. PutEnded x → ⊥) }
         ensures fits { IfOk result (λ x. (d : DoorView) → 1 ≤ zone → zone ≤ settings.now.zones
             → IsNew settings.now d → FitsPut x settings.now d) }
     {
@@ -87,6 +104,7 @@ impl PutPlay {
     }
 
     /// Feeds the next piece of the body, or ends it behind the last one.
+    #[tactic(auto, using(crate::proofs::Putting::fed_stands, crate::proofs::Putting::fed_less, crate::proofs::Putting::fed_asked, crate::proofs::Putting::ended_stands, crate::proofs::Putting::ended_less, crate::proofs::Putting::ended_asked))]
     fn feed(&mut self) -> Result<(), AllocError>
         requires stands { PutStands self.old }
         requires wants { WantsBytes (stage_of self.old.task) }
@@ -100,16 +118,7 @@ impl PutPlay {
             self.task.finish(BodyEnd::Whole);
             return Ok(());
         }
-        let taken = match &self.body {
-            ScriptBody::Word(bytes) => {
-                let rest = &bytes.as_slice()[self.fed as usize..];
-                self.task.feed(rest)?
-            }
-            ScriptBody::Times(times) => {
-                let count = (*times - self.fed).min(PIECE as u64) as usize;
-                self.task.feed(&[b'x'; PIECE][..count])?
-            }
-        };
+        let taken = feed_piece(&mut self.task, &self.body, self.fed)?;
         self.fed += taken as u64;
         Ok(())
     }

@@ -26,7 +26,7 @@ pub(crate) fn new_stat(
 ) -> Result<ContainerTask, AllocError>
     ensures asked { IfOk result (λ t. asked_stat t ≡ record { zone = zone; verb = Stat container }) }
     ensures stands { IfOk result StatStands }
-    ensures open { IfOk result (λ t. StatEnded t → ⊥) }
+    ensures going { IfOk result (λ t. StatEnded t → ⊥) }
     ensures fits { IfOk result (λ t. (settings : SettingsView) (d : DoorView) → 1 ≤ zone → zone ≤ settings.zones
         → IsNew settings d → FitsStat t settings d) }
 {
@@ -45,6 +45,7 @@ pub(crate) fn count<D: Door>(
     moment: u64,
 ) -> Result<(), DoorFault>
     requires stands { StatStands task.old }
+    requires going { StatEnded task.old → ⊥ }
     requires legal { D.tells → Legal (D.settings door.old) (D.told door.old).seen }
     requires fits { D.tells → FitsStat task.old (D.settings door.old) (D.told door.old) }
     ensures stands { OnOk result (StatStands task.new) }
@@ -56,8 +57,7 @@ pub(crate) fn count<D: Door>(
     ensures settings { D.settings door.new ≡ D.settings door.old }
     ensures home { D.home door.new ≡ D.home door.old }
 {
-    task.turn(alloc, door, moment)?;
-    Ok(())
+    task.event(alloc, door, moment)
 }
 
 /// The outcome, from its event on.

@@ -47,6 +47,7 @@ impl ContainerTask {
         ensures fits { (settings : SettingsView) (d : DoorView) → 1 ≤ request.zone → request.zone ≤ settings.zones
             → account_of settings d.seen (actor_at d) ≡ blank → fits result settings d }
         ensures sound { fault_of result ≡ None }
+        ensures open { IsOpen result.stage }
     {
         ContainerTask {
             request,
@@ -85,6 +86,57 @@ impl ContainerTask {
         let (stage, moved) = next_stage(&self.request.asker, stage, self.moved, reply);
         self.stage = stage;
         self.moved = moved;
+    }
+}
+
+impl ContainerTask {
+    ghost use Rattle.std.specs.Prelude.{◌≡◌, ◌<◌, ◌≤◌, ◌^◌, length, Some, None, IfErr, OnOk, OnErr};
+    ghost use Rattle.turn_cell.specs.declared.machine.DoorFault.TheVariants.{Worn};
+    ghost use Rattle.realm_model.specs.Histories.{Legal};
+    ghost use Rattle.realm_door.specs.Turns.{MakesEvent, IsOneMore};
+    ghost use Rattle.task_container.specs.Stages.{IsOpen, request_of, fault_of, fits};
+
+    /// Makes the event that comes next.
+    #[tactic(auto, using(crate::proofs::Turning::fits_next, crate::proofs::Turning::may_step))]
+    pub fn event<D: Door>(
+        &mut self,
+        alloc: Global,
+        door: &mut D,
+        moment: u64,
+    ) -> Result<(), DoorFault>
+        requires open { IsOpen self.old.stage }
+        requires sound { fault_of self.old ≡ None }
+        requires fits { D.tells →
+            Legal (D.settings door.old) (D.told door.old).seen
+            × fits self.old (D.settings door.old) (D.told door.old) }
+        ensures kept { D.tells →
+            Legal (D.settings door.old) (D.told door.new).seen
+            × fits self.new (D.settings door.old) (D.told door.new) }
+        ensures made { OnOk result (D.tells → MakesEvent (D.settings door.old) moment (D.told door.old) (D.told door.new)) }
+        ensures alone { OnOk result (D.tells → D.alone → IsOneMore (D.told door.old) (D.told door.new)) }
+        ensures counts { OnOk result ((D.last door.old < D.last door.new) × (D.last door.new ≤ 2 ^ 62)) }
+        ensures request { request_of self.new ≡ request_of self.old }
+        ensures stopped { OnErr result ((D.tells → D.told door.new ≡ D.told door.old) × (D.last door.new ≡ D.last door.old)) }
+        ensures sound { OnOk result (fault_of self.new ≡ None) }
+        ensures faulted { IfErr result (λ f. fault_of self.new ≡ Some f) }
+        ensures worn { IfErr result (λ f. D.tells → f ≡ Worn → length (D.found door.new) ≡ 2 ^ 62) }
+        ensures settings { D.settings door.new ≡ D.settings door.old }
+        ensures home { D.home door.new ≡ D.home door.old }
+    {
+        let Ok(op) = self.next_op() else {
+            self.fault = Some(DoorFault::OutOfMemory);
+            return Err(DoorFault::OutOfMemory);
+        };
+        match door.step(alloc, op, moment) {
+            Ok(answered) => {
+                self.take(answered.reply);
+                Ok(())
+            }
+            Err(stopped) => {
+                self.fault = Some(stopped.fault);
+                Err(stopped.fault)
+            }
+        }
     }
 }
 
@@ -211,7 +263,7 @@ impl Task for ContainerTask {
 
     ghost wants = { λ t. ⊥ };
 
-    #[tactic(auto, using(crate::proofs::Turning::fits_next, crate::proofs::Turning::may_step))]
+    #[tactic(auto, using(crate::proofs::Turning::is_open_of, crate::proofs::Turning::not_over))]
     fn turn<D: Door>(
         &mut self,
         alloc: Global,
@@ -224,20 +276,8 @@ impl Task for ContainerTask {
         if let Stage::Ended(_) = &self.stage {
             return Ok(TaskTurn::Done);
         }
-        let Ok(op) = self.next_op() else {
-            self.fault = Some(DoorFault::OutOfMemory);
-            return Err(DoorFault::OutOfMemory);
-        };
-        match door.step(alloc, op, moment) {
-            Ok(answered) => {
-                self.take(answered.reply);
-                Ok(TaskTurn::More)
-            }
-            Err(stopped) => {
-                self.fault = Some(stopped.fault);
-                Err(stopped.fault)
-            }
-        }
+        self.event(alloc, door, moment)?;
+        Ok(TaskTurn::More)
     }
 
     fn outcome(&self) -> Option<&Outcome> {

@@ -1,0 +1,125 @@
+-- A player while others make events.
+use Rattle.std.proofs.Common.{◌≡◌, ℕ, ◌≤◌, List, [], ◌++◌, length, Option, Some, None, refl, sym, ap, ◌∙◌, subst, length-append, arith}
+use Rattle.realm_model.specs.Settings.{SettingsView}
+use Rattle.realm_model.specs.Accounts.{Account}
+use Rattle.realm_model.specs.Doors.{DoorView, IsSeen, actor_at}
+use Rattle.realm_model.specs.Histories.{Doings, Legal, account_of, phase_of, world_of}
+use Rattle.realm_model.specs.Owns.{OwnEvent, own_events}
+use Rattle.realm_model.specs.Phases.{Phase}
+use Rattle.realm_model.specs.declared.event.Event.{Event}
+use Rattle.realm_door.specs.Steps.{IsSame}
+use Rattle.stripe_law.proofs.Staying.{still_made}
+use Rattle.task_words.specs.declared.command.BodyEnd.TheVariants.{Whole}
+use Rattle.task_words.specs.declared.outcome.Outcome.{Outcome}
+use Rattle.task_words.specs.Outcomes.{IsPutOutcome}
+use Rattle.task_put.specs.Orders.{path_of, IsOrdered}
+use Rattle.task_put.specs.Fits.{body_of, Known, known_at, known_later, Fits as PutFits}
+use Rattle.task_put.specs.Tasks as put
+use Rattle.task_put.specs.declared.task.PutTask.{PutTask}
+use Rattle.task_put.proofs.Knowing.{fits_later}
+use Rattle.task_put.proofs.Tasking.{lifted}
+use Rattle.task_get.specs.Gets.{Means as GetMeans, FitsStage, LastBrings}
+use Rattle.task_get.specs.Pieces.{brought}
+use Rattle.task_get.specs.Tasks as get
+use Rattle.task_get.specs.declared.task.GetTask.{GetTask}
+use Rattle.task_container.specs.Counts.{IsContainerOutcome}
+use Rattle.task_container.specs.Stages as stat
+use Rattle.task_container.specs.declared.task.ContainerTask.{ContainerTask}
+use Rattle.task_turns.proofs.Containers.{container_waits}
+use Rattle.script_words.specs.Bodies.{body_bytes}
+use Rattle.script_words.specs.declared.line.Verb.{Verb}
+use Rattle.script_words.specs.declared.line.Verb.TheVariants.{Put, Get, Stat}
+use Rattle.script_player.specs.Meanings.{AreBytesOf, Means}
+use Rattle.script_player.specs.Requests.{put_request, get_request, stat_request}
+use Rattle.script_player.specs.Plays.{FitsBy, fits}
+use Rattle.script_player.specs.declared.player.Acting.{Acting}
+use Rattle.script_player.specs.declared.player.Acting.TheVariants as actings
+use Rattle.script_player.specs.declared.player.Player.{Player}
+
+module _ (settings : SettingsView) (d e : DoorView) (pass : e.pass ≡ d.pass) (count : e.count ≡ d.count) (same : IsSame settings d.seen e.seen (actor_at d)) where
+  actor_same : actor_at e ≡ actor_at d
+  actor_same i = record { pass = pass i; count = count i }
+
+  account_same : account_of settings e.seen (actor_at e) ≡ account_of settings d.seen (actor_at d)
+  account_same = ap (account_of settings e.seen) actor_same ∙ ap (λ (o : Doings). o.account) same.doings
+
+  phase_same : phase_of settings e.seen (actor_at e) ≡ phase_of settings d.seen (actor_at d)
+  phase_same = ap (phase_of settings e.seen) actor_same ∙ ap (λ (o : Doings). o.phase) same.doings
+
+  events_same : own_events e.seen (actor_at e) ≡ own_events d.seen (actor_at d)
+  events_same = ap (own_events e.seen) actor_same ∙ same.events
+
+  at_both : (says : Account → List OwnEvent → Type 0) → says (account_of settings d.seen (actor_at d)) (own_events d.seen (actor_at d)) → says (account_of settings e.seen (actor_at e)) (own_events e.seen (actor_at e))
+  at_both says m =
+      subst (λ y. says y (own_events e.seen (actor_at e))) (sym account_same)
+      (subst (says (account_of settings d.seen (actor_at d))) (sym events_same) m)
+
+  -- what an end says, by the account and the events
+  pub means_stay : (zone : ℕ) (verb : Verb) (outcome : Outcome) (shown : List ℕ) → Means zone verb outcome shown settings d → Means zone verb outcome shown settings e
+  means_stay zone (Put container name body) outcome shown m =
+      let r = put_request zone container name (body_bytes body) (Some Whole) in
+      (at_both (λ y es. IsPutOutcome r.zone r.asker r.command (body_of r) outcome y es × IsOrdered (path_of es)) m.0, m.1)
+  means_stay zone (Get container name) outcome shown m =
+      let r = get_request zone container name in
+      (at_both (GetMeans r outcome) m.0, subst (AreBytesOf r outcome shown) (sym account_same) m.1)
+  means_stay zone (Stat container) outcome shown m =
+      (at_both (IsContainerOutcome (stat_request zone container) outcome) m.0, m.1)
+
+  module _ (front : IsSeen d.seen e.seen) (legal : Legal settings e.seen) where
+    longer : length d.seen ≤ length e.seen
+    longer = omega (arith, ap length front.is_front, length-append d.seen front.later)
+
+    made_now : (zone write part : ℕ) (bytes : List ℕ) → (world_of settings d.seen).stripes.made zone write part ≡ Some bytes → (world_of settings e.seen).stripes.made zone write part ≡ Some bytes
+    made_now zone write part bytes is =
+        subst (λ s. (world_of settings s).stripes.made zone write part ≡ Some bytes) (sym front.is_front)
+        (still_made settings d.seen front.later (subst (Legal settings) front.is_front legal) zone write part bytes is)
+
+    known_now : known_at settings e ≡ known_later (known_at settings d) (length e.seen) (world_of settings e.seen).stripes.made
+    known_now i = record {
+      phase = phase_same i;
+      account = account_same i;
+      events = events_same i;
+      last = length e.seen;
+      made = (world_of settings e.seen).stripes.made;
+    }
+
+    put_stays : (t : PutTask) → put.fits t settings d → put.fits t settings e
+    put_stays t =
+        lifted t.fault (put.Stands t settings d) (put.Stands t settings e) (λ s. record {
+          target = s.target;
+          known = subst (PutFits settings (put.request_of t) t.tried t.stage) (sym known_now) (record {
+            low = s.known.low;
+            high = s.known.high;
+            order = s.known.order;
+            stands = fits_later settings (put.request_of t) t.tried (known_at settings d) (length e.seen) (world_of settings e.seen).stripes.made longer made_now t.stage s.known.stands;
+          });
+        })
+
+    get_stays : (t : GetTask) → get.Fits t settings d → get.Fits t settings e
+    get_stays t fits = record {
+      first_zone = fits.first_zone;
+      last_zone = fits.last_zone;
+      stage = subst (λ y. FitsStage t.request t.stage y (get.phase_at settings e) (get.events_at e)) (sym account_same)
+          (subst (λ p. FitsStage t.request t.stage (get.account_at settings d) p (get.events_at e)) (sym phase_same)
+          (subst (λ es. FitsStage t.request t.stage (get.account_at settings d) (get.phase_at settings d) es) (sym events_same) fits.stage));
+      given = subst (λ es. get.given_of t ≡ length (brought t.request.get es)) (sym events_same) fits.given;
+      piece = subst (λ es. LastBrings t.request (get.bytes_of t) es) (sym events_same) fits.piece;
+    }
+
+    -- whether the actor made an event does not count
+    stat_stays : (t : ContainerTask) → stat.fits t settings d → stat.fits t settings e
+    stat_stays t =
+        container_waits t settings d (record { pass = e.pass; count = e.count; used = d.used; seen = e.seen })
+        (record { pass = pass; count = count; used = refl; front = front; same = same })
+
+    stays_by : (acting : Acting) → FitsBy acting settings d → FitsBy acting settings e
+    stays_by (actings.Put x) f = record { is_put = f.is_put; task = put_stays x.task f.task }
+    stays_by (actings.Get x) f = record {
+      is_get = f.is_get;
+      task = get_stays x.task f.task;
+      shown = subst (λ es. x.shown.items ≡ brought (get.request_of x.task).get es) (sym events_same) f.shown;
+    }
+    stays_by (actings.Stat t) f = record { is_stat = f.is_stat; task = stat_stays t f.task }
+
+    pub player_stays : (p : Player) → fits p settings d → fits p settings e
+    player_stays p f = stays_by p.acting f
