@@ -4,7 +4,7 @@ use Rattle.gw_io.specs.Ends.{EndsState}
 use Rattle.gw_io.specs.Memory.{StepState, TellsOnly, moments_of, plan_of, moment_at}
 use Rattle.realm_core.specs.Realms.{RealmView}
 use Rattle.rgw_run.specs.declared.once_end.OnceEnd.TheVariants.{Unmade}
-use Rattle.rgw_run.specs.declared.words.Once.{Once}
+use Rattle.rgw_words.specs.declared.once.Once.{Once}
 use Rattle.rgw_run.specs.Runs.{HasRunCause, RunsByClock, with_clock, RunsAt, RunsBy, RunsOnce, Runs}
 
 -- ---- memory was wanting before anything was done

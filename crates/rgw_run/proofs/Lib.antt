@@ -1,5 +1,3 @@
-pub mod Counted
-pub mod Numbers
 pub mod Starting
 pub mod Ending
 pub mod Container

@@ -1,3 +1,3 @@
-pub mod Words
+pub mod Scripted
 pub mod Runs
 pub mod Exact

@@ -21,7 +21,9 @@ use Rattle.call_service.specs.declared.fault.ServeFault.{ServeFault}
 use Rattle.call_service.specs.declared.fault.ServeFault.TheVariants as Fault
 use Rattle.rgw_run.specs.declared.once_end.OnceEnd.{OnceEnd}
 use Rattle.rgw_run.specs.declared.once_end.OnceEnd.TheVariants.{Unmade, Unbegun, Ended, Stopped}
-use Rattle.rgw_run.specs.declared.words.Once.{Once}
+use Rattle.rgw_words.specs.declared.once.Once.{Once}
+use Rattle.rgw_words.specs.declared.script.ScriptWords.{ScriptWords}
+use Rattle.rgw_run.specs.Scripted.{RunsScripted}
 
 -- ---- the realm
 
@@ -146,8 +148,10 @@ RunsBy (Some moment) bucket old new realm status = RunsAt bucket moment old new 
 abbrev pub RunsOnce : Once → EndsState → EndsState → Option RealmView → ℕ → Type 0
 RunsOnce once old new realm status = RunsBy once.now once.bucket old new realm status
 
--- what a run with such words comes to; where they are refused nothing happens
-pub record Runs (words : Option Once) (old new : EndsState) (realm : Option RealmView) (status : ℕ) : Type 0 where
-  pub refused : (status ≡ 1) ↔ (words ≡ None)
-  pub nothing : words ≡ None → (realm ≡ None) × (new ≡ old)
-  pub once : IfSome words (λ asked. RunsOnce asked old new realm status)
+-- What a run with such words comes to, which ask to serve a connection, or to run a script, or neither; where they are refused
+-- nothing happens.
+pub record Runs (once : Option Once) (script : Option ScriptWords) (old new : EndsState) (realm : Option RealmView) (status : ℕ) : Type 0 where
+  pub refused : (status ≡ 1) ↔ ((once ≡ None) × (script ≡ None))
+  pub nothing : once ≡ None → script ≡ None → (realm ≡ None) × (new ≡ old)
+  pub once_runs : IfSome once (λ asked. RunsOnce asked old new realm status)
+  pub script_runs : IfSome script (λ asked. RunsScripted asked old new realm status)

@@ -4,15 +4,14 @@
 
 mod once_end;
 mod running;
+mod scripted;
 mod status;
 mod system;
-mod words;
 
 pub use once_end::OnceEnd;
 pub use running::run;
 pub use status::Status;
 pub use system::run_on_system;
-pub use words::{Once, WordsFault, read_words};
 
 #[cfg(test)]
 mod tests;

@@ -5,11 +5,13 @@ ghost use Rattle.swift_auth.specs.Users.{standard_user, account_of};
 ghost use Rattle.realm_core.specs.Realms.{new_realm};
 ghost use Rattle.rgw_run.specs.Words.{once_of};
 ghost use Rattle.rgw_run.specs.Exact.{RunsExactlyIf};
+ghost use Rattle.rgw_words.specs.Words.{once_of};
+ghost use Rattle.rgw_words.specs.Scripts.{script_of};
 ghost use Rattle.rgw_run.specs.Runs.{Runs, RunsOnce, RunsByClock, RunsAt, HasRunCause, Leaves, standard_settings, end_of, status_by, end_status, fault_status, door_status};
 
 use crate::once_end::OnceEnd;
+use crate::scripted::run_scripted;
 use crate::status::Status;
-use crate::words::{Once, WordsFault, read_words};
 use container_preset::preset_bucket;
 use gateway::{ConnEnd, ServeFault, Served, serve_connection};
 use gw_io::{Clock, Ends, Sink, Source, StepClock};
@@ -17,6 +19,7 @@ use object_words::BucketName;
 use realm_core::{Realm, SoloDoor};
 use realm_model::{Actor, Settings};
 use rgw_types::Text;
+use rgw_words::{Once, WordsFault, read_once, read_script};
 use std::alloc::{AllocError, Global};
 use swift_auth::Users;
 use turn_cell::DoorFault;
@@ -26,11 +29,11 @@ use turn_cell::DoorFault;
 ///
 /// | Status | Comes where |
 /// |---|---|
-/// | 0 | the requests of the input ended with it, or with one that closes the connection |
+/// | 0 | the requests of the input ended with it, or with one that closes the connection; all lines of the script were played |
 /// | 1 | the words are refused |
 /// | 2, 3 | the input, the output failed |
 /// | 4 | memory was wanting |
-/// | 5 | the requests end inside of one, with a refusal, or with a form that is not taken yet |
+/// | 5 | the requests end inside of one, with a refusal, or with a form that is not taken yet; a line of the script is bad |
 /// | 7 | the realm has all the events that it may have |
 pub fn run<S: Source, K: Sink, C: Clock>(
     alloc: Global,
@@ -41,7 +44,7 @@ pub fn run<S: Source, K: Sink, C: Clock>(
     realm: &mut Option<Realm>,
 ) -> Status
     requires { realm.old ≡ None }
-    ensures runs { Runs (once_of (map string_bytes words.now))
+    ensures runs { Runs (once_of (map string_bytes words.now)) (script_of (map string_bytes words.now))
         (⟦<(S, K, C) as Ends>⟧.ends (input.old, output.old, clock.old))
         (⟦<(S, K, C) as Ends>⟧.ends (input.new, output.new, clock.new)) realm.new result.number }
 
@@ -54,12 +57,36 @@ pub fn run<S: Source, K: Sink, C: Clock>(
     ensures untouched { result.number ≡ 1
         → (input.new ≡ input.old) × (output.new ≡ output.old) × (clock.new ≡ clock.old) }
 
-    // The clock is not asked where the words say the moment.
+    // The clock is not asked where the words say the moment, and by no script.
     ensures unasked { IfSome (once_of (map string_bytes words.now)) (λ once.
         IsSome once.now → clock.new ≡ clock.old) }
+    ensures by_lines { IsSome (script_of (map string_bytes words.now)) → clock.new ≡ clock.old }
 {
-    match read_words(alloc, words) {
+    match read_once(alloc, words) {
         Ok(once) => serve_once(alloc, once, input, output, clock, realm),
+        Err(WordsFault::Refused) => run_other(alloc, words, input, output, clock, realm),
+        Err(WordsFault::OutOfMemory) => Status { number: 4 },
+    }
+}
+
+/// Runs the script that the words ask for, which ask for nothing else.
+fn run_other<S: Source, K: Sink, C: Clock>(
+    alloc: Global,
+    words: &[String],
+    input: &mut S,
+    output: &mut K,
+    clock: &C,
+    realm: &mut Option<Realm>,
+) -> Status
+    requires none { once_of (map string_bytes words.now) ≡ None }
+    requires new { realm.old ≡ None }
+    ensures runs { Runs (once_of (map string_bytes words.now)) (script_of (map string_bytes words.now))
+        (⟦<(S, K, C) as Ends>⟧.ends (input.old, output.old, clock.now))
+        (⟦<(S, K, C) as Ends>⟧.ends (input.new, output.new, clock.now)) realm.new result.number }
+    ensures untouched { result.number ≡ 1 → (input.new ≡ input.old) × (output.new ≡ output.old) }
+{
+    match read_script(alloc, words) {
+        Ok(script) => run_scripted(alloc, script, input, output, clock, realm),
         Err(WordsFault::Refused) => Status { number: 1 },
         Err(WordsFault::OutOfMemory) => Status { number: 4 },
     }

@@ -2,7 +2,6 @@
 ghost use Rattle.std.specs.Prelude.{◌≤◌};
 
 use crate::running::run;
-use crate::words::{WordsFault, read_words};
 use gw_io::{SliceSource, StepClock, VecSink};
 use std::alloc::{AllocError, Global};
 use std::test::Fail;
@@ -42,58 +41,12 @@ const AT_ONE_MOMENT: &[&str] = &["once", "--bucket", "box", "--now", "1700000000
 
 const BY_THE_CLOCK: &[&str] = &["once", "--bucket", "box"];
 
-const REFUSED: &[&[&str]] = &[
-    &[],
-    &["once"],
-    &["once", "x"],
-    &["once", "--bucket"],
-    &["once", "box"],
-    &["once", "--bucket", ""],
-    &["once", "--bucket", "-x"],
-    &["once", "--bucket", "-"],
-    &["once", "--bucket", "a\0b"],
-    &["once", "--bucket=box"],
-    &["once", "--bucket", "box", "x"],
-    &["once", "--bucket", "box", "--now"],
-    &["once", "--bucket", "box", "--now", ""],
-    &["once", "--bucket", "box", "--now", "253402300800000000"],
-    &["once", "--bucket", "box", "--now", "18446744073709551617"],
-    &["once", "--bucket", "box", "--now", "+1"],
-    &["once", "--bucket", "box", "--now", "-1"],
-    &["once", "--bucket", "box", "--now", "1x"],
-    &["once", "--bucket", "box", "--now", "1", "x"],
-    &["once", "--bucket", "box", "--bucket", "box"],
-    &["once", "--now", "1", "--bucket", "box"],
-    &["Once", "--bucket", "box"],
-    &["serve", "--bucket", "box"],
-    &["--bucket", "box"],
-    &["--help"],
-    &["help"],
-];
-
 fn strings(alloc: Global, words: &[&str]) -> Result<Vec<String>, AllocError> {
     let mut all = Vec::new(alloc);
     for word in words {
         all.push(String::from_str(alloc, word)?)?;
     }
     Ok(all)
-}
-
-fn letters(alloc: Global, count: usize) -> Result<String, AllocError> {
-    let mut text = String::new(alloc);
-    for _ in 0..count {
-        text.push('a')?;
-    }
-    Ok(text)
-}
-
-/// Why the words are not read, if they are not.
-fn fault_of(alloc: Global, words: &[&str]) -> Result<Option<WordsFault>, AllocError> {
-    let words = strings(alloc, words)?;
-    match read_words(alloc, &words) {
-        Ok(_) => Ok(None),
-        Err(fault) => Ok(Some(fault)),
-    }
 }
 
 /// How input and output behave: the greatest piece, and the calls that fail.
@@ -127,66 +80,6 @@ fn outcome(
         &mut realm,
     );
     Ok((status.number, output.into_bytes()))
-}
-
-#[test]
-fn words_of_once_are_taken(rt: HostRuntime) -> Result<(), Fail> {
-    let longest = letters(rt.alloc(), 256)?;
-    let longest = longest.as_str();
-    let table: [(&[&str], &str, Option<u64>); 8] = [
-        (&["once", "--bucket", "box"], "box", None),
-        (AT_ONE_MOMENT, "box", Some(1_700_000_000_000_000)),
-        (
-            &["once", "--bucket", "box", "--now", "253402300799999999"],
-            "box",
-            Some(253_402_300_799_999_999),
-        ),
-        (&["once", "--bucket", "box", "--now", "0"], "box", Some(0)),
-        (&["once", "--bucket", "box", "--now", "00"], "box", Some(0)),
-        (
-            &[
-                "once",
-                "--bucket",
-                "box",
-                "--now",
-                "000000000000000000000000000007",
-            ],
-            "box",
-            Some(7),
-        ),
-        (
-            &["once", "--bucket", "a-b é/", "--now", "7"],
-            "a-b é/",
-            Some(7),
-        ),
-        (&["once", "--bucket", longest], longest, None),
-    ];
-    for (words, bucket, now) in table {
-        let words = strings(rt.alloc(), words)?;
-        match read_words(rt.alloc(), &words) {
-            Ok(once) => {
-                assert_eq!(rt; once.bucket.as_text().as_str(), bucket);
-                assert_eq!(rt; once.now, now, "{words:?}");
-            }
-            Err(fault) => panic!(rt; "{words:?}: {fault:?}"),
-        }
-    }
-    Ok(())
-}
-
-#[test]
-fn other_words_are_refused(rt: HostRuntime) -> Result<(), Fail> {
-    for words in REFUSED {
-        assert_eq!(rt;
-            fault_of(rt.alloc(), words)?,
-            Some(WordsFault::Refused),
-            "{words:?}"
-        );
-    }
-    let too_long = letters(rt.alloc(), 257)?;
-    let words = ["once", "--bucket", too_long.as_str()];
-    assert_eq!(rt; fault_of(rt.alloc(), &words)?, Some(WordsFault::Refused));
-    Ok(())
 }
 
 #[test]

@@ -1,10 +1,11 @@
-// The words of the command line.
+//! The words `once --bucket NAME` and `once --bucket NAME --now N`.
 ghost use Rattle.std.specs.Prelude.{◌≡◌, ◌==◌, ◌↔◌, not, true, None, Some, IfOk, IsErrOf, IsSome, MatchOption, map, string_bytes};
 ghost use Rattle.std.specs.List.{list_all};
 ghost use Rattle.std.specs.Char.{is_ascii_digit};
 ghost use Rattle.object_words.specs.Limits.{is_name};
-ghost use Rattle.rgw_run.specs.Words.{begins_once, begins_with_dash, is_bucket, moment_of, once_of};
+ghost use Rattle.rgw_words.specs.Words.{begins_once, begins_with_dash, is_bucket, moment_of, once_of};
 
+use crate::fault::WordsFault;
 use object_words::BucketName;
 use rgw_model::LATEST_MOMENT;
 use rgw_types::Text;
@@ -23,17 +24,9 @@ pub struct Once {
     pub now: Option<u64>,
 }
 
-/// Why words were not read.
-#[derive(Clone, Copy, Debug, PartialEq, Eq)]
-pub enum WordsFault {
-    /// They are no words that this program takes.
-    Refused,
-    OutOfMemory,
-}
-
 /// Reads the words behind the program's name. The name of a container is 1 to 256 bytes without a
 /// byte 0 and does not begin with `-`; the moment is decimal digits, up to 253402300799999999.
-pub fn read_words(alloc: Global, words: &[String]) -> Result<Once, WordsFault>
+pub fn read_once(alloc: Global, words: &[String]) -> Result<Once, WordsFault>
     ensures ok { IfOk result (λ once. once_of (map string_bytes words.now) ≡ Some once) }
     ensures refused { IsErrOf result WordsFault.Refused
         ↔ (once_of (map string_bytes words.now) ≡ None) }
@@ -83,7 +76,7 @@ fn begins_once(command: &str, option: &str) -> bool
     command == "once" && option == "--bucket"
 }
 
-fn begins_with_dash(word: &str) -> bool
+pub(crate) fn begins_with_dash(word: &str) -> bool
     ensures { result ≡ begins_with_dash word.now }
 {
     word.starts_with('-')
@@ -102,20 +95,20 @@ fn has_no_zero(name: &[u8]) -> bool
 }
 
 /// Whether the word can be the value of `--bucket`.
-fn is_bucket(word: &str) -> bool
+pub(crate) fn is_bucket(word: &str) -> bool
     ensures { result ≡ is_bucket word.now }
 {
     !begins_with_dash(word) && is_container_name(word.as_bytes())
 }
 
-fn all_digits(word: &[u8]) -> bool
+pub(crate) fn all_digits(word: &[u8]) -> bool
     ensures { result ≡ list_all is_ascii_digit word.now }
 {
     word.iter().all(|b| b.is_ascii_digit())
 }
 
 /// The moment that the value of `--now` says.
-fn moment_of(word: &str) -> Option<u64>
+pub(crate) fn moment_of(word: &str) -> Option<u64>
     ensures { result ≡ moment_of word.now }
 {
     // `parse` would take a plus sign in front.

@@ -1,5 +1,5 @@
-use Rattle.rgw_run.proofs.Numbers.{moment_of-unread}
-use Rattle.rgw_run.proofs.words.moment_of.Goals as goal
+use Rattle.rgw_words.proofs.Numbers.{moment_of-unread}
+use Rattle.rgw_words.proofs.once.moment_of.Goals as goal
 
 pub returns-in_default : goal.returns-in_default
 returns-in_default c =

@@ -6,7 +6,7 @@ use Rattle.std.specs.Char.{is_ascii_digit}
 use Rattle.std.specs.Str.Parse.{digits_value}
 use Rattle.object_words.specs.Limits.{is_name}
 use Rattle.date_words.specs.declared.TheConstants.{LATEST_MOMENT}
-use Rattle.rgw_run.specs.declared.words.Once.{Once}
+use Rattle.rgw_words.specs.declared.once.Once.{Once}
 
 -- the word begins with a dash, as an option does and no value may
 abbrev pub begins_with_dash : List ℕ → Bool

@@ -1,6 +1,6 @@
 -- Words that are too few or too many.
 use Rattle.std.proofs.Common.{◌≡◌, ◌≢◌, List, [], ◌∷◌, length, map, None, refl, String, Global, string_bytes}
-use Rattle.rgw_run.specs.Words.{once_of}
+use Rattle.rgw_words.specs.Words.{once_of}
 
 -- neither three nor five
 pub other_counts_are_refused : (words : List (String Global)) → length words ≢ 3 → length words ≢ 5 → once_of (map string_bytes words) ≡ None

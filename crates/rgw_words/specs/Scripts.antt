@@ -1,0 +1,56 @@
+-- What the words `script` and options behind it mean.
+use Rattle.std.specs.Prelude.{ℕ, ◌*◌, ◌&&◌, nat_le, List, [], ◌∷◌, Option, Some, None, option_and_then, if◌then◌else◌, bytes_eq, codes}
+use Rattle.std.specs.Option.{option_map}
+use Rattle.realm_model.specs.Settings.{SettingsView, settings_of, second}
+use Rattle.rgw_words.specs.Words.{is_bucket, moment_of}
+use Rattle.rgw_words.specs.Options.{value_of, are_options, number_in}
+use Rattle.rgw_words.specs.declared.script.ScriptWords.{ScriptWords}
+
+-- the container that is made first, if one is
+abbrev pub bucket_in : Option (List ℕ) → Option (Option (List ℕ))
+bucket_in None = Some None
+bucket_in (Some word) = if is_bucket word then Some (Some word) else None
+
+-- the moment at which the clock begins, if one is said
+abbrev pub now_in : Option (List ℕ) → Option (Option ℕ)
+now_in None = Some None
+now_in (Some word) = option_map (λ moment. Some moment) (moment_of word)
+
+-- the settings of one zone: the frames have at most 8 GiB; a chain waits two hours, an object has up to 5 GiB, and a shard
+-- 100000 objects
+abbrev pub settings_with : ℕ → ℕ → ℕ → ℕ → ℕ → Option SettingsView
+settings_with stripe frame frames shards seconds =
+    if nat_le (frames * frame) 8589934592
+    then Some (settings_of 1 stripe frame frames shards (seconds * second) (7200 * second) 5368709120 100000) else None
+
+-- the settings that the options say: stripes of 4 MiB, 16384 frames of 4 KiB, 11 shards in a new container and 120 seconds for
+-- a tag where they say nothing
+abbrev pub settings_in : List (List ℕ) → Option SettingsView
+settings_in options =
+    option_and_then (λ stripe.
+    option_and_then (λ frame.
+    option_and_then (λ frames.
+    option_and_then (λ shards.
+    option_and_then (λ seconds. settings_with stripe frame frames shards seconds)
+    (number_in 1 86400 120 (value_of (codes "--tag-seconds") options)))
+    (number_in 1 1999 11 (value_of (codes "--shards") options)))
+    (number_in 1 4194304 16384 (value_of (codes "--frames") options)))
+    (number_in 16 65536 4096 (value_of (codes "--frame") options)))
+    (number_in 16 4194304 4194304 (value_of (codes "--stripe") options))
+
+abbrev pub script_with : Option (List ℕ) → SettingsView → Option ℕ → ScriptWords
+script_with bucket settings now = record { bucket = bucket; settings = settings; now = now }
+
+abbrev pub with_options : List (List ℕ) → Option ScriptWords
+with_options options =
+    option_and_then (λ bucket.
+    option_and_then (λ settings.
+    option_map (script_with bucket settings) (now_in (value_of (codes "--now") options)))
+    (settings_in options))
+    (bucket_in (value_of (codes "--bucket") options))
+
+-- what the words ask; nothing where they are refused
+abbrev pub script_of : List (List ℕ) → Option ScriptWords
+script_of [] = None
+script_of (command ∷ options) =
+    if bytes_eq command (codes "script") && are_options options then with_options options else None

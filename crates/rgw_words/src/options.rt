@@ -1,0 +1,86 @@
+//! Options behind a command: each a name and a value, in any order.
+ghost use Rattle.std.specs.Prelude.{◌≡◌, None, Some, MatchOption, map, string_bytes};
+ghost use Rattle.rgw_words.specs.Options.{value_of, is_option, begins_option, are_options, number_in};
+
+use crate::once::{all_digits, begins_with_dash};
+
+/// The value behind the first word of this name.
+pub(crate) fn value_of<'a>(name: &str, words: &'a [String]) -> Option<&'a str>
+    ensures { MatchOption result (value_of name.now (map string_bytes words.now) ≡ None)
+        (λ value. value_of name.now (map string_bytes words.now) ≡ Some value.now) }
+{
+    match words {
+        [word, value, rest @ ..] => {
+            if word.as_str() == name {
+                Some(value.as_str())
+            } else {
+                value_of(name, rest)
+            }
+        }
+        _ => None,
+    }
+}
+
+/// Whether the words are options and values by turns, each option there once, and no value beginning with a
+/// dash.
+pub(crate) fn are_options(words: &[String]) -> bool
+    ensures { result ≡ are_options (map string_bytes words.now) }
+{
+    match words {
+        [] => true,
+        [word, value, rest @ ..] => {
+            if begins_option(word.as_str(), value.as_str(), rest) {
+                are_options(rest)
+            } else {
+                false
+            }
+        }
+        _ => false,
+    }
+}
+
+fn begins_option(word: &str, value: &str, words: &[String]) -> bool
+    ensures { result ≡ begins_option word.now value.now (map string_bytes words.now) }
+{
+    is_option(word) && !begins_with_dash(value) && value_of(word, words).is_none()
+}
+
+fn is_option(word: &str) -> bool
+    ensures { result ≡ is_option word.now }
+{
+    word == "--bucket"
+        || word == "--stripe"
+        || word == "--frame"
+        || word == "--frames"
+        || word == "--shards"
+        || word == "--tag-seconds"
+        || word == "--now"
+}
+
+/// The number that a value says, from the least to the greatest; the usual one where there is no value.
+pub(crate) fn number_in(least: u64, greatest: u64, usual: u64, word: Option<&str>) -> Option<u64>
+    ensures { MatchOption word.entry (result ≡ number_in least greatest usual None)
+        (λ word. result ≡ number_in least greatest usual (Some word.now)) }
+{
+    match word {
+        None => Some(usual),
+        Some(word) => number_of(least, greatest, word),
+    }
+}
+
+fn number_of(least: u64, greatest: u64, word: &str) -> Option<u64>
+    ensures { result ≡ number_in least greatest 0 (Some word.now) }
+{
+    // `parse` would take a plus sign in front.
+    if !all_digits(word.as_bytes()) {
+        return None;
+    }
+    let Ok(number) = word.parse::<u64>() else {
+        return None;
+    };
+    if least <= number && number <= greatest {
+        Some(number)
+    } else {
+        None
+    }
+}
