@@ -1,10 +1,12 @@
 -- Runs that come to nothing, and runs at one moment.
-use Rattle.std.proofs.Common.{◌≡◌, ℕ, List, [], All, Option, None, Some, IsSome, refl, sym, subst, arith}
+use Rattle.std.proofs.Common.{◌≡◌, inl, ℕ, List, [], All, Option, None, Some, IsSome, IfSome, refl, sym, subst, arith}
 use Rattle.gw_io.specs.Ends.{EndsState}
 use Rattle.gw_io.specs.Memory.{StepState, TellsOnly, moments_of, plan_of, moment_at}
 use Rattle.realm_core.specs.Realms.{RealmView}
 use Rattle.rgw_run.specs.declared.once_end.OnceEnd.TheVariants.{Unmade}
 use Rattle.rgw_words.specs.declared.once.Once.{Once}
+use Rattle.rgw_words.specs.declared.script.ScriptWords.{ScriptWords}
+use Rattle.rgw_run.specs.Scripted.{RunsScripted}
 use Rattle.rgw_run.specs.Runs.{HasRunCause, RunsByClock, with_clock, RunsAt, RunsBy, RunsOnce, Runs}
 
 -- ---- memory was wanting before anything was done
@@ -28,13 +30,29 @@ unmade_by None bucket ends realm none = unmade bucket ends realm none
 unmade_by (Some moment) bucket ends realm none =
     record { told = []; each = λ k d few. absurd (omega (arith, few)); runs = unmade bucket (with_clock ends moment []) realm none; plan = refl }
 
-pub unread : (words : Option Once) (ends : EndsState) (realm : Option RealmView) → realm ≡ None → IsSome words → Runs words ends ends realm 4
-unread (Some once) ends realm none there = record {
+scripted_unmade : (script : Option ScriptWords) (ends : EndsState) (realm : Option RealmView) → realm ≡ None → IfSome script (λ asked. RunsScripted asked ends ends realm 4)
+scripted_unmade None ends realm none = tt
+scripted_unmade (Some script) ends realm none = inl (record { none = none; same = refl; memory = refl })
+
+-- the words were not read for want of memory
+pub unread : (once : Option Once) (script : Option ScriptWords) (ends : EndsState) (realm : Option RealmView) → realm ≡ None → IsSome once → Runs once script ends ends realm 4
+unread (Some once) script ends realm none there = record {
   refused = (λ e. absurd (omega (arith, e)), λ e. absurd (cc));
   nothing = λ e. absurd (cc);
-  once = unmade_by once.now once.bucket ends realm none;
+  once_runs = unmade_by once.now once.bucket ends realm none;
+  script_runs = scripted_unmade script ends realm none;
 }
-unread None ends realm none there = absurd (cc)
+unread None script ends realm none there = absurd (cc)
+
+pub unread_script : (once : Option Once) (script : Option ScriptWords) (ends : EndsState) (realm : Option RealmView) → once ≡ None → realm ≡ None → IsSome script → Runs once script ends ends realm 4
+unread_script None (Some script) ends realm other none there = record {
+  refused = (λ e. absurd (omega (arith, e)), λ e. absurd (cc));
+  nothing = λ e. absurd (cc);
+  once_runs = tt;
+  script_runs = inl (record { none = none; same = refl; memory = refl });
+}
+unread_script (Some once) script ends realm other none there = absurd (cc)
+unread_script None None ends realm other none there = absurd (cc)
 
 -- ---- at one moment
 

@@ -45,7 +45,8 @@ use Rattle.once_law.proofs.Full.{full}
 use Rattle.once_law.proofs.Moments.{clocks_at}
 use Rattle.rgw_run.specs.declared.once_end.OnceEnd.{OnceEnd}
 use Rattle.rgw_run.specs.declared.once_end.OnceEnd.TheVariants.{Unmade, Unbegun, Ended, Stopped}
-use Rattle.rgw_run.specs.declared.words.Once.{Once}
+use Rattle.rgw_words.specs.declared.once.Once.{Once}
+use Rattle.rgw_words.specs.declared.script.ScriptWords.{ScriptWords}
 use Rattle.rgw_run.specs.Runs.{standard_settings, making, door_behind, with_clock, Leaves, RunsAt, RunsBy, RunsOnce, Runs}
 use Rattle.rgw_run.specs.Exact.{fixed_at, AreExact, calls_before, calls_in, IsExactEnd, RunsExactly, RunsExactlyIf}
 use Rattle.rgw_run.proofs.Container.{made_by_first, made_clock, no_object, row_is, standard_is}
@@ -237,9 +238,9 @@ exactly_if once old new realm status = by_now once.now
     by_now None runs = tt
     by_now (Some moment) runs = exactly once.bucket moment old new realm status runs
 
-pub exactly_of : (words : Option Once) (old new : EndsState) (realm : Option RealmView) (status : ℕ) → Runs words old new realm status → RunsExactlyIf words old new realm status
-exactly_of None old new realm status runs = tt
-exactly_of (Some once) old new realm status runs = exactly_if once old new realm status runs.once
+pub exactly_of : (words : Option Once) (script : Option ScriptWords) (old new : EndsState) (realm : Option RealmView) (status : ℕ) → Runs words script old new realm status → RunsExactlyIf words old new realm status
+exactly_of None script old new realm status runs = tt
+exactly_of (Some once) script old new realm status runs = exactly_if once old new realm status runs.once_runs
 
 pub exactly_said : (words : Option Once) (once : Once) (old new : EndsState) (realm : Option RealmView) (status : ℕ) → words ≡ Some once → RunsOnce once old new realm status → RunsExactlyIf words old new realm status
 exactly_said words once old new realm status said runs =

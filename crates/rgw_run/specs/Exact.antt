@@ -18,7 +18,7 @@ use Rattle.once_law.specs.Maps.{Rows, no_slots}
 use Rattle.once_law.specs.Folds.{Fixed, AreFolded, AreRepliedOrFull}
 use Rattle.rgw_run.specs.declared.once_end.OnceEnd.{OnceEnd}
 use Rattle.rgw_run.specs.declared.once_end.OnceEnd.TheVariants.{Unmade, Unbegun, Ended, Stopped}
-use Rattle.rgw_run.specs.declared.words.Once.{Once}
+use Rattle.rgw_words.specs.declared.once.Once.{Once}
 use Rattle.rgw_run.specs.Runs.{standard_settings, making, door_behind, with_clock, Leaves, RunsAt}
 
 -- ---- the calls

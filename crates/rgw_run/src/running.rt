@@ -3,10 +3,9 @@ ghost use Rattle.std.specs.Prelude.{◌≡◌, IfSome, IsSome, None, Some, [], m
 ghost use Rattle.object_words.specs.Limits.{is_name};
 ghost use Rattle.swift_auth.specs.Users.{standard_user, account_of};
 ghost use Rattle.realm_core.specs.Realms.{new_realm};
-ghost use Rattle.rgw_run.specs.Words.{once_of};
-ghost use Rattle.rgw_run.specs.Exact.{RunsExactlyIf};
 ghost use Rattle.rgw_words.specs.Words.{once_of};
 ghost use Rattle.rgw_words.specs.Scripts.{script_of};
+ghost use Rattle.rgw_run.specs.Exact.{RunsExactlyIf};
 ghost use Rattle.rgw_run.specs.Runs.{Runs, RunsOnce, RunsByClock, RunsAt, HasRunCause, Leaves, standard_settings, end_of, status_by, end_status, fault_status, door_status};
 
 use crate::once_end::OnceEnd;

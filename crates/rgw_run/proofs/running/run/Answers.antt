@@ -1,14 +1,15 @@
 use Rattle.std.proofs.Common.{Err, ap}
+use Rattle.rgw_words.proofs.Apart.{no_script}
 use Rattle.rgw_run.proofs.Ending.{unread}
 use Rattle.rgw_run.proofs.Exactly.{exactly_of, exactly_said}
 use Rattle.rgw_run.proofs.running.run.Goals as goal
 
 pub returns-in-Err-OutOfMemory-clause-runs : goal.returns-in-Err-OutOfMemory-clause-runs
 returns-in-Err-OutOfMemory-clause-runs g c =
-    unread _ _ _ c.requires (c.in-Err-OutOfMemory.ensures.out_of_memory (ap Err c.in-Err-OutOfMemory.field-0-is))
+    unread _ _ _ _ c.requires (c.in-Err-OutOfMemory.ensures.out_of_memory (ap Err c.in-Err-OutOfMemory.field-0-is))
 
 pub returns-in-Err-OutOfMemory-clause-exact : goal.returns-in-Err-OutOfMemory-clause-exact
-returns-in-Err-OutOfMemory-clause-exact g c = exactly_of _ _ _ _ _ (returns-in-Err-OutOfMemory-clause-runs g c)
+returns-in-Err-OutOfMemory-clause-exact g c = exactly_of _ _ _ _ _ _ (returns-in-Err-OutOfMemory-clause-runs g c)
 
 pub returns-in-Ok-clause-exact : goal.returns-in-Ok-clause-exact
 returns-in-Ok-clause-exact g c = exactly_said _ _ _ _ _ _ c.in-Ok.ensures.ok c.serve_once.ensures.runs
