@@ -7,3 +7,4 @@ pub mod Moments
 pub mod Calm
 pub mod Calms
 pub mod Full
+pub mod Telling

@@ -4,4 +4,4 @@
 
 mod laws;
 
-pub use laws::{calls_fold_over_the_maps, only_room_is_wanting};
+pub use laws::{calls_fold_over_the_maps, folds_tell_the_same, only_room_is_wanting};
