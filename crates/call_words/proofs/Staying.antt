@@ -1,5 +1,5 @@
 -- Right replies stay right where the history grows by events of others.
-use Rattle.std.proofs.Common.{◌≡◌, ℕ, ◌+◌, ◌<◌, ◌≤◌, List, [], ◌∷◌, refl, sym, ap, subst, arith}
+use Rattle.std.proofs.Common.{◌≡◌, ℕ, ◌≤◌, List, [], ◌∷◌, sym, ap, subst, arith}
 use Rattle.realm_model.specs.Accounts.{Account}
 use Rattle.realm_model.specs.Histories.{Doings, account_of}
 use Rattle.realm_model.specs.Owns.{OwnEvent, own_events}

@@ -1,12 +1,11 @@
 -- The reply of the Swift API that an end of a task is, and its text (OpenStack Object Storage API v1, objects).
-use Rattle.std.specs.Prelude.{ℕ, Bool, true, false, List, [], Option, Some, None, option_map, if◌then◌else◌}
+use Rattle.std.specs.Prelude.{ℕ, List, [], Option, Some, None, option_map, if◌then◌else◌}
 use Rattle.http_model.specs.declared.reply.ReplyForm.{ReplyForm}
 use Rattle.http_model.specs.Replies.{head_text, written_body}
 use Rattle.swift_auth.specs.declared.policy.Rule.{Rule}
 use Rattle.swift_auth.specs.declared.policy.Rule.TheVariants as Rules
 use Rattle.swift_reply.specs.declared.reply.Denial.{Denial}
 use Rattle.swift_reply.specs.declared.reply.Denial.TheVariants as Denied
-use Rattle.swift_reply.specs.declared.reply.ShownObject.{ShownObject}
 use Rattle.swift_reply.specs.declared.reply.ShownSpan.{ShownSpan}
 use Rattle.swift_reply.specs.declared.reply.SwiftRefusal.{SwiftRefusal}
 use Rattle.swift_reply.specs.declared.reply.SwiftRefusal.TheVariants as Why

@@ -8,3 +8,4 @@ pub mod Calm
 pub mod Calms
 pub mod Missing
 pub mod Full
+pub mod Telling

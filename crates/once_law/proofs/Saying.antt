@@ -114,7 +114,7 @@ put_shown c bytes slot zone clock =
 
 -- the call is replied as the rows and the slots say, and leaves these slots
 pub record IsDone (x : Fixed) (slots now : Slots) (command : Command) (actor : ℕ) (outcome : Outcome) (shown : List ℕ) : Type 0 where
-  pub is_said : IsSaid (said x slots command actor) outcome shown
+  pub is_said : IsSaid command (said x slots command actor) outcome shown
   pub left : left_by (said x slots command actor) outcome slots ≡ now
 
 module _ (settings : SettingsView) (before history : List Event) (zone : ℕ) (asker : Asker) (clocks : ℕ → ℕ) (actor : ℕ) (y : Account)
@@ -194,7 +194,7 @@ module _ (settings : SettingsView) (before history : List Event) (zone : ℕ) (a
     is_after : (answer (slots m.row.id (name_of command)) command zone (clocks actor)).after ≡ m.event.after
     is_after = ap (λ (a : Answer). a.after) the_answer ∙ sym m.leaves
 
-    map_said : (shown : List ℕ) → shown ≡ (answer m.event.before command zone m.event.clock).shown → IsSaid (said x slots command actor) (Done reply) shown
+    map_said : (shown : List ℕ) → shown ≡ (answer m.event.before command zone m.event.clock).shown → IsSaid command (said x slots command actor) (Done reply) shown
     map_said shown is = (
       m.answers ∙ sym (ap (λ (a : Answer). a.reply) the_answer) ∙ sym (ap (λ (s : Said). s.reply) by_name),
       is ∙ sym (ap (λ (a : Answer). a.shown) the_answer) ∙ sym (ap (λ (s : Said). s.shown) by_name),
@@ -273,7 +273,7 @@ module _ (settings : SettingsView) (before history : List Event) (zone : ℕ) (a
             absurd (moves c bytes e.before zone e.clock etag stamp (early e m.is_last) m.answers (sym m.leaves ∙ other e m.is_last))
       ]
 
-  put_outside : (c : PutCommand) (bytes : List ℕ) (outcome : Outcome) (shown : List ℕ) → y.changes ≡ 0 → IsSaid (said x slots (put c bytes) actor) outcome shown → left_by (said x slots (put c bytes) actor) outcome slots ≡ slots → Does (put c bytes) outcome shown
+  put_outside : (c : PutCommand) (bytes : List ℕ) (outcome : Outcome) (shown : List ℕ) → y.changes ≡ 0 → IsSaid (put c bytes) (said x slots (put c bytes) actor) outcome shown → left_by (said x slots (put c bytes) actor) outcome slots ≡ slots → Does (put c bytes) outcome shown
   put_outside c bytes outcome shown none is left = record { is_said = is; left = left ∙ slots_stay none }
 
   pub put_done : (c : PutCommand) (bytes : List ℕ) (outcome : Outcome) (events : List OwnEvent) (shown : List ℕ) → ((d : Decided) → y.decided ≡ Some d → HasLater d.before)

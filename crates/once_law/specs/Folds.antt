@@ -1,6 +1,7 @@
 -- What the rows and the bucket maps of a zone reply to calls, one after another (OpenStack Object Storage API v1, objects).
 use Rattle.std.specs.Prelude.{◌≡◌, ℕ, Bool, false, List, [], ◌∷◌, Option, Some, None, if◌then◌else◌}
 use Rattle.std.specs.List.{AllByRecursion}
+use Rattle.http_model.specs.declared.reply.ReplyForm.{ReplyForm}
 use Rattle.object_words.specs.declared.bucket.Bucket.{Bucket}
 use Rattle.swift_requests.specs.declared.asked.Asked.{Asked}
 use Rattle.swift_requests.specs.declared.asked.Asked.TheVariants as Asks
@@ -13,7 +14,7 @@ use Rattle.task_words.specs.declared.reply.Refusal.{Refusal}
 use Rattle.task_words.specs.declared.reply.Refusal.TheVariants.{NoContainer, OtherEtag}
 use Rattle.task_words.specs.Answers.{Command, put, get, container_of, name_of, deed_of, answer, is_other_etag}
 use Rattle.task_words.specs.Rows.{row_refusal}
-use Rattle.call_words.specs.Calls.{Ground, alone, task, Call}
+use Rattle.call_words.specs.Calls.{Ground, alone, task, Call, call_text}
 use Rattle.once_law.specs.Maps.{Rows, Slots, with_slot}
 
 -- ---- one command
@@ -66,18 +67,18 @@ said x slots command actor =
 
 -- ---- ends of a task
 
--- an end that is no reply of the maps: a shard was held, or did not serve; a tag was too old; there was no room
-abbrev pub IsOutside : Outcome → Type 0
-IsOutside (Busy id) = Unit {0}
-IsOutside MovedOften = Unit {0}
-IsOutside LateTag = Unit {0}
-IsOutside (NoSpace free needed) = Unit {0}
-IsOutside outcome = ⊥
+-- an end of a PUT that is no reply of the maps: a shard was held, or did not serve; a tag was too old; there was no room
+abbrev pub IsOutside : Command → Outcome → Type 0
+IsOutside (put c bytes) (Busy id) = Unit {0}
+IsOutside (put c bytes) MovedOften = Unit {0}
+IsOutside (put c bytes) LateTag = Unit {0}
+IsOutside (put c bytes) (NoSpace free needed) = Unit {0}
+IsOutside command outcome = ⊥
 
 -- the task ended with the reply of the maps, or with an end that is none
-abbrev pub IsSaid : Said → Outcome → List ℕ → Type 0
-IsSaid s (Done reply) shown = (reply ≡ s.reply) × (shown ≡ s.shown)
-IsSaid s outcome shown = IsOutside outcome × (shown ≡ [])
+abbrev pub IsSaid : Command → Said → Outcome → List ℕ → Type 0
+IsSaid command s (Done reply) shown = (reply ≡ s.reply) × (shown ≡ s.shown)
+IsSaid command s outcome shown = IsOutside command outcome × (shown ≡ [])
 
 -- an end that is no reply of the maps leaves the slots as they were
 abbrev pub left_by : Said → Outcome → Slots → Slots
@@ -99,7 +100,7 @@ command_of call = command_in call.asked call.request.body
 -- a request alone is no command, and shows no bytes
 abbrev pub IsSaidTo : Fixed → Slots → Option Command → Ground → List ℕ → Type 0
 IsSaidTo x slots None alone shown = shown ≡ []
-IsSaidTo x slots (Some command) (task actor outcome) shown = IsSaid (said x slots command actor) outcome shown
+IsSaidTo x slots (Some command) (task actor outcome) shown = IsSaid command (said x slots command actor) outcome shown
 IsSaidTo x slots command basis shown = ⊥
 
 abbrev pub left_behind : Fixed → Slots → Option Command → Ground → Slots
@@ -135,3 +136,28 @@ IsRepliedOrFull basis = ⊥
 
 abbrev pub AreRepliedOrFull : List Call → Type 0
 AreRepliedOrFull calls = AllByRecursion (λ call. IsRepliedOrFull call.ground) calls
+
+-- the maps replied
+abbrev pub IsReplied : Ground → Type 0
+IsReplied alone = Unit {0}
+IsReplied (task actor (Done reply)) = Unit {0}
+IsReplied basis = ⊥
+
+abbrev pub AreReplied : List Call → Type 0
+AreReplied calls = AllByRecursion (λ call. IsReplied call.ground) calls
+
+-- ---- two lists of calls
+
+-- they ask the same, one after another, with the same bodies
+abbrev pub AskTheSame : List Call → List Call → Type 0
+AskTheSame [] [] = Unit {0}
+AskTheSame (call ∷ calls) (other ∷ others) =
+    (call.asked ≡ other.asked) × (call.request.body ≡ other.request.body) × AskTheSame calls others
+AskTheSame calls others = ⊥
+
+-- the texts of their replies are the same, in each form
+abbrev pub SayTheSame : List Call → List Call → Type 0
+SayTheSame [] [] = Unit {0}
+SayTheSame (call ∷ calls) (other ∷ others) =
+    ((form : ReplyForm) → call_text form call ≡ call_text form other) × SayTheSame calls others
+SayTheSame calls others = ⊥

@@ -1,5 +1,5 @@
 //! Laws of the definitions: the functions here do nothing.
-ghost use Rattle.std.specs.Prelude.{◌≤◌, ◌^◌, ◌++◌, ℕ, List, length};
+ghost use Rattle.std.specs.Prelude.{◌≡◌, ◌≤◌, ◌^◌, ◌++◌, ℕ, List, length};
 ghost use Rattle.rgw_model.specs.Stamps.{counted_moment};
 ghost use Rattle.realm_model.specs.Histories.{state_of, Legal};
 ghost use Rattle.realm_model.specs.Settings.{SettingsView, IsSettings};
@@ -7,7 +7,8 @@ ghost use Rattle.realm_model.specs.declared.event.Event.{Event as EventOf};
 ghost use Rattle.task_words.specs.declared.asker.Asker.{Asker as AskerOf};
 ghost use Rattle.call_words.specs.Calls.{Call};
 ghost use Rattle.once_law.specs.Missing.{MissesNone};
-ghost use Rattle.once_law.specs.Folds.{AreRepliedOrFull};
+ghost use Rattle.once_law.specs.Maps.{Slots};
+ghost use Rattle.once_law.specs.Folds.{Fixed, AreFolded, AreRepliedOrFull, AreReplied, AskTheSame, SayTheSame};
 ghost use Rattle.once_law.specs.Runs.{AreAlone, AreClocks, AreAt, AreOfMaps};
 
 /// Where nobody else makes events, the replies to calls are those of the rows and the bucket maps, folded
@@ -43,4 +44,13 @@ pub fn only_room_is_wanting()
         → AreAlone settings zone asker pass before more next calls last
         → (state_of settings before).clock ≤ counted_moment moment → AreAt moment more
         → AreRepliedOrFull calls }
+{}
+
+/// Calls that ask the same are told the same: where the maps replied to each of them, and at one clock, the
+/// texts of two folds from the same rows and slots are the same. So they follow from the requests alone.
+pub fn folds_tell_the_same()
+    ensures { (x : Fixed) (slots : Slots) (calls others : List Call)
+        → ((one another : ℕ) → x.clocks one ≡ x.clocks another) → AskTheSame calls others
+        → AreFolded x slots calls → AreFolded x slots others → AreReplied calls → AreReplied others
+        → SayTheSame calls others }
 {}

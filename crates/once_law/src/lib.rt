@@ -4,4 +4,6 @@
 
 mod laws;
 
-pub use laws::{calls_fold_over_the_maps, no_stripe_is_missed, only_room_is_wanting};
+pub use laws::{
+    calls_fold_over_the_maps, folds_tell_the_same, no_stripe_is_missed, only_room_is_wanting,
+};
