@@ -14,6 +14,7 @@ use Rattle.rgw_run.specs.Runs.{HasRunCause, RunsByClock, with_clock, RunsAt, Run
 unmade : (bucket : List ℕ) (ends : EndsState) (realm : Option RealmView) → realm ≡ None → RunsByClock bucket ends ends realm 4
 unmade bucket ends realm none = record {
   end = Unmade;
+  in_time = tt;
   leaves = (none, refl);
   ended = refl;
   cause = record {

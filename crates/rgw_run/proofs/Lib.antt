@@ -3,3 +3,4 @@ pub mod Ending
 pub mod Container
 pub mod Told
 pub mod Exactly
+pub mod InTime

@@ -55,7 +55,7 @@ end_status Closed = 0
 end_status Cut = 5
 end_status Refused = 5
 
--- no stripe of a realm that nobody else changes is gone: that a reply breaks off so is not seen
+-- no stripe of a realm that nobody else changes is gone, so the last of these never comes
 abbrev pub fault_status : ServeFault → ℕ
 fault_status Fault.OutOfMemory = 4
 fault_status Fault.ReadFault = 2
@@ -112,6 +112,11 @@ Leaves bucket old new realm (Unbegun fault) = LeavesUnbegun bucket old new realm
 Leaves bucket old new realm (Ended served) = LeavesServed bucket old new realm (Ok served)
 Leaves bucket old new realm (Stopped fault) = LeavesServed bucket old new realm (Err fault)
 
+-- no reply broke off since a stripe was gone
+abbrev pub IsInTime : OnceEnd → Type 0
+IsInTime (Stopped (Fault.Late read_at clock)) = ⊥
+IsInTime end = Unit {0}
+
 -- ---- what a run comes to
 
 -- Each count of faults rose where the status says so, and stayed at every other one; the clock keeps its plan.
@@ -125,6 +130,7 @@ pub record HasRunCause (old new : EndsState) (status : ℕ) : Type 0 where
 -- a run whose moments the clock tells
 pub record RunsByClock (bucket : List ℕ) (old new : EndsState) (realm : Option RealmView) (status : ℕ) : Type 0 where
   pub end : OnceEnd
+  pub in_time : IsInTime end
   pub leaves : Leaves bucket old new realm end
   pub ended : status ≡ status_by end
   pub cause : HasRunCause old new status

@@ -6,7 +6,7 @@ ghost use Rattle.realm_core.specs.Realms.{new_realm};
 ghost use Rattle.rgw_words.specs.Words.{once_of};
 ghost use Rattle.rgw_words.specs.Scripts.{script_of};
 ghost use Rattle.rgw_run.specs.Exact.{RunsExactlyIf};
-ghost use Rattle.rgw_run.specs.Runs.{Runs, RunsOnce, RunsByClock, RunsAt, HasRunCause, Leaves, standard_settings, end_of, status_by, end_status, fault_status, door_status};
+ghost use Rattle.rgw_run.specs.Runs.{Runs, RunsOnce, RunsByClock, RunsAt, HasRunCause, IsInTime, Leaves, standard_settings, end_of, status_by, end_status, fault_status, door_status};
 
 use crate::once_end::OnceEnd;
 use crate::scripted::run_scripted;
@@ -165,6 +165,7 @@ fn serve_container<S: Source, K: Sink, C: Clock>(
     ensures cause { HasRunCause
         (⟦<(S, K, C) as Ends>⟧.ends (input.old, output.old, clock.old))
         (⟦<(S, K, C) as Ends>⟧.ends (input.new, output.new, clock.new)) (status_by result) }
+    ensures in_time { IsInTime result }
 {
     let settings = standard_settings();
     let Ok(owner) = standard_owner(alloc) else {
@@ -200,6 +201,7 @@ fn serve_in<S: Source, K: Sink, C: Clock>(
     ensures cause { HasRunCause
         (⟦<(S, K, C) as Ends>⟧.ends (input.old, output.old, clock.old))
         (⟦<(S, K, C) as Ends>⟧.ends (input.new, output.new, clock.new)) (status_by result) }
+    ensures in_time { IsInTime result }
 {
     let mut actor = Actor::new(1);
     let mut door = SoloDoor::new(realm, &mut actor);

@@ -1,5 +1,6 @@
 use Rattle.std.proofs.Common.{rules, ◌∙◌}
 use Rattle.realm_core.specs.Solo.{door_of}
+use Rattle.rgw_run.proofs.InTime.{in_time}
 use Rattle.rgw_run.proofs.Starting.{serves_behind, leaves_so}
 use Rattle.rgw_run.proofs.running.serve_in.Goals as goal
 
@@ -31,3 +32,5 @@ returns-clause-leaves g c = leaves_so _ _ _ _ _ _ c.end_of.ensures (record {
       (λ i. door_of ((c.new-door.ensures.realm.0 ∙ c.requires.new) i) ((c.new-door.ensures.actor.0 ∙ c.new-actor.ensures) i))
       (c.in_default.ensures.grows tt) (c.in_default.ensures.events tt tt) c.serve_connection-outcome.ensures.served;
 })
+pub returns-clause-in_time : goal.returns-clause-in_time
+returns-clause-in_time g c = in_time _ _ _ _ _ _ _ _ c.end_of.ensures c.serve_connection-outcome.ensures.served

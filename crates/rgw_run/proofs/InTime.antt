@@ -1,0 +1,54 @@
+-- In a run that nobody else's events come into no reply breaks off: no stripe is gone.
+use Rattle.std.proofs.Common.{◌≡◌, inl, inr, ◌⊎◌, ℕ, List, [], Result, Ok, Err, refl, sym, subst}
+use Rattle.gw_io.specs.Ends.{EndsState}
+use Rattle.http_model.specs.declared.head.Head.{Head}
+use Rattle.http_model.specs.declared.reply.ReplyForm.{ReplyForm}
+use Rattle.realm_model.specs.Doors.{DoorView, actor_at}
+use Rattle.realm_model.specs.Histories.{Legal}
+use Rattle.realm_model.specs.declared.event.Event.{Event}
+use Rattle.swift_requests.specs.declared.asked.Asked.{Asked}
+use Rattle.swift_requests.specs.declared.asked.Asked.TheVariants.{BadHost, Refused, Put, Get}
+use Rattle.swift_requests.specs.declared.body.BodyUse.{BodyUse}
+use Rattle.call_service.specs.Serving.{Site, Side}
+use Rattle.call_service.specs.declared.fault.ServeFault.{ServeFault}
+use Rattle.call_service.specs.declared.fault.ServeFault.TheVariants as faults
+use Rattle.gateway.specs.Requests.{LeavesAsked, LeavesRequest}
+use Rattle.gateway.specs.Serving.{LeavesNext, ServesConnection}
+use Rattle.gateway.specs.declared.serve.Served.{Served}
+use Rattle.once_law.proofs.Missing.{misses_none}
+use Rattle.rgw_run.specs.declared.once_end.OnceEnd.{OnceEnd}
+use Rattle.rgw_run.specs.Runs.{IsInTime, end_of}
+
+module _ (site : Site) (found : List Event) (read_at clock : ℕ) where
+  asked_in_time : (asked : Asked) (form : ReplyForm) (plan : BodyUse) (z y : Side) → Legal site.settings y.door.seen
+      → LeavesAsked (Unit {0}) (Unit {0}) site form asked plan found z y (faults.Late read_at clock) → ⊥
+  asked_in_time BadHost form plan z y legal leaves = absurd leaves.0
+  asked_in_time (Refused why) form plan z y legal leaves = absurd leaves.0
+  asked_in_time (Put c) form plan z y legal leaves = absurd (leaves.2.0 tt)
+  asked_in_time (Get c) form plan z y legal leaves =
+      let missed = (leaves.2.0 tt).1 in
+      misses_none site.settings y.door.seen (actor_at y.door) missed.front [] missed.last clock legal missed.stands missed.missed
+
+  request_in_time : (asked : Asked) (form : ReplyForm) (plan : BodyUse) (z y : Side) → Legal site.settings y.door.seen
+      → LeavesRequest (Unit {0}) (Unit {0}) site form asked plan found z y (faults.Late read_at clock) → ⊥
+  request_in_time asked form plan z y legal (inl memory) = let e : faults.Late read_at clock ≡ faults.OutOfMemory = memory.0 in cc
+  request_in_time asked form plan z y legal (inr leaves) = asked_in_time asked form plan z y legal leaves
+
+  next_in_time : (k : ℕ) (x y : Side) → Legal site.settings y.door.seen → LeavesNext (Unit {0}) (Unit {0}) site k found x y (faults.Late read_at clock) → ⊥
+  next_in_time k x y legal (inl head) = absurd head
+  next_in_time k x y legal (inr begun) = request_in_time _ _ _ begun.1 y legal begun.3
+
+  never_late : (d e : DoorView) (old new : EndsState) → ServesConnection (Unit {0}) (Unit {0}) site found d e old new (Err (faults.Late read_at clock)) → ⊥
+  never_late d e old new serves =
+      let stops = (serves.left (faults.Late read_at clock) refl).1 in
+      next_in_time _ _ _ (stops.settled tt).advances.may_begin.legal stops.left
+
+served_in_time : (site : Site) (found : List Event) (d e : DoorView) (old new : EndsState) (result : Result Served ServeFault) → ServesConnection (Unit {0}) (Unit {0}) site found d e old new result → IsInTime (end_of result)
+served_in_time site found d e old new (Ok served) serves = tt
+served_in_time site found d e old new (Err (faults.Late read_at clock)) serves = never_late site found read_at clock d e old new serves
+served_in_time site found d e old new (Err fault) serves = tt
+
+-- whatever a connection came to
+pub in_time : (site : Site) (found : List Event) (d e : DoorView) (old new : EndsState) (result : Result Served ServeFault) (end : OnceEnd) → end ≡ end_of result
+    → ServesConnection (Unit {0}) (Unit {0}) site found d e old new result → IsInTime end
+in_time site found d e old new result end is serves = subst IsInTime (sym is) (served_in_time site found d e old new result serves)
