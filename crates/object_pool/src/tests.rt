@@ -207,7 +207,10 @@ fn rows_at_their_greatest(rt: HostRuntime) -> Result<(), Fail> {
     if place.row(b"spare spare spare").is_none() {
         place.put_spare(b"spare spare spare", &[b'v'; 1_040]);
     }
-    let len = place.row(b"spare spare spare").ok_or("the spare row")?.len();
+    let len = place
+        .row(b"spare spare spare")
+        .ok_or("the spare row")?
+        .len();
     assert_eq!(rt; len, 1_040);
     assert!(rt; place.take_row(&last));
     assert_eq!(rt; place.take_rows(&long_key(0), &last), 1_000);

@@ -32,5 +32,6 @@ returns-clause-leaves g c = leaves_so _ _ _ _ _ _ c.end_of.ensures (record {
       (λ i. door_of ((c.new-door.ensures.realm.0 ∙ c.requires.new) i) ((c.new-door.ensures.actor.0 ∙ c.new-actor.ensures) i))
       (c.in_default.ensures.grows tt) (c.in_default.ensures.events tt tt) c.serve_connection-outcome.ensures.served;
 })
+
 pub returns-clause-in_time : goal.returns-clause-in_time
 returns-clause-in_time g c = in_time _ _ _ _ _ _ _ _ c.end_of.ensures c.serve_connection-outcome.ensures.served
