@@ -8,7 +8,8 @@ use Rattle.realm_model.specs.declared.event.Event.{Event}
 use Rattle.swift_auth.specs.Users.{standard_user, account_of}
 use Rattle.container_preset.specs.Presets.{made_row}
 use Rattle.call_words.specs.Calls.{Call}
-use Rattle.call_service.specs.Serving.{Side}
+use Rattle.http_intake.specs.Intake.{fresh}
+use Rattle.call_service.specs.Serving.{Side, side}
 use Rattle.call_service.specs.declared.fault.ServeFault.{ServeFault}
 use Rattle.call_service.specs.declared.fault.ServeFault.TheVariants as faults
 use Rattle.gateway.specs.Calls.{standard_asker, site_of}
@@ -34,11 +35,13 @@ calls_before found x y (faults.Late read_at clock) left = left.calls
 -- the calls of a connection whose replies were written whole
 abbrev pub calls_in : (found : List Event) (d e : DoorView) (old new : EndsState) (result : Result Served ServeFault) → ServesConnection (Unit {0}) (Unit {0}) (site_of standard_settings 1) found d e old new result → List Call
 calls_in found d e old new (Ok served) serves = serves.served.calls
-calls_in found d e old new (Err fault) serves = calls_before found _ _ fault (serves.left fault refl).1
+calls_in found d e old new (Err fault) serves =
+    let left = serves.left fault refl in
+    calls_before found (side d (fresh standard_settings.largest) old) (side e left.0 new) fault left.1
 
 -- ---- the bucket map
 
--- the one row, of a container that was made by the first events of the realm: a read of its name, its shards and it
+-- the one row, of a container that the first 13 events of the realm make: a read of its name, its 11 shards, and the row
 abbrev pub one_row : List ℕ → Rows
 one_row bucket name =
     if bytes_eq name bucket then Some (made_row standard_settings (account_of standard_user) 1 13) else None
