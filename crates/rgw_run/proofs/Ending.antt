@@ -1,11 +1,11 @@
 -- Runs that come to nothing, and runs at one moment.
-use Rattle.std.proofs.Common.{◌≡◌, ℕ, List, [], All, Option, None, Some, IsSome, refl, sym, subst, arith}
+use Rattle.std.proofs.Common.{◌≡◌, ℕ, List, [], Option, None, Some, IsSome, refl, subst, arith}
 use Rattle.gw_io.specs.Ends.{EndsState}
-use Rattle.gw_io.specs.Memory.{StepState, TellsOnly, moments_of, plan_of, moment_at}
+use Rattle.gw_io.specs.Memory.{StepState, TellsOnly, moments_of, plan_of}
 use Rattle.realm_core.specs.Realms.{RealmView}
 use Rattle.rgw_run.specs.declared.once_end.OnceEnd.TheVariants.{Unmade}
 use Rattle.rgw_run.specs.declared.words.Once.{Once}
-use Rattle.rgw_run.specs.Runs.{HasRunCause, RunsByClock, with_clock, RunsAt, RunsBy, RunsOnce, Runs}
+use Rattle.rgw_run.specs.Runs.{RunsByClock, with_clock, RunsAt, RunsBy, Runs}
 
 -- ---- memory was wanting before anything was done
 
