@@ -1,13 +1,11 @@
 -- What the making of the container leaves: one row, and no object.
-use Rattle.std.proofs.Common.{◌≡◌, ℕ, zero, suc, ◌+◌, ◌≤◌, ◌==◌, Bool, true, false, cond, List, [], ◌∷◌, ◌++◌, length, Option, Some, None, refl, sym, ◌∙◌, ap, subst, arith}
+use Rattle.std.proofs.Common.{◌≡◌, ℕ, zero, suc, ◌≤◌, ◌==◌, true, cond, List, [], ◌∷◌, ◌++◌, Option, Some, None, refl, ◌∙◌, ap, arith}
 use Rattle.std.specs.Prelude.{bytes_eq}
 use Rattle.std.specs.List.{AllByRecursion}
-use Rattle.std.proofs.lemmas.Slice.Eq.{bytes_eq-Decides}
 use Rattle.std.proofs.lemmas.Map.Text.{is_eq-slice_cmp}
 use Rattle.rgw_model.specs.declared.slot.Slot.TheVariants as Slots
 use Rattle.rgw_model.specs.Stamps.{counted_moment}
 use Rattle.object_words.specs.declared.bucket.Bucket.{Bucket}
-use Rattle.object_words.specs.declared.why.Why.{Why}
 use Rattle.object_words.specs.declared.why.Why.TheVariants.{Raced}
 use Rattle.object_words.specs.declared.log.LogWhat.TheVariants.{Bucket as bucket_row}
 use Rattle.object_words.specs.Logs.{logged}
@@ -15,23 +13,21 @@ use Rattle.object_words.specs.Names.{at, with_name}
 use Rattle.object_words.specs.Refusals.{unless_refused}
 use Rattle.object_words.specs.Roots.{Root, version_of, swapped, stored, is_logged}
 use Rattle.object_words.proofs.NameLemmas.{at-none, at-with_name}
-use Rattle.realm_model.specs.Settings.{SettingsView, IsSettings}
+use Rattle.realm_model.specs.Settings.{IsSettings}
 use Rattle.realm_model.specs.States.{State, number_next, at_moment}
 use Rattle.realm_model.specs.Phases.{ActorId}
 use Rattle.realm_model.specs.Doors.{actor_at}
 use Rattle.realm_model.specs.Maps.{Maps, no_maps, mapped, mapped_by, slot_at, whole_slot}
 use Rattle.realm_model.specs.Worlds.{actor_of}
 use Rattle.realm_model.specs.Histories.{world_of, state_of}
-use Rattle.realm_model.specs.declared.op.Op.{Op}
 use Rattle.realm_model.specs.declared.event.Reply.TheVariants.{Done}
 use Rattle.realm_model.specs.declared.event.Event.{Event}
 use Rattle.realm_model.proofs.Runs.{state-next}
 use Rattle.realm_door.specs.Steps.{actor_of_pass}
 use Rattle.swift_auth.specs.Users.{standard_user, account_of}
 use Rattle.container_preset.specs.Presets.{row_now, new_row, shard_op, row_op, event_by, makes, look, made_row}
-use Rattle.container_preset.proofs.Rows.{read_leaves, makes_stay, next_is}
-use Rattle.call_words.specs.Made.{AreBy}
-use Rattle.once_law.specs.Maps.{Rows, Slots, rows_in, slots_in, no_slots}
+use Rattle.container_preset.proofs.Rows.{makes_stay, next_is}
+use Rattle.once_law.specs.Maps.{rows_in, slots_in, no_slots}
 use Rattle.once_law.specs.Runs.{NoneFrom, AreAt}
 use Rattle.once_law.proofs.Folding.{none_of_other}
 use Rattle.once_law.proofs.Moments.{clock_behind}

@@ -1,9 +1,8 @@
 -- The calls of a run at one moment are replied by the bucket map of the container.
-use Rattle.std.proofs.Common.{◌≡◌, ◌⊎◌, inl, inr, ℕ, ◌+◌, ◌≤◌, ◌<◌, ◌^◌, Bool, true, false, List, [], ◌∷◌, ◌++◌, length, All, Option, Some, None, Result, Ok, Err, refl, sym, ◌∙◌, ap, subst, arith, append_assoc}
+use Rattle.std.proofs.Common.{◌≡◌, ◌⊎◌, inl, inr, ℕ, ◌≤◌, ◌<◌, ◌^◌, Bool, false, List, [], ◌∷◌, ◌++◌, length, Option, Some, None, Result, Ok, Err, refl, sym, ◌∙◌, ap, subst, arith, append_assoc}
 use Rattle.std.specs.Prelude.{IfSome}
 use Rattle.std.specs.Io.KnownBytes.{Appends}
 use Rattle.std.proofs.KnownBytes.{Appends-nil, Appends-trans}
-use Rattle.std.proofs.lemmas.List.{append-nil}
 use Rattle.std.proofs.lemmas.List.Elements.{recursion_from_All}
 use Rattle.gw_io.specs.Ends.{EndsState}
 use Rattle.http_intake.specs.Intake.{IntakeState, fresh}
@@ -19,8 +18,8 @@ use Rattle.realm_model.specs.declared.event.Event.{Event}
 use Rattle.realm_model.proofs.Runs.{legal_front}
 use Rattle.realm_door.specs.Steps.{next_count, IsSame, actor_of_pass}
 use Rattle.realm_door.proofs.Others.{same_after_others}
-use Rattle.call_words.specs.Calls.{Ground, alone, task, Call, actor_after, AreRight}
-use Rattle.call_words.specs.Made.{AreBy, AreMadeFor, AreMade}
+use Rattle.call_words.specs.Calls.{Call, AreRight}
+use Rattle.call_words.specs.Made.{AreMade}
 use Rattle.call_words.proofs.Staying.{stay}
 use Rattle.swift_requests.specs.Asks.{asked_of}
 use Rattle.swift_requests.specs.declared.asked.Asked.{Asked}
@@ -37,9 +36,8 @@ use Rattle.gateway.specs.Requests.{IsIdle, LeavesAsked, LeavesRequest}
 use Rattle.gateway.specs.Texts.{place_after}
 use Rattle.gateway.specs.Serving.{RepliesTo, LeavesHead, LeavesNext, StopsFrom, LeavesAt, ServesConnection}
 use Rattle.gateway.specs.declared.serve.Served.{Served}
-use Rattle.once_law.specs.Maps.{rows_in, slots_in, no_slots}
+use Rattle.once_law.specs.Maps.{rows_in, slots_in}
 use Rattle.once_law.specs.Folds.{AreFolded}
-use Rattle.once_law.specs.Runs.{AreAt}
 use Rattle.once_law.proofs.Folding.{none_of_other, fold}
 use Rattle.once_law.proofs.Full.{full}
 use Rattle.once_law.proofs.Moments.{clocks_at}

@@ -1,5 +1,5 @@
 -- A realm of its own: the container is made, and then the connection is served.
-use Rattle.std.proofs.Common.{◌≡◌, ℕ, ◌+◌, ◌⊎◌, ⊎_elim, List, [], ◌∷◌, ◌++◌, length, true, false, Option, None, Result, Ok, Err, refl, sym, ap, ◌∙◌, subst}
+use Rattle.std.proofs.Common.{◌≡◌, ℕ, ◌+◌, ⊎_elim, List, [], ◌++◌, length, Option, None, Result, Ok, Err, sym, ap, ◌∙◌, subst}
 use Rattle.gw_io.specs.Ends.{EndsState}
 use Rattle.object_words.proofs.NameLemmas.{at-none}
 use Rattle.realm_model.specs.Settings.{SettingsView}

@@ -1,14 +1,13 @@
 -- Where a clock told one moment, the events of calls brought it.
-use Rattle.std.proofs.Common.{◌≡◌, ◌⊎◌, inl, inr, ℕ, Bool, true, false, cond, List, [], ◌∷◌, ◌++◌, map, filter, Option, Some, None, refl, sym, ◌∙◌, ap, subst, append_assoc}
+use Rattle.std.proofs.Common.{◌≡◌, ℕ, Bool, true, false, cond, List, [], ◌∷◌, ◌++◌, map, filter, sym, ◌∙◌, ap, subst, append_assoc}
 use Rattle.std.specs.List.{AllByRecursion}
-use Rattle.std.specs.Io.KnownBytes.{Appends}
 use Rattle.realm_model.specs.Phases.{ActorId}
 use Rattle.realm_model.specs.Worlds.{same_actor, actor_of}
 use Rattle.realm_model.specs.declared.event.Event.{Event}
 use Rattle.realm_model.proofs.ObjectLemmas.{actor_itself}
 use Rattle.realm_door.specs.Steps.{actor_of_pass}
 use Rattle.call_words.specs.Calls.{Ground, alone, task, Call}
-use Rattle.call_words.specs.Made.{AreBy, AreMadeFor, AreMade}
+use Rattle.call_words.specs.Made.{AreMadeFor, AreMade}
 use Rattle.call_service.specs.Serving.{own_moments, Tells, is_by_end}
 use Rattle.gateway.specs.Moments.{AreToldFor, AreTold}
 use Rattle.once_law.specs.Runs.{AreAt}

@@ -1,5 +1,5 @@
 -- What a run of `once` at one moment replies: the replies of one bucket map, folded over the calls from the empty container.
-use Rattle.std.specs.Prelude.{◌≡◌, ℕ, List, [], bytes_eq, Option, Some, None, Result, Ok, Err, IfSome, refl, if◌then◌else◌}
+use Rattle.std.specs.Prelude.{ℕ, List, [], bytes_eq, Option, Some, None, Result, Ok, Err, IfSome, refl, if◌then◌else◌}
 use Rattle.gw_io.specs.Ends.{EndsState}
 use Rattle.rgw_model.specs.Stamps.{counted_moment}
 use Rattle.realm_core.specs.Realms.{RealmView}
