@@ -5,8 +5,6 @@ ghost use Rattle.realm_model.specs.Settings.{SettingsView};
 ghost use Rattle.realm_model.specs.Doors.{DoorView};
 ghost use Rattle.realm_model.specs.Histories.{Legal};
 ghost use Rattle.call_service.specs.Serving.{IsNew};
-ghost use Rattle.task_get.specs.Stages.{IsOpen};
-ghost use Rattle.task_get.specs.Tasks.{stage_of};
 ghost use Rattle.script_words.specs.declared.line.Verb.TheVariants.{Get};
 ghost use Rattle.script_player.specs.Going.{GoesUpTo, Steps};
 ghost use Rattle.script_player.specs.Meanings.{Means};
