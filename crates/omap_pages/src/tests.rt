@@ -134,13 +134,22 @@ fn each_call_at_its_greatest_sizes(rt: HostRuntime) -> Result<(), Fail> {
     let len = omap.get(&last).ok_or("the last row")?.len();
     assert_eq!(rt; len, 16_318);
 
-    assert_eq!(rt; omap.get(b"spare spare spare"), None);
-    omap.reserve(1_000)?;
-    omap.put_spare(b"spare spare spare", &[b'v'; 1_040]);
     assert!(rt; omap.remove(&last));
     assert_eq!(rt; omap.remove_range(&long_key(0), &last), 1_000);
     assert!(rt; !omap.is_empty());
     omap.clear();
     assert!(rt; omap.is_empty());
+    Ok(())
+}
+
+// Spare rows have room for keys of 16 bytes and values of 1040.
+#[test]
+fn spare_rows_at_their_greatest(rt: HostRuntime) -> Result<(), Fail> {
+    let mut omap = Omap::new(rt.alloc())?;
+    assert_eq!(rt; omap.get(b"sixteen letters."), None);
+    omap.reserve(1_000)?;
+    omap.put_spare(b"sixteen letters.", &[b'v'; 1_040]);
+    let len = omap.get(b"sixteen letters.").ok_or("the row")?.len();
+    assert_eq!(rt; len, 1_040);
     Ok(())
 }
