@@ -203,17 +203,23 @@ fn rows_at_their_greatest(rt: HostRuntime) -> Result<(), Fail> {
     let len = place.row(&last).ok_or("the last row")?.len();
     assert_eq!(rt; len, 16_318);
 
-    place.reserve_rows(alloc, 1_000)?;
-    if place.row(b"spare spare spare").is_none() {
-        place.put_spare(b"spare spare spare", &[b'v'; 1_040]);
-    }
-    let len = place
-        .row(b"spare spare spare")
-        .ok_or("the spare row")?
-        .len();
-    assert_eq!(rt; len, 1_040);
     assert!(rt; place.take_row(&last));
     assert_eq!(rt; place.take_rows(&long_key(0), &last), 1_000);
     assert!(rt; place.exists());
+    Ok(())
+}
+
+// Spare rows have room for keys of 16 bytes and values of 1040.
+#[test]
+fn spare_rows_at_their_greatest(rt: HostRuntime) -> Result<(), Fail> {
+    let alloc = rt.alloc();
+    let mut pool = Pool::new(alloc, 1, 16)?;
+    let mut place = pool.place(alloc, &Key::Changes)?;
+    place.reserve_rows(alloc, 1_000)?;
+    if place.row(b"sixteen letters.").is_none() {
+        place.put_spare(b"sixteen letters.", &[b'v'; 1_040]);
+    }
+    let len = place.row(b"sixteen letters.").ok_or("the row")?.len();
+    assert_eq!(rt; len, 1_040);
     Ok(())
 }
