@@ -205,7 +205,7 @@ fn rows_at_their_greatest(rt: HostRuntime) -> Result<(), Fail> {
 
     assert!(rt; place.take_row(&last));
     assert_eq!(rt; place.take_rows(&long_key(0), &last), 1_000);
-    assert!(rt; place.exists());
+    assert!(rt; !place.exists());
     Ok(())
 }
 

@@ -136,6 +136,7 @@ fn each_call_at_its_greatest_sizes(rt: HostRuntime) -> Result<(), Fail> {
 
     assert!(rt; omap.remove(&last));
     assert_eq!(rt; omap.remove_range(&long_key(0), &last), 1_000);
+    put(alloc, &mut omap, &last, b"")?;
     assert!(rt; !omap.is_empty());
     omap.clear();
     assert!(rt; omap.is_empty());
