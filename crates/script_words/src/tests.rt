@@ -29,24 +29,26 @@ fn lines_and_what_is_none(rt: HostRuntime) -> Result<(), Fail> {
 #[test]
 fn a_put_and_its_actor(rt: HostRuntime) -> Result<(), Fail> {
     let read = read_line(rt.alloc(), b"start w 1 put box/a/b -", 1)?;
-    match read.ok_or("no line")? {
-        Line::Start {
-            actor,
-            zone: 1,
-            verb: Verb::Put {
-                container,
-                name,
-                body: ScriptBody::Word(bytes),
-            },
-        } => {
-            assert!(rt; actor.as_text().is("w"));
-            assert!(rt; container.as_text().is("box"));
-            assert!(rt; name.as_text().is("a/b"));
-            assert!(rt; bytes.is_empty());
-            Ok(())
-        }
-        _ => Err(Fail::from("another line")),
-    }
+    let Some(Line::Start { actor, zone, verb }) = read else {
+        return Err(Fail::from("no start"));
+    };
+    assert!(rt; actor.as_text().is("w"));
+    assert_eq!(rt; zone, 1);
+    let Verb::Put {
+        container,
+        name,
+        body,
+    } = verb
+    else {
+        return Err(Fail::from("no put"));
+    };
+    assert!(rt; container.as_text().is("box"));
+    assert!(rt; name.as_text().is("a/b"));
+    let ScriptBody::Word(bytes) = body else {
+        return Err(Fail::from("no word"));
+    };
+    assert!(rt; bytes.is_empty());
+    Ok(())
 }
 
 #[test]
