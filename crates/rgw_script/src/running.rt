@@ -18,6 +18,7 @@ use script_lines::{LineReader, Next};
 use std::alloc::Global;
 
 /// What a script is run on, beside its realm.
+#[derive(Debug, Drop)]
 #[derive(Drop)]
 pub struct ScriptPlan {
     /// The container that is there before the first line, made in zone 1 by the first actor of the first pass.
