@@ -4,5 +4,5 @@ mod Holding
 mod Playing
 mod Printing
 mod Reading
-mod Running
-mod Making
+mod Lines
+mod Containers

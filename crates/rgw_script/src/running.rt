@@ -19,7 +19,6 @@ use std::alloc::Global;
 
 /// What a script is run on, beside its realm.
 #[derive(Debug, Drop)]
-#[derive(Drop)]
 pub struct ScriptPlan {
     /// The container that is there before the first line, made in zone 1 by the first actor of the first pass.
     pub bucket: Option<BucketName>,
@@ -33,6 +32,7 @@ pub struct ScriptPlan {
 ///
 /// It ends early with `BadLine` at a line that can't be played: it is none, it names an actor that does not play, or
 /// it starts one under a name that was used. Then `bad line N` was written.
+#[tactic(none)]
 pub fn run_script<S: Source, K: Sink>(
     alloc: Global,
     settings: &Settings,
@@ -60,6 +60,7 @@ pub fn run_script<S: Source, K: Sink>(
 }
 
 /// Plays the lines of an input, from where the script stands.
+#[tactic(none)]
 fn play_lines<S: Source, K: Sink>(
     alloc: Global,
     settings: &Settings,

@@ -1,7 +1,7 @@
 use Rattle.std.proofs.Common.{◌≡◌, ◌-◌, ◌≤◌, ◌+◌}
 use Rattle.script_lines.specs.declared.reader.TheConstants.{INPUT_LIMIT}
 use Rattle.rgw_script.specs.Stages.{scene_of, Holds}
-use Rattle.rgw_script.proofs.Running.{SoFar}
+use Rattle.rgw_script.proofs.Lines.{SoFar}
 use Rattle.rgw_script.proofs.running.play_lines.Given as goal
 
 abbrev pub invariant-lines : goal.invariant-lines
