@@ -1,5 +1,5 @@
 -- The container that is made before the lines.
-use Rattle.std.proofs.Common.{◌≡◌, ◌⊎◌, inl, inr, ⊎_elim, ℕ, zero, suc, ◌+◌, ◌<◌, ◌^◌, false, List, [], ◌∷◌, ◌++◌, length, Option, None, Some, refl, sym, ap, ◌∙◌, subst, arith}
+use Rattle.std.proofs.Common.{◌≡◌, ◌⊎◌, inl, inr, ⊎_elim, ℕ, zero, suc, ◌+◌, ◌<◌, ◌^◌, false, List, [], ◌∷◌, ◌++◌, length, Option, None, Some, Result, Ok, Err, OnOk, IfErr, refl, sym, ap, ◌∙◌, subst, arith}
 use Rattle.std.specs.List.{AllByRecursion}
 use Rattle.object_words.proofs.NameLemmas.{at-none}
 use Rattle.container_preset.specs.Presets.{preset, make, makes, look, event_by, row_now, Stops, StopsAfter}
@@ -17,9 +17,14 @@ use Rattle.swift_auth.specs.Users.{standard_user, account_of}
 use Rattle.turn_cell.specs.declared.machine.DoorFault.{DoorFault}
 use Rattle.turn_cell.specs.declared.machine.DoorFault.TheVariants as doors
 use Rattle.rgw_script.specs.Faults.{door_fault}
-use Rattle.rgw_script.specs.Runs.{first_door, made, Unmade}
-use Rattle.rgw_script.specs.Stages.{AreByFirsts, AreBelow, IsOpen}
-use Rattle.rgw_script.specs.declared.fault.ScriptFault.TheVariants.{OutOfMemory}
+use Rattle.rgw_script.specs.Casts.{under}
+use Rattle.rgw_script.specs.Runs.{first_door, made, opening, Unmade, IsUnmade, RunsLines, RunsScript, HasScriptCause}
+use Rattle.rgw_script.specs.Scenes.{Scene}
+use Rattle.rgw_script.specs.Stages.{AreByFirsts, AreBelow, IsOpen, Holds, part_of, scene_of}
+use Rattle.rgw_script.specs.declared.cast.Cast.{Cast}
+use Rattle.rgw_script.specs.declared.fault.ScriptFault.{ScriptFault}
+use Rattle.rgw_script.specs.declared.fault.ScriptFault.TheVariants.{OutOfMemory, ReadFault, WriteFault, Worn}
+use Rattle.rgw_script.specs.declared.running.ScriptPlan.{ScriptPlan}
 use Rattle.rgw_script.proofs.Acting.{all_both}
 
 -- ---- whose events make it
@@ -88,3 +93,63 @@ module _ (settings : SettingsView) (r0 r1 r2 : RealmView) (a1 a2 : Actor) (bucke
 -- nothing was made, for want of memory
 pub unmade_at_once : (settings : SettingsView) (realm : RealmView) (bucket : List ℕ) (moment : ℕ) → realm ≡ new_realm settings → Unmade settings bucket moment realm.history OutOfMemory
 unmade_at_once settings realm bucket moment is = record { door = first_door; stops = inl refl; history_is = ap (λ (r : RealmView). r.history) is; cause = inl refl }
+
+-- a realm without events is open to the lines
+pub new_open : (settings : SettingsView) (realm : RealmView) → realm ≡ new_realm settings → IsOpen settings realm
+new_open settings realm is = subst (IsOpen settings) (sym is) (record { settings_are = refl; legal = tt; firsts = tt })
+
+pub new_below : (settings : SettingsView) (realm : RealmView) → realm ≡ new_realm settings → AreBelow 2 realm.history
+new_below settings realm is = subst (λ (r : RealmView). AreBelow 2 r.history) (sym is) tt
+
+pub unmade_as : (settings : SettingsView) (plan : ScriptPlan) (bucket : List ℕ) (history : List Event) (result : Result (Unit {0}) ScriptFault) → plan.bucket ≡ Some bucket
+    → IfErr result (Unmade settings bucket plan.moment history) → IfErr result (IsUnmade settings plan history)
+unmade_as settings plan bucket history (Ok done) is unmade = tt
+unmade_as settings plan bucket history (Err fault) is unmade = (bucket, is, unmade)
+
+pub made_as : (settings : SettingsView) (plan : ScriptPlan) (bucket : List ℕ) (history : List Event) (result : Result (Unit {0}) ScriptFault) → plan.bucket ≡ Some bucket
+    → OnOk result (history ≡ made settings (Some bucket) plan.moment) → OnOk result (history ≡ made settings plan.bucket plan.moment)
+made_as settings plan bucket history (Ok done) is so = so ∙ ap (λ b. made settings b plan.moment) (sym is)
+made_as settings plan bucket history (Err fault) is so = tt
+
+-- what is left where it was not made
+pub unbegun : (settings : SettingsView) (plan : ScriptPlan) (left taken : Option (List ℕ)) (history : List Event) (fault : ScriptFault) → IsUnmade settings plan history fault
+    → RunsScript settings plan left left taken taken history (Err fault)
+unbegun settings plan left taken history fault unmade = inr (fault, refl, record { unmade = unmade; unread = refl; unwritten = refl })
+
+pub unmade_counts : (settings : SettingsView) (plan : ScriptPlan) (history : List Event) (read write : ℕ) (fault : ScriptFault) → IsUnmade settings plan history fault → HasScriptCause read read write write (Err fault)
+unmade_counts settings plan history read write fault unmade = record {
+  read_rose = λ is. absurd ((neither fault unmade.2.cause).0 (err_is _ _ is));
+  read_kept = λ differs. refl;
+  write_rose = λ is. absurd ((neither fault unmade.2.cause).1 (err_is _ _ is));
+  write_kept = λ differs. refl;
+} where
+  err_is : (a b : ScriptFault) → ◌≡◌ {A = Result (Unit {0}) ScriptFault} (Err a) (Err b) → a ≡ b
+  err_is a b e = cc
+  neither : (f : ScriptFault) → ((f ≡ OutOfMemory) ⊎ ((f ≡ Worn) × (length history ≡ 2 ^ 62))) → (f ≡ ReadFault → ⊥) × (f ≡ WriteFault → ⊥)
+  neither f cause = elim cause [
+      | inl memory ↦ (λ e. let x = sym memory ∙ e in absurd (cc), λ e. let x = sym memory ∙ e in absurd (cc))
+      | inr worn ↦ (λ e. let x = sym worn.0 ∙ e in absurd (cc), λ e. let x = sym worn.0 ∙ e in absurd (cc))
+    ]
+
+-- ---- the scene before the first line
+
+-- nobody has a name, and the container stands
+pub opens : (settings : SettingsView) (plan : ScriptPlan) (cast : Cast) (history : List Event) → ((name : List ℕ) → under cast name ≡ None) → history ≡ made settings plan.bucket plan.moment
+    → scene_of (record { moment = plan.moment; next = 2; cast = cast }) history ≡ opening settings plan
+opens settings plan cast history none is = λ i. record { moment = plan.moment; parts = λ name. part_of (none name i); next = 2; history = is i }
+
+pub opens_holds : (settings : SettingsView) (plan : ScriptPlan) (cast : Cast) (realm : RealmView) → ((name : List ℕ) → under cast name ≡ None) → IsOpen settings realm → AreBelow 2 realm.history
+    → Holds settings (record { moment = plan.moment; next = 2; cast = cast }) realm
+opens_holds settings plan cast realm none is_open below = record {
+  is_open = is_open;
+  below = below;
+  standing = record {
+    each = λ name a is. let e = sym (none name) ∙ is in absurd (cc);
+    begun = λ name a is. let e = sym (none name) ∙ is in absurd (cc);
+    apart = λ n m a b is other differ. let e = sym (none n) ∙ is in absurd (cc);
+  };
+}
+
+pub runs_on : (settings : SettingsView) (plan : ScriptPlan) (s : Scene) (left left' taken taken' : Option (List ℕ)) (history : List Event) (result : Result (Unit {0}) ScriptFault) → s ≡ opening settings plan
+    → RunsLines settings s left left' taken taken' history result → RunsScript settings plan left left' taken taken' history result
+runs_on settings plan s left left' taken taken' history result is runs = inl (subst (λ (x : Scene). RunsLines settings x left left' taken taken' history result) is runs)

@@ -1,5 +1,5 @@
 -- The lines of a script, one after another, to the end of the input or to where it ends before.
-use Rattle.std.proofs.Common.{◌≡◌, ◌≢◌, ◌⊎◌, inl, inr, ℕ, ◌+◌, ◌<◌, ◌≤◌, List, [], ◌∷◌, ◌++◌, length, Option, None, Some, Result, Ok, Err, refl, sym, ap, ◌∙◌, subst, arith, append_assoc, length-append}
+use Rattle.std.proofs.Common.{◌≡◌, ◌≢◌, ◌⊎◌, inl, inr, ℕ, ◌+◌, ◌^◌, ◌<◌, ◌≤◌, List, [], ◌∷◌, ◌++◌, length, Option, None, Some, Result, Ok, Err, refl, sym, ap, ◌∙◌, subst, arith, append_assoc, length-append}
 use Rattle.std.specs.Io.KnownBytes.{Consumes, Appends, IsAtEnd}
 use Rattle.std.proofs.KnownBytes.{Appends-nil, Appends-trans}
 use Rattle.std.proofs.lemmas.List.{append-nil}
@@ -223,3 +223,19 @@ refusal_was_read taken taken' number ReadFault refused = absurd refused
 refusal_was_read taken taken' number WriteFault refused = λ e. absurd (cc)
 refusal_was_read taken taken' number Worn refused = absurd refused
 refusal_was_read taken taken' number (BadLine line) refused = λ e. absurd (cc)
+
+-- where nothing failed
+pub counts_ok : (read read' write write' : ℕ) → read' ≡ read → write' ≡ write → HasScriptCause read read' write write' (Ok tt)
+counts_ok read read' write write' kept_read kept_write = record {
+  read_rose = λ is. absurd (cc);
+  read_kept = λ differs. kept_read;
+  write_rose = λ is. absurd (cc);
+  write_kept = λ differs. kept_write;
+}
+
+-- an input that gave something did not fail
+pub read_well : {T : Type 0} (before now first : ℕ) (x : T) → CountsFaults before now (Ok x) → before ≡ first → now ≡ first
+read_well before now first x counts same = counts.kept (λ e. absurd (cc)) ∙ same
+
+pub fit_more : (texts : List (List ℕ)) (given number : ℕ) → number ≡ length texts → Counts texts given → number + 1 ≤ 2 ^ 31
+fit_more texts given number is counts = omega (arith, is, counts.many, counts.within)

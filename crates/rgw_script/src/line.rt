@@ -32,7 +32,6 @@ pub(crate) fn refuse<K: Sink>(output: &mut K, out: &mut Vec<u8>, number: u64) ->
 }
 
 /// Plays the line that a text is, the one of this number, and writes what it prints.
-#[tactic(none)]
 pub(crate) fn play_text<K: Sink>(
     alloc: Global,
     settings: &Settings,

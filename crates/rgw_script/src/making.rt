@@ -25,7 +25,6 @@ fn standard_owner(alloc: Global) -> Result<Text, AllocError>
 }
 
 /// Makes the container in a new realm, as the first actor of the first pass, all at this moment.
-#[tactic(none)]
 pub(crate) fn make_container(
     alloc: Global,
     settings: &Settings,
