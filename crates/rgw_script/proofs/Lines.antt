@@ -239,3 +239,9 @@ read_well before now first x counts same = counts.kept (λ e. absurd (cc)) ∙ s
 
 pub fit_more : (texts : List (List ℕ)) (given number : ℕ) → number ≡ length texts → Counts texts given → number + 1 ≤ 2 ^ 31
 fit_more texts given number is counts = omega (arith, is, counts.many, counts.within)
+
+-- reading the next line ended it
+pub counts_unread : (before now write write' first : ℕ) (fault : LineFault) → CountsFaults {T = Next} before now (Err fault) → before ≡ first → write' ≡ write → HasScriptCause first now write write' (Err (line_fault fault))
+counts_unread before now write write' first fault counts same kept =
+    subst (λ n. HasScriptCause n now write write' (Err (line_fault fault))) same
+    (counts_read before now write write' {T = Next} (Err fault) fault refl counts kept)

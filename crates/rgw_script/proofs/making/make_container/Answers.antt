@@ -1,6 +1,5 @@
 use Rattle.std.proofs.Common.{rules, ◌∙◌}
-use Rattle.rgw_script.specs.Runs.{Unmade}
-use Rattle.rgw_script.specs.declared.fault.ScriptFault.TheVariants.{OutOfMemory}
+use Rattle.std.proofs.lemmas.Result.{err_from_is_err_and}
 use Rattle.rgw_script.proofs.Containers.{made_so, made_below, made_open, unmade_below, unmade_open, unmade_so, unmade_at_once, new_open, new_below}
 use Rattle.rgw_script.proofs.making.make_container.Goals as goal
 
@@ -17,9 +16,9 @@ returns-in_err-owner-clause-open c = new_open c.args.settings.now c.args.realm.n
 
 pub returns-in_err-preset_bucket-clause-stopped : goal.returns-in_err-preset_bucket-clause-stopped
 returns-in_err-preset_bucket-clause-stopped c =
-    let left = unmade_so c.args.settings.now c.args.realm.now c.new-door.result.realm.now c.preset_bucket.new.door.realm.now c.new-door.result.actor.now c.preset_bucket.new.door.actor.now c.args.bucket.now c.args.moment
-    c.new-door.ensures.realm.0 c.requires (c.new-door.ensures.actor.0 ∙ c.new-actor.ensures) c.in_err-preset_bucket.field-0.0 (c.in_err-preset_bucket.ensures.stopped tt) (c.in_err-preset_bucket.ensures.worn tt) _ (search rules) in
-    search (rules, left)
+    let p = err_from_is_err_and c.from_residual-in_err-preset_bucket.result c.from_residual-in_err-preset_bucket.ensures.1 in
+    rw (p.1, p.2) (unmade_so c.args.settings.now c.args.realm.now c.new-door.result.realm.now c.preset_bucket.new.door.realm.now c.new-door.result.actor.now c.preset_bucket.new.door.actor.now c.args.bucket.now c.args.moment
+    c.new-door.ensures.realm.0 c.requires (c.new-door.ensures.actor.0 ∙ c.new-actor.ensures) c.in_err-preset_bucket.field-0.0 (c.in_err-preset_bucket.ensures.stopped tt) (c.in_err-preset_bucket.ensures.worn tt) _ (search rules))
 
 pub returns-in_err-preset_bucket-clause-below : goal.returns-in_err-preset_bucket-clause-below
 returns-in_err-preset_bucket-clause-below c =

@@ -1,14 +1,14 @@
-use Rattle.std.proofs.Common.{rules, arith, refl, sym, ap, ◌∙◌, subst, List, ℕ, length, ◌+◌}
+use Rattle.std.proofs.Common.{rules, arith, refl, sym, ap, ◌∙◌, subst, length, ◌+◌, ◌++◌}
 use Rattle.std.proofs.lemmas.Result.{err_from_is_err_and}
 use Rattle.script_lines.specs.declared.reader.Next.TheVariants.{Line, End, TooLong}
-use Rattle.script_lines.specs.Faults.{CountsFaults}
+use Rattle.std.specs.Io.KnownBytes.{IsAtEnd}
 use Rattle.rgw_script.specs.Plays.{PlaysOne}
 use Rattle.rgw_script.specs.Printing.{CountsWrite}
 use Rattle.rgw_script.specs.Runs.{LeavesText}
 use Rattle.rgw_script.specs.Stages.{scene_of}
 use Rattle.rgw_script.specs.declared.fault.ScriptFault.TheVariants.{OutOfMemory}
 use Rattle.rgw_script.proofs.Reading.{given_more}
-use Rattle.rgw_script.proofs.Lines.{so_far_none, finds_as, played_on, played_through, left_text, left_long, left_unread, left_at_once, unread_so, long_so, counts_write, counts_read, counts_ok, read_well, text_was_read, refusal_was_read, fit_more}
+use Rattle.rgw_script.proofs.Lines.{so_far_none, finds_as, played_on, played_through, left_text, left_long, left_unread, left_at_once, unread_so, long_so, counts_write, counts_unread, counts_ok, read_well, text_was_read, refusal_was_read, fit_more}
 use Rattle.rgw_script.proofs.running.play_lines.Goals as goal
 
 pub returns-in_err-reader-clause-runs : goal.returns-in_err-reader-clause-runs
@@ -40,12 +40,14 @@ returns-in_err-next-clause-runs g c =
     let p = err_from_is_err_and c.from_residual-in_err-next.result c.from_residual-in_err-next.ensures.1 in
     rw (p.1, p.2) (left_unread c.args.settings.now (scene_of c.args.script.now c.args.realm.now.history) (scene_of c.lines.script c.lines.realm.history)
     (g.S.Source.left c.args.input.now) (g.S.Source.left c.lines.input) (g.S.Source.left c.next.new.source) (g.K.Sink.taken c.args.output.now) (g.K.Sink.taken c.lines.output)
-    c.lines.reader c.next.new.self c.lines.number so found.0 found.1 c.lines.realm.history _ (unread_so _ _ _ _ _ _ _ _ refl found.2))
+    c.lines.reader c.next.new.self c.lines.number so found.0 found.1 c.lines.realm.history _ (unread_so (scene_of c.lines.script c.lines.realm.history) (c.lines.reader.waits ++ found.0) (IsAtEnd (g.S.Source.left c.next.new.source)) c.lines.reader c.next.new.self
+    (g.K.Sink.taken c.lines.output) c.lines.realm.history c.in_err-next.field-0.0 refl found.2))
 
 pub returns-in_err-next-clause-cause : goal.returns-in_err-next-clause-cause
 returns-in_err-next-clause-cause g c =
     let p = err_from_is_err_and c.from_residual-in_err-next.result c.from_residual-in_err-next.ensures.1 in
-    rw (p.1, p.2) (counts_read _ _ _ _ _ _ refl (subst (λ n. CountsFaults n (g.S.Source.faults c.next.new.source) _) c.lines.invariant.3 c.in_err-next.ensures.cause) c.lines.invariant.4)
+    rw (p.1, p.2) (counts_unread (g.S.Source.faults c.lines.input) (g.S.Source.faults c.next.new.source) (g.K.Sink.faults c.args.output.now) (g.K.Sink.faults c.lines.output) (g.S.Source.faults c.args.input.now)
+    c.in_err-next.field-0.0 c.in_err-next.ensures.cause c.lines.invariant.3 c.lines.invariant.4)
 
 pub returns-in-End-clause-runs : goal.returns-in-End-clause-runs
 returns-in-End-clause-runs g c =
@@ -122,6 +124,7 @@ returns-in_err-play_text-in-Line-clause-runs g c =
 pub returns-in_err-play_text-in-Line-clause-cause : goal.returns-in_err-play_text-in-Line-clause-cause
 returns-in_err-play_text-in-Line-clause-cause g c =
     let p = err_from_is_err_and c.from_residual-in_err-play_text-in-Line.result c.from_residual-in_err-play_text-in-Line.ensures.1 in
-    rw (p.1, p.2) (counts_write _ _ _ _ c.in_err-play_text-in-Line.field-0.0 (text_was_read _ _ _ _ _ _ _ _ c.in_err-play_text-in-Line.ensures.left)
+    rw (p.1, p.2) (counts_write _ _ _ _ c.in_err-play_text-in-Line.field-0.0 (text_was_read c.args.settings.now (scene_of c.lines.script c.lines.realm.history) (c.lines.number + 1) c.line.result.now (g.K.Sink.taken c.lines.output) (g.K.Sink.taken c.play_text.new.output)
+    c.play_text.new.realm.history c.in_err-play_text-in-Line.field-0.0 c.in_err-play_text-in-Line.ensures.left)
     (read_well _ _ _ _ c.in_ok-next.ensures.cause c.lines.invariant.3)
     (subst (λ n. CountsWrite n (g.K.Sink.faults c.play_text.new.output) c.in_err-play_text-in-Line.field-0.0) c.lines.invariant.4 c.in_err-play_text-in-Line.ensures.cause))
