@@ -17,7 +17,8 @@ use Rattle.realm_model.proofs.ObjectLemmas.{actor_itself}
 use Rattle.realm_model.proofs.Others.{phase-others, account-others}
 use Rattle.realm_door.specs.Steps.{Grows, IsLater, IsSame, actor_of_pass}
 use Rattle.realm_door.proofs.Others.{none_by, same_other_pass}
-use Rattle.script_player.specs.Going.{ActsAlone, GoesUpTo, HasGone, IsNew}
+use Rattle.call_service.specs.Serving.{IsNew}
+use Rattle.script_player.specs.Going.{ActsAlone, GoesUpTo, HasGone}
 use Rattle.script_player.specs.Plays.{fits, IsPlaying, StandsAs}
 use Rattle.script_player.specs.declared.player.Gone.{Gone}
 use Rattle.script_player.specs.declared.player.Gone.TheVariants.{Short, Ended}

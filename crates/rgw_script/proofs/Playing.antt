@@ -1,5 +1,5 @@
 -- Lines that name an actor, or begin one.
-use Rattle.std.proofs.Common.{◌≡◌, ◌≢◌, ◌⊎◌, inl, inr, ℕ, ◌+◌, ◌<◌, ◌≤◌, Bool, true, false, List, [], ◌++◌, Option, None, Some, Result, Ok, Err, OnOk, OnErr, IfSome, IfNone, refl, sym, ap, ◌∙◌, subst, arith}
+use Rattle.std.proofs.Common.{◌≡◌, ◌≢◌, ◌⊎◌, inl, inr, ℕ, ◌+◌, ◌<◌, ◌≤◌, Bool, true, false, List, [], ◌++◌, Option, None, Some, Result, Ok, Err, OnOk, OnErr, IfErr, IfSome, IfNone, refl, sym, ap, ◌∙◌, subst, arith}
 use Rattle.std.specs.Prelude.{is_some}
 use Rattle.realm_core.specs.Realms.{RealmView}
 use Rattle.realm_model.specs.Settings.{SettingsView}
@@ -17,9 +17,11 @@ use Rattle.script_player.specs.declared.player.Gone.TheVariants.{Short, Ended}
 use Rattle.rgw_script.specs.Casts.{Table, under, playing}
 use Rattle.rgw_script.specs.Plays.{Acts, Ends, GoesOn, StepsOn, RunsOut, Does, Plays, Misses, Begins}
 use Rattle.rgw_script.specs.Scenes.{Role, Part, unused, plays, gone, asked_of, has_acted, view_of, recast, Scene, with_part, with_history, with_next, next_role}
-use Rattle.rgw_script.specs.Stages.{role_of, part_of, scene_of, door_to, IsOpen, AreBelow, StandsIn, AreStanding, Holds, HasActed, HasActedSome, HasEnded, StandsAfter, BearsOut}
+use Rattle.rgw_script.specs.Stages.{role_of, part_of, scene_of, door_to, IsOpen, AreBelow, StandsIn, AreStanding, Holds, HasActed, HasActedSome, HasEnded, StandsAfter, BearsOut, StopsAt, ComesTo}
 use Rattle.rgw_script.specs.declared.active.Active.{Active}
 use Rattle.rgw_script.specs.declared.cast.Cast.{Cast}
+use Rattle.rgw_script.specs.declared.fault.ScriptFault.{ScriptFault}
+use Rattle.rgw_script.specs.declared.fault.ScriptFault.TheVariants.{OutOfMemory}
 use Rattle.rgw_script.specs.declared.script.Script.{Script}
 use Rattle.rgw_script.proofs.Acting.{raised_below, acted_below}
 use Rattle.rgw_script.proofs.Holding.{Puts, at_playing, same_standing, raised_standing, left_standing, left_apart, later_standing, put_standing, parts_put, parts_same, parts_back}
@@ -280,11 +282,87 @@ stands_as by is settings other h a same eq stands = subst (λ s. StandsAfter is 
 
 -- ---- by what a line is
 
-pub as_played : (settings : SettingsView) (s t : Scene) (line other : Line) (printed : List ℕ) → line ≡ other → printed ≡ [] → Plays settings s other t [] → Plays settings s line t printed
-as_played settings s t line other printed is empty played = subst (λ p. Plays settings s line t p) (sym empty) (subst (λ l. Plays settings s l t []) (sym is) played)
+-- what a line comes to that is this one
+pub as_line : (settings : SettingsView) (line other : Line) (before after : Script) (old new : RealmView) (printed : List ℕ) (result : Result Bool ScriptFault) → line ≡ other
+    → ComesTo settings other before after old new printed result → ComesTo settings line before after old new printed result
+as_line settings line other before after old new printed result is comes = subst (λ l. ComesTo settings l before after old new printed result) (sym is) comes
 
-pub as_missed : (s : Scene) (line other : Line) (realm : RealmView) → line ≡ other → Misses s other → Misses s line × (realm ≡ realm)
-as_missed s line other realm is missed = (subst (Misses s) (sym is) missed, refl)
-
-pub ok_is : {E : Type 0} (a b : Bool) → ◌≡◌ {A = Result Bool E} (Ok a) (Ok b) → a ≡ b
+ok_is : (a b : Bool) → ◌≡◌ {A = Result Bool ScriptFault} (Ok a) (Ok b) → a ≡ b
 ok_is a b e = cc
+
+ok_so : (r : Result Bool ScriptFault) (P Q : Type 0) → (P → Q) → OnOk r P → OnOk r Q
+ok_so (Ok x) P Q so p = so p
+ok_so (Err e) P Q so p = tt
+
+memory_stops : (r : Result Bool ScriptFault) (history : List Event) → IfErr r (λ fault. fault ≡ OutOfMemory) → IfErr r (StopsAt history)
+memory_stops (Ok x) history is = tt
+memory_stops (Err e) history is = subst (StopsAt history) (sym is) tt
+
+pub comes_clock : (settings : SettingsView) (script : Script) (realm : RealmView) (moment : ℕ) (out : List ℕ) → out ≡ [] → Holds settings script realm
+    → ComesTo settings (lines.Clock moment) script (record { moment = moment; next = script.next; cast = script.cast }) realm realm out (Ok true)
+comes_clock settings script realm moment out empty holds = record {
+  holds = record { is_open = holds.is_open; below = holds.below; standing = holds.standing };
+  played = λ is. (refl, empty);
+  missed = λ is. let e = ok_is _ _ is in absurd (cc);
+  next = omega arith;
+  begun = tt;
+  cause = tt;
+  is_open = holds.is_open;
+}
+
+pub comes_start : (settings : SettingsView) (before after : Script) (realm : RealmView) (name : List ℕ) (zone : ℕ) (verb : Verb) (out : List ℕ) (result : Result Bool ScriptFault) → out ≡ [] → Holds settings before realm
+    → OnOk result ((r : RealmView) → Holds settings before r → Holds settings after r)
+    → (result ≡ Ok true → (history : List Event) → Plays settings (scene_of before history) (lines.Start name zone verb) (scene_of after history) [])
+    → (result ≡ Ok false → (history : List Event) → Misses (scene_of before history) (lines.Start name zone verb))
+    → OnOk result (after.next ≤ before.next + 1) → IfErr result (λ fault. fault ≡ OutOfMemory)
+    → ComesTo settings (lines.Start name zone verb) before after realm realm out result
+comes_start settings before after realm name zone verb out result empty holds kept played missed next cause = record {
+  holds = ok_so result _ _ (λ so. so realm holds) kept;
+  played = λ is. subst (Plays settings (scene_of before realm.history) (lines.Start name zone verb) (scene_of after realm.history)) (sym empty) (played is realm.history);
+  missed = λ is. (missed is realm.history, refl);
+  next = next;
+  begun = any_err result _ refl;
+  cause = memory_stops result realm.history cause;
+  is_open = holds.is_open;
+}
+
+pub comes_stop : (settings : SettingsView) (before after : Script) (realm : RealmView) (name : List ℕ) (out : List ℕ) (there : Bool) → out ≡ [] → Holds settings before realm
+    → ((s : SettingsView) (r : RealmView) → Holds s before r → Holds s after r)
+    → (there ≡ true → (s : SettingsView) (history : List Event) → Plays s (scene_of before history) (lines.Stop name) (scene_of after history) [])
+    → (there ≡ false → (history : List Event) → Misses (scene_of before history) (lines.Stop name))
+    → after.next ≡ before.next
+    → ComesTo settings (lines.Stop name) before after realm realm out (Ok there)
+comes_stop settings before after realm name out there empty holds kept played missed next = record {
+  holds = kept settings realm holds;
+  played = λ is. subst (Plays settings (scene_of before realm.history) (lines.Stop name) (scene_of after realm.history)) (sym empty) (played (ok_is _ _ is) settings realm.history);
+  missed = λ is. (missed (ok_is _ _ is) realm.history, refl);
+  next = omega (arith, next);
+  begun = tt;
+  cause = tt;
+  is_open = holds.is_open;
+}
+
+pub comes_do : (settings : SettingsView) (before after : Script) (old new : RealmView) (zone : ℕ) (verb : Verb) (out : List ℕ)
+    → Holds settings after new → Plays settings (scene_of before old.history) (lines.Do zone verb) (scene_of after new.history) out → after.next ≤ before.next + 1 → IsOpen settings new
+    → ComesTo settings (lines.Do zone verb) before after old new out (Ok true)
+comes_do settings before after old new zone verb out holds played next is_open = record {
+  holds = holds;
+  played = λ is. played;
+  missed = λ is. let e = ok_is _ _ is in absurd (cc);
+  next = next;
+  begun = tt;
+  cause = tt;
+  is_open = is_open;
+}
+
+pub comes_left : (settings : SettingsView) (line : Line) (before after : Script) (old new : RealmView) (out : List ℕ) (fault : ScriptFault) → Begins (scene_of before old.history) line new.history → StopsAt new.history fault → IsOpen settings new
+    → ComesTo settings line before after old new out (Err fault)
+comes_left settings line before after old new out fault begun cause is_open = record {
+  holds = tt;
+  played = λ is. absurd (cc);
+  missed = λ is. absurd (cc);
+  next = tt;
+  begun = begun;
+  cause = cause;
+  is_open = is_open;
+}

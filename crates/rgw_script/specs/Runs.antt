@@ -136,11 +136,14 @@ pub record Unmade (settings : SettingsView) (bucket : List ℕ) (moment : ℕ) (
   pub history_is : history ≡ door.seen
   pub cause : (fault ≡ OutOfMemory) ⊎ ((fault ≡ Worn) × (length history ≡ 2 ^ 62))
 
--- the container of the plan was not made, and nothing was read or written
+-- the container of a plan was not made
+abbrev pub IsUnmade : SettingsView → ScriptPlan → List Event → ScriptFault → Type 0
+IsUnmade settings plan history fault =
+    (bucket : List ℕ) × (plan.bucket ≡ Some bucket) × Unmade settings bucket plan.moment history fault
+
+-- and nothing was read or written
 pub record IsUnbegun (settings : SettingsView) (plan : ScriptPlan) (left left' taken taken' : Option (List ℕ)) (history : List Event) (fault : ScriptFault) : Type 0 where
-  pub bucket : List ℕ
-  pub planned : plan.bucket ≡ Some bucket
-  pub unmade : Unmade settings bucket plan.moment history fault
+  pub unmade : IsUnmade settings plan history fault
   pub unread : left' ≡ left
   pub unwritten : taken' ≡ taken
 

@@ -1,5 +1,5 @@
 -- What holds between two lines of a script.
-use Rattle.std.specs.Prelude.{◌≡◌, ◌≢◌, ℕ, ◌^◌, ◌<◌, ◌≤◌, List, length, Option, None, Some}
+use Rattle.std.specs.Prelude.{◌≡◌, ◌≢◌, ℕ, ◌+◌, ◌^◌, ◌<◌, ◌≤◌, Bool, true, false, List, length, Option, None, Some, Result, Ok, OnOk, OnErr, IfErr}
 use Rattle.std.specs.List.{AllByRecursion}
 use Rattle.realm_core.specs.Realms.{RealmView}
 use Rattle.realm_model.specs.Doors.{DoorView}
@@ -17,6 +17,7 @@ use Rattle.script_player.specs.declared.player.Gone.{Gone}
 use Rattle.script_player.specs.declared.player.Gone.TheVariants.{Short, Ended}
 use Rattle.script_player.specs.Requests.{HasFewBytes}
 use Rattle.rgw_script.specs.Casts.{Table, under}
+use Rattle.rgw_script.specs.Plays.{Plays, Misses, Begins}
 use Rattle.rgw_script.specs.Scenes.{Role, Part, unused, plays, gone, has_acted, view_of, Scene}
 use Rattle.rgw_script.specs.declared.active.Active.{Active}
 use Rattle.rgw_script.specs.declared.fault.ScriptFault.{ScriptFault}
@@ -127,3 +128,15 @@ abbrev pub IsSound : SettingsView → Line → Type 0
 IsSound settings (Start name zone verb) = IsPlayable settings zone verb
 IsSound settings (Do zone verb) = IsPlayable settings zone verb
 IsSound settings line = Unit {0}
+
+-- ---- one line
+
+-- what playing a line came to, from one script and realm to another: played, and this was printed; not played; or left
+pub record ComesTo (settings : SettingsView) (line : Line) (before after : Script) (old new : RealmView) (printed : List ℕ) (result : Result Bool ScriptFault) : Type 0 where
+  pub holds : OnOk result (Holds settings after new)
+  pub played : result ≡ Ok true → Plays settings (scene_of before old.history) line (scene_of after new.history) printed
+  pub missed : result ≡ Ok false → Misses (scene_of before old.history) line × (new ≡ old)
+  pub next : OnOk result (after.next ≤ before.next + 1)
+  pub begun : OnErr result (Begins (scene_of before old.history) line new.history)
+  pub cause : IfErr result (StopsAt new.history)
+  pub is_open : IsOpen settings new

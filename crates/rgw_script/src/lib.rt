@@ -13,3 +13,6 @@ mod script;
 
 pub use fault::ScriptFault;
 pub use running::{ScriptPlan, run_script};
+
+#[cfg(test)]
+mod tests;

@@ -12,7 +12,8 @@ use crate::script::Script;
 use gw_io::{Sink, write_all};
 use realm_core::Realm;
 use realm_model::Settings;
-use script_words::{push_bad_line, read_line};
+use script_player::lines_have_few_bytes;
+use script_words::{lines_have_one_meaning, push_bad_line, read_line};
 use std::alloc::Global;
 
 /// Says that the line of this number is bad. The script ends with the fault that is answered.
@@ -55,6 +56,8 @@ pub(crate) fn play_text<K: Sink>(
     ensures cause { IfErr result (CountsWrite (K.faults output.old) (K.faults output.new)) }
     ensures open { IsOpen settings.now realm.new }
 {
+    lines_have_one_meaning();
+    lines_have_few_bytes();
     let Some(line) = read_line(alloc, text, settings.zones)? else {
         return Err(refuse(output, out, number));
     };

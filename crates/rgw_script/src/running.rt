@@ -1,9 +1,9 @@
 //! Scripts, from their input to their output.
-ghost use Rattle.std.specs.Prelude.{◌≡◌, ◌+◌, ◌-◌, ◌^◌, ◌<◌, ◌≤◌, OnErr};
+ghost use Rattle.std.specs.Prelude.{◌≡◌, OnOk, IfErr};
 ghost use Rattle.realm_core.specs.Realms.{new_realm};
 ghost use Rattle.realm_model.specs.Histories.{Legal};
-ghost use Rattle.rgw_script.specs.Runs.{RunsLines, RunsScript, HasScriptCause};
-ghost use Rattle.rgw_script.specs.Stages.{scene_of, Holds, IsOpen};
+ghost use Rattle.rgw_script.specs.Runs.{made, IsUnmade, RunsLines, RunsScript, HasScriptCause};
+ghost use Rattle.rgw_script.specs.Stages.{scene_of, Holds, IsOpen, AreBelow};
 
 use crate::cast::Cast;
 use crate::fault::ScriptFault;
@@ -18,7 +18,7 @@ use script_lines::{LineReader, Next};
 use std::alloc::Global;
 
 /// What a script is run on, beside its realm.
-#[derive(Drop)]
+#[derive(Debug, Drop)]
 pub struct ScriptPlan {
     /// The container that is there before the first line, made in zone 1 by the first actor of the first pass.
     pub bucket: Option<BucketName>,
@@ -47,15 +47,32 @@ pub fn run_script<S: Source, K: Sink>(
     ensures legal { Legal settings.now realm.new.history }
     ensures settings { realm.new.settings ≡ settings.now }
 {
-    if let Some(bucket) = &plan.bucket {
-        make_container(alloc, settings, realm, bucket, plan.moment)?;
-    }
+    make_planned(alloc, settings, plan, realm)?;
     let mut script = Script {
         moment: plan.moment,
         next: 2,
         cast: Cast::new(alloc),
     };
     play_lines(alloc, settings, &mut script, realm, input, output)
+}
+
+/// Makes the container of the plan in a new realm.
+fn make_planned(
+    alloc: Global,
+    settings: &Settings,
+    plan: &ScriptPlan,
+    realm: &mut Realm,
+) -> Result<(), ScriptFault>
+    requires { realm.old ≡ new_realm settings.now }
+    ensures made { OnOk result (realm.new.history ≡ made settings.now plan.now.bucket plan.now.moment) }
+    ensures stopped { IfErr result (IsUnmade settings.now plan.now realm.new.history) }
+    ensures below { AreBelow 2 realm.new.history }
+    ensures open { IsOpen settings.now realm.new }
+{
+    match &plan.bucket {
+        Some(bucket) => make_container(alloc, settings, realm, bucket, plan.moment),
+        None => Ok(()),
+    }
 }
 
 /// Plays the lines of an input, from where the script stands.

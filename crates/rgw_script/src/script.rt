@@ -6,7 +6,7 @@ ghost use Rattle.realm_model.specs.declared.event.Event.{Event as EventOf};
 ghost use Rattle.script_words.specs.declared.line.Line.TheVariants as lines;
 ghost use Rattle.rgw_script.specs.declared.fault.ScriptFault.TheVariants.{OutOfMemory};
 ghost use Rattle.rgw_script.specs.Plays.{Plays, Misses, Begins};
-ghost use Rattle.rgw_script.specs.Stages.{scene_of, Holds, IsOpen, IsPlayable, IsSound, StopsAt};
+ghost use Rattle.rgw_script.specs.Stages.{scene_of, Holds, IsOpen, IsPlayable, IsSound, StopsAt, ComesTo};
 
 use crate::active::Active;
 use crate::cast::Cast;
@@ -73,7 +73,7 @@ impl Script {
         ensures played { result ≡ Ok true → Plays settings.now (scene_of self.old realm.old.history) (lines.Step name events)
             (scene_of self.new realm.new.history) out.new.items }
         ensures missed { result ≡ Ok false → Misses (scene_of self.old realm.old.history) (lines.Step name events) × (realm.new ≡ realm.old) }
-        ensures next { OnOk result (self.new.next ≡ self.old.next) }
+        ensures next { OnOk result (self.new.next ≤ self.old.next + 1) }
         ensures begun { OnErr result (Begins (scene_of self.old realm.old.history) (lines.Step name events) realm.new.history) }
         ensures cause { IfErr result (StopsAt realm.new.history) }
         ensures open { IsOpen settings.now realm.new }
@@ -106,7 +106,7 @@ impl Script {
         ensures played { result ≡ Ok true → Plays settings.now (scene_of self.old realm.old.history) (lines.Run name)
             (scene_of self.new realm.new.history) out.new.items }
         ensures missed { result ≡ Ok false → Misses (scene_of self.old realm.old.history) (lines.Run name) × (realm.new ≡ realm.old) }
-        ensures next { OnOk result (self.new.next ≡ self.old.next) }
+        ensures next { OnOk result (self.new.next ≤ self.old.next + 1) }
         ensures begun { OnErr result (Begins (scene_of self.old realm.old.history) (lines.Run name) realm.new.history) }
         ensures cause { IfErr result (StopsAt realm.new.history) }
         ensures open { IsOpen settings.now realm.new }
@@ -127,7 +127,13 @@ impl Script {
         ensures missed { result ≡ false → (history : List EventOf) → Misses (scene_of self.old history) (lines.Stop name.now) }
         ensures next { self.new.next ≡ self.old.next }
     {
-        self.cast.take(name).is_some()
+        match self.cast.take(name) {
+            Some(active) => {
+                drop(active);
+                true
+            }
+            None => false,
+        }
     }
 
     /// Starts an actor without a name, takes it to its outcome, and says it.
@@ -172,14 +178,7 @@ impl Script {
         requires sound { IsSound settings.now line }
         requires holds { Holds settings.now self.old realm.old }
         requires empty { out.old.items ≡ [] }
-        ensures holds { OnOk result (Holds settings.now self.new realm.new) }
-        ensures played { result ≡ Ok true → Plays settings.now (scene_of self.old realm.old.history) line
-            (scene_of self.new realm.new.history) out.new.items }
-        ensures missed { result ≡ Ok false → Misses (scene_of self.old realm.old.history) line × (realm.new ≡ realm.old) }
-        ensures next { OnOk result (self.new.next ≤ self.old.next + 1) }
-        ensures begun { OnErr result (Begins (scene_of self.old realm.old.history) line realm.new.history) }
-        ensures cause { IfErr result (StopsAt realm.new.history) }
-        ensures open { IsOpen settings.now realm.new }
+        ensures { ComesTo settings.now line self.old self.new realm.old realm.new out.new.items result }
     {
         match line {
             Line::Clock(moment) => {
