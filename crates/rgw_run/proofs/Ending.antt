@@ -1,13 +1,24 @@
 -- Runs that come to nothing, and runs at one moment.
-use Rattle.std.proofs.Common.{◌≡◌, inl, ℕ, List, [], All, Option, None, Some, IsSome, IfSome, refl, sym, subst, arith}
+use Rattle.std.proofs.Common.{◌≡◌, inl, inr, ◌∙◌, ℕ, List, [], Option, None, Some, IsSome, IfSome, unwrap_or, Result, Ok, Err, refl, sym, ap, subst, arith}
 use Rattle.gw_io.specs.Ends.{EndsState}
-use Rattle.gw_io.specs.Memory.{StepState, TellsOnly, moments_of, plan_of, moment_at}
+use Rattle.gw_io.specs.Memory.{StepState, TellsOnly, moments_of, plan_of}
 use Rattle.realm_core.specs.Realms.{RealmView}
-use Rattle.rgw_run.specs.declared.once_end.OnceEnd.TheVariants.{Unmade}
+use Rattle.rgw_run.specs.declared.once_end.OnceEnd.TheVariants.{Unmade, Unbegun, Ended, Stopped}
 use Rattle.rgw_words.specs.declared.once.Once.{Once}
 use Rattle.rgw_words.specs.declared.script.ScriptWords.{ScriptWords}
-use Rattle.rgw_run.specs.Scripted.{RunsScripted}
-use Rattle.rgw_run.specs.Runs.{HasRunCause, RunsByClock, with_clock, RunsAt, RunsBy, RunsOnce, Runs}
+use Rattle.turn_cell.specs.declared.machine.DoorFault.{DoorFault}
+use Rattle.turn_cell.specs.declared.machine.DoorFault.TheVariants as Door
+use Rattle.realm_model.specs.Histories.{Legal}
+use Rattle.gateway.specs.declared.serve.ConnEnd.{ConnEnd}
+use Rattle.gateway.specs.declared.serve.ConnEnd.TheVariants.{Clean, Closed, Cut, Refused}
+use Rattle.call_service.specs.declared.fault.ServeFault.{ServeFault}
+use Rattle.call_service.specs.declared.fault.ServeFault.TheVariants as Fault
+use Rattle.rgw_script.specs.Runs.{RunsScript, HasScriptCause}
+use Rattle.rgw_script.specs.declared.fault.ScriptFault.{ScriptFault}
+use Rattle.rgw_script.specs.declared.fault.ScriptFault.TheVariants as Script
+use Rattle.rgw_run.specs.declared.once_end.OnceEnd.{OnceEnd}
+use Rattle.rgw_run.specs.Scripted.{RunsScripted, script_status}
+use Rattle.rgw_run.specs.Runs.{RunsByClock, with_clock, RunsAt, RunsBy, RunsOnce, Runs, end_status, fault_status, door_status, status_by}
 
 -- ---- memory was wanting before anything was done
 
@@ -47,13 +58,104 @@ unread None script ends realm none there = absurd (cc)
 
 pub unread_script : (once : Option Once) (script : Option ScriptWords) (ends : EndsState) (realm : Option RealmView) → once ≡ None → realm ≡ None → IsSome script → Runs once script ends ends realm 4
 unread_script None (Some script) ends realm other none there = record {
-  refused = (λ e. absurd (omega (arith, e)), λ e. absurd (cc));
-  nothing = λ e. absurd (cc);
+  refused = (λ e. absurd (omega (arith, e)), λ e. let clash : Some script ≡ None = e.1 in absurd (cc));
+  nothing = λ _ e. let clash : Some script ≡ None = e in absurd (cc);
   once_runs = tt;
   script_runs = inl (record { none = none; same = refl; memory = refl });
 }
 unread_script (Some once) script ends realm other none there = absurd (cc)
 unread_script None None ends realm other none there = absurd (cc)
+
+-- ---- no status of a run is that of refused words
+
+not_of_end : (end : ConnEnd) → end_status end ≡ 1 → ⊥
+not_of_end Clean e = absurd (omega (arith, e))
+not_of_end Closed e = absurd (omega (arith, e))
+not_of_end Cut e = absurd (omega (arith, e))
+not_of_end Refused e = absurd (omega (arith, e))
+
+not_of_fault : (fault : ServeFault) → fault_status fault ≡ 1 → ⊥
+not_of_fault Fault.OutOfMemory e = absurd (omega (arith, e))
+not_of_fault Fault.ReadFault e = absurd (omega (arith, e))
+not_of_fault Fault.WriteFault e = absurd (omega (arith, e))
+not_of_fault Fault.Worn e = absurd (omega (arith, e))
+not_of_fault (Fault.Late read_at clock) e = absurd (omega (arith, e))
+
+not_of_door : (fault : DoorFault) → door_status fault ≡ 1 → ⊥
+not_of_door Door.OutOfMemory e = absurd (omega (arith, e))
+not_of_door Door.Worn e = absurd (omega (arith, e))
+
+not_refused : (end : OnceEnd) → status_by end ≡ 1 → ⊥
+not_refused Unmade e = absurd (omega (arith, e))
+not_refused (Unbegun fault) e = not_of_door fault e
+not_refused (Ended served) e = not_of_end served.end e
+not_refused (Stopped fault) e = not_of_fault fault e
+
+once_not_refused : (now : Option ℕ) (bucket : List ℕ) (old new : EndsState) (realm : Option RealmView) (status : ℕ) → RunsBy now bucket old new realm status → status ≡ 1 → ⊥
+once_not_refused None bucket old new realm status runs e = not_refused runs.end (sym runs.ended ∙ e)
+once_not_refused (Some moment) bucket old new realm status runs e = not_refused runs.runs.end (sym runs.runs.ended ∙ e)
+
+script_not_refused : (result : Result (Unit {0}) ScriptFault) → script_status result ≡ 1 → ⊥
+script_not_refused (Ok done) e = absurd (omega (arith, e))
+script_not_refused (Err Script.ReadFault) e = absurd (omega (arith, e))
+script_not_refused (Err Script.WriteFault) e = absurd (omega (arith, e))
+script_not_refused (Err Script.OutOfMemory) e = absurd (omega (arith, e))
+script_not_refused (Err (Script.BadLine line)) e = absurd (omega (arith, e))
+script_not_refused (Err Script.Worn) e = absurd (omega (arith, e))
+
+scripted_not_refused : (script : ScriptWords) (old new : EndsState) (realm : Option RealmView) (status : ℕ) → RunsScripted script old new realm status → status ≡ 1 → ⊥
+scripted_not_refused script old new realm status (inl unmade) e = let four = unmade.memory in absurd (omega (arith, e, four))
+scripted_not_refused script old new realm status (inr run) e = script_not_refused run.result (sym run.ended ∙ e)
+
+-- ---- by the words
+
+asked_once : (asked : Once) (old new : EndsState) (realm : Option RealmView) (status : ℕ) → RunsOnce asked old new realm status → Runs (Some asked) None old new realm status
+asked_once asked old new realm status runs = record {
+  refused = (λ e. absurd (once_not_refused asked.now asked.bucket old new realm status runs e), λ e. let clash : Some asked ≡ None = e.0 in absurd (cc));
+  nothing = λ e _. let clash : Some asked ≡ None = e in absurd (cc);
+  once_runs = runs;
+  script_runs = tt;
+}
+
+-- the words ask to serve a connection
+pub runs_once : (once : Option Once) (script : Option ScriptWords) (asked : Once) (old new : EndsState) (realm : Option RealmView) (status : ℕ)
+    → once ≡ Some asked → script ≡ None → RunsOnce asked old new realm status → Runs once script old new realm status
+runs_once once script asked old new realm status is none runs =
+    subst (λ o. Runs o script old new realm status) (sym is)
+    (subst (λ s. Runs (Some asked) s old new realm status) (sym none) (asked_once asked old new realm status runs))
+
+asked_script : (asked : ScriptWords) (old new : EndsState) (realm : Option RealmView) (status : ℕ) → RunsScripted asked old new realm status → Runs None (Some asked) old new realm status
+asked_script asked old new realm status runs = record {
+  refused = (λ e. absurd (scripted_not_refused asked old new realm status runs e), λ e. let clash : Some asked ≡ None = e.1 in absurd (cc));
+  nothing = λ _ e. let clash : Some asked ≡ None = e in absurd (cc);
+  once_runs = tt;
+  script_runs = runs;
+}
+
+-- the words ask to run a script
+pub runs_script : (once : Option Once) (script : Option ScriptWords) (asked : ScriptWords) (old new : EndsState) (realm : Option RealmView) (status : ℕ)
+    → once ≡ None → script ≡ Some asked → RunsScripted asked old new realm status → Runs once script old new realm status
+runs_script once script asked old new realm status none is runs =
+    subst (λ o. Runs o script old new realm status) (sym none)
+    (subst (λ s. Runs None s old new realm status) (sym is) (asked_script asked old new realm status runs))
+
+-- a script over the realm that is left
+pub has_run : (script : ScriptWords) (old new : EndsState) (made : RealmView) (realm : Option RealmView) (moment : ℕ) (result : Result (Unit {0}) ScriptFault) (status : ℕ)
+    → moment ≡ unwrap_or script.now 0 → realm ≡ Some made → made.settings ≡ script.settings → Legal script.settings made.history
+    → RunsScript script.settings (record { bucket = script.bucket; moment = moment }) old.left new.left old.taken new.taken made.history result
+    → HasScriptCause old.read_faults new.read_faults old.write_faults new.write_faults result
+    → status ≡ script_status result → new.told ≡ old.told → new.plan ≡ old.plan → RunsScripted script old new realm status
+has_run script old new made realm moment result status begins left settings legal runs cause ended told plan = inr (record {
+  history = made.history;
+  left = left ∙ ap (λ s. Some (record { settings = s; history = made.history })) settings;
+  legal = legal;
+  result = result;
+  runs = subst (λ m. RunsScript script.settings (record { bucket = script.bucket; moment = m }) old.left new.left old.taken new.taken made.history result) begins runs;
+  cause = cause;
+  ended = ended;
+  told = told;
+  plan = plan;
+})
 
 -- ---- at one moment
 

@@ -1,7 +1,6 @@
 -- In a run that nobody else's events come into no reply breaks off: no stripe is gone.
-use Rattle.std.proofs.Common.{◌≡◌, inl, inr, ◌⊎◌, ℕ, List, [], Result, Ok, Err, refl, sym, subst}
+use Rattle.std.proofs.Common.{◌≡◌, inl, inr, ℕ, List, [], Result, Ok, Err, refl, sym, subst}
 use Rattle.gw_io.specs.Ends.{EndsState}
-use Rattle.http_model.specs.declared.head.Head.{Head}
 use Rattle.http_model.specs.declared.reply.ReplyForm.{ReplyForm}
 use Rattle.realm_model.specs.Doors.{DoorView, actor_at}
 use Rattle.realm_model.specs.Histories.{Legal}

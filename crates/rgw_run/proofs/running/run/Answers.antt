@@ -1,6 +1,6 @@
-use Rattle.std.proofs.Common.{Err, ap}
+use Rattle.std.proofs.Common.{Err, ap, map, string_bytes}
 use Rattle.rgw_words.proofs.Apart.{no_script}
-use Rattle.rgw_run.proofs.Ending.{unread}
+use Rattle.rgw_run.proofs.Ending.{unread, runs_once}
 use Rattle.rgw_run.proofs.Exactly.{exactly_of, exactly_said}
 use Rattle.rgw_run.proofs.running.run.Goals as goal
 
@@ -13,3 +13,7 @@ returns-in-Err-OutOfMemory-clause-exact g c = exactly_of _ _ _ _ _ _ (returns-in
 
 pub returns-in-Ok-clause-exact : goal.returns-in-Ok-clause-exact
 returns-in-Ok-clause-exact g c = exactly_said _ _ _ _ _ _ c.in-Ok.ensures.ok c.serve_once.ensures.runs
+
+pub returns-in-Ok-clause-runs : goal.returns-in-Ok-clause-runs
+returns-in-Ok-clause-runs g c =
+    runs_once _ _ _ _ _ _ _ c.in-Ok.ensures.ok (no_script (map string_bytes c.args.words.now) c.in-Ok.once c.in-Ok.ensures.ok) c.serve_once.ensures.runs
