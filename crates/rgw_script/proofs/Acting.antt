@@ -69,9 +69,9 @@ pub acted_later : (pass : ℕ) (history more : List Event) → NoneByPass pass m
 acted_later pass history more none =
     list_any-append (λ e. same_actor (actor_in pass) (actor_of e)) history more
     ∙ ap (λ b. has_acted pass history || b) (not_acted pass more (none_by pass 0 more none)) ∙ or_false (has_acted pass history) where
-  or_false : (b : Bool) → (b || false) ≡ b
-  or_false true = refl
-  or_false false = refl
+      or_false : (b : Bool) → (b || false) ≡ b
+      or_false true = refl
+      or_false false = refl
 
 or_true : (b : Bool) → (b || true) ≡ true
 or_true true = refl
@@ -197,8 +197,8 @@ module _ (self : Active) (r0 r1 r2 : RealmView) (a1 a2 : Actor) (moment most : �
       let there : fits player r0.settings (door_to (record { pass = self.pass; used = a2.used; player = player }) r2.history) =
       subst (fits player r0.settings) told_as (subst (λ (r : RealmView). fits player r.settings (door_of r2 a2)) from stands) in
       subst (λ (l : List Event). StandsAfter gone r0.settings l (record { pass = self.pass; used = a2.used; player = player })) left (of gone there its used) where
-    of : (gone : Gone) → fits player r0.settings (door_to (record { pass = self.pass; used = a2.used; player = player }) r2.history) → StandsAs gone player
-        → self.used ≡ has_acted self.pass r0.history
-        → StandsAfter gone r0.settings r2.history (record { pass = self.pass; used = a2.used; player = player })
-    of Short there its used = record { used = used_now used; stands = there; playing = its }
-    of Ended there its used = record { used = used_now used; stands = there; ended = its }
+        of : (gone : Gone) → fits player r0.settings (door_to (record { pass = self.pass; used = a2.used; player = player }) r2.history) → StandsAs gone player
+            → self.used ≡ has_acted self.pass r0.history
+            → StandsAfter gone r0.settings r2.history (record { pass = self.pass; used = a2.used; player = player })
+        of Short there its used = record { used = used_now used; stands = there; playing = its }
+        of Ended there its used = record { used = used_now used; stands = there; ended = its }

@@ -42,7 +42,7 @@ by_stopped : (P : Event → Type 0) (settings : SettingsView) (name : List ℕ) 
 by_stopped P settings name moment e each stops = ⊎_elim
     (λ (same : e ≡ first_door). subst (AllByRecursion P) (sym (ap (λ (d : DoorView). d.seen) same)) tt)
     (λ (after : StopsAfter settings (Unit {0}) first_door e name moment).
-        subst (AllByRecursion P) (sym (after.only tt)) (each _ _, by_makes P (actor_at first_door) moment each 1 after.made))
+    subst (AllByRecursion P) (sym (after.only tt)) (each _ _, by_makes P (actor_at first_door) moment each 1 after.made))
     stops
 
 -- ---- through a door
@@ -125,11 +125,12 @@ unmade_counts settings plan history read write fault unmade = record {
 } where
   err_is : (a b : ScriptFault) → ◌≡◌ {A = Result (Unit {0}) ScriptFault} (Err a) (Err b) → a ≡ b
   err_is a b e = cc
+
   neither : (f : ScriptFault) → ((f ≡ OutOfMemory) ⊎ ((f ≡ Worn) × (length history ≡ 2 ^ 62))) → (f ≡ ReadFault → ⊥) × (f ≡ WriteFault → ⊥)
   neither f cause = elim cause [
-      | inl memory ↦ (λ e. let x = sym memory ∙ e in absurd (cc), λ e. let x = sym memory ∙ e in absurd (cc))
-      | inr worn ↦ (λ e. let x = sym worn.0 ∙ e in absurd (cc), λ e. let x = sym worn.0 ∙ e in absurd (cc))
-    ]
+    | inl memory ↦ (λ e. let x = sym memory ∙ e in absurd (cc), λ e. let x = sym memory ∙ e in absurd (cc))
+    | inr worn ↦ (λ e. let x = sym worn.0 ∙ e in absurd (cc), λ e. let x = sym worn.0 ∙ e in absurd (cc))
+  ]
 
 -- ---- the scene before the first line
 

@@ -70,15 +70,15 @@ module _ (settings : SettingsView) (s t : Scene) (start left left' begun taken :
     printed = so.printed ++ printed;
     played = plays_more settings s t u so.texts new.line so.printed printed so.played one;
     reads = elim takes [
-        | inl line ↦ line_read start left' so.texts (old.waits ++ more) reads_on old new line
-        | inr last ↦ last_read start left' so.texts (old.waits ++ more) reads_on old new last.0 last.1
-      ];
+      | inl line ↦ line_read start left' so.texts (old.waits ++ more) reads_on old new line
+      | inr last ↦ last_read start left' so.texts (old.waits ++ more) reads_on old new last.0 last.1
+    ];
     written = Appends-trans begun taken taken' so.printed printed so.written written;
     count = ap (λ n. n + 1) so.count ∙ sym (length-append so.texts (new.line ∷ []));
     counts = elim takes [
-        | inl line ↦ counts_line so.texts (old.waits ++ more) old new so.counts line
-        | inr last ↦ counts_last so.texts (old.waits ++ more) old new so.counts last.0
-      ];
+      | inl line ↦ counts_line so.texts (old.waits ++ more) old new so.counts line
+      | inr last ↦ counts_last so.texts (old.waits ++ more) old new so.counts last.0
+    ];
   }
 
   -- it was the end
@@ -108,10 +108,14 @@ module _ (settings : SettingsView) (s t : Scene) (start left left' begun taken :
     reads = reads_on;
     between = taken;
     written = so.written;
-    leaves = inl (new.line, elim takes [
+    leaves = inl (
+      new.line,
+      elim takes [
         | inl line ↦ line_next start left' so.texts (old.waits ++ more) reads_on old new line
         | inr last ↦ last_next start left' so.texts (old.waits ++ more) reads_on old new last.0 last.1
-      ], subst (λ n. LeavesText settings t n new.line taken taken' history fault) next_number leaves);
+      ],
+      subst (λ n. LeavesText settings t n new.line taken taken' history fault) next_number leaves,
+    );
   }
 
   -- it was too long
@@ -126,8 +130,10 @@ module _ (settings : SettingsView) (s t : Scene) (start left left' begun taken :
     reads = reads_on;
     between = taken;
     written = so.written;
-    leaves = inr (inl (longer_too old.given (length (with_breaks so.texts)) (old.waits ++ more) so.counts.few long,
-        subst (λ n. LeavesTooLong t n taken taken' history fault) next_number leaves));
+    leaves = inr (inl (
+      longer_too old.given (length (with_breaks so.texts)) (old.waits ++ more) so.counts.few long,
+      subst (λ n. LeavesTooLong t n taken taken' history fault) next_number leaves,
+    ));
   }
 
   -- it was not read
@@ -185,6 +191,7 @@ counts_write read read' write write' fault other kept counts = record {
 } where
   err_is : (a b : ScriptFault) → ◌≡◌ {A = Result (Unit {0}) ScriptFault} (Err a) (Err b) → a ≡ b
   err_is a b e = cc
+
   of : (fault : ScriptFault) → fault ≢ WriteFault → CountsWrite write write' fault → write' ≡ write
   of OutOfMemory differs counts = counts
   of ReadFault differs counts = counts

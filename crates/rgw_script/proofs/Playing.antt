@@ -69,9 +69,12 @@ taken_holds settings script cast name (Some a) realm takes holds = record {
 pub stopped : (settings : SettingsView) (script : Script) (cast : Cast) (name : List ℕ) (r : Option Active) (history : List Event) → Takes script cast name r → is_some r ≡ true
     → Plays settings (scene_of script history) (lines.Stop name) (scene_of (recasted script cast) history) []
 stopped settings script cast name None history takes some = absurd (cc)
-stopped settings script cast name (Some a) history takes some =
-    (role_of a, ap part_of (at_playing (under script.cast name) a (sym takes.who)),
-    (λ i. record { moment = script.moment; parts = parts_put name (Some None) (under script.cast) (under cast) takes.gone i; next = script.next; history = history }), refl)
+stopped settings script cast name (Some a) history takes some = (
+  role_of a,
+  ap part_of (at_playing (under script.cast name) a (sym takes.who)),
+  (λ i. record { moment = script.moment; parts = parts_put name (Some None) (under script.cast) (under cast) takes.gone i; next = script.next; history = history }),
+  refl,
+)
 
 -- ---- an actor that begins
 
@@ -97,15 +100,17 @@ module _ (settings : SettingsView) (script : Script) (cast : Cast) (name : List 
 
   pub started : under script.cast name ≡ None → (history : List Event)
       → Plays settings (scene_of script history) (lines.Start name zone verb) (scene_of (raised script cast) history) []
-  started none history =
-      (ap part_of none,
-      (λ i. record {
-        moment = script.moment;
-        parts = (parts_put name (Some (Some a)) (under script.cast) (under cast) by
-            ∙ (λ j. recast (λ q. part_of (under script.cast q)) name (plays (role j)))) i;
-        next = script.next + 1;
-        history = history;
-      }), refl)
+  started none history = (
+    ap part_of none,
+    (λ i. record {
+      moment = script.moment;
+      parts = (parts_put name (Some (Some a)) (under script.cast) (under cast) by
+          ∙ (λ j. recast (λ q. part_of (under script.cast q)) name (plays (role j)))) i;
+      next = script.next + 1;
+      history = history;
+    }),
+    refl,
+  )
 
 -- ---- an actor that went on
 

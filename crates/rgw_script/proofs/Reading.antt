@@ -51,26 +51,27 @@ read_on None left left' texts waits more reads consumed = record {
 read_on (Some xs) left left' texts waits more reads consumed =
     elim reads.fronts [
       | inl front ↦ record {
-          read = reads.read ++ more;
-          consumed = Consumes-trans (Some xs) left left' reads.read more reads.consumed consumed;
-          unbroken = reads.unbroken;
-          fronts = inl (ap (λ l. l ++ more) front ∙ append_assoc (with_breaks texts) waits more);
-        }
+        read = reads.read ++ more;
+        consumed = Consumes-trans (Some xs) left left' reads.read more reads.consumed consumed;
+        unbroken = reads.unbroken;
+        fronts = inl (ap (λ l. l ++ more) front ∙ append_assoc (with_breaks texts) waits more);
+      }
       | inr last ↦ record {
-          read = reads.read;
-          consumed = subst (Consumes (Some xs) left') (append-nil reads.read) (subst (λ m. Consumes (Some xs) left' (reads.read ++ m)) (ends left left' reads.consumed last.2 consumed).0
-              (Consumes-trans (Some xs) left left' reads.read more reads.consumed consumed));
-          unbroken = reads.unbroken;
-          fronts = inr (last.0, ap (λ l. l ++ more) last.1 ∙ (ends left left' reads.consumed last.2 consumed).0, (ends left left' reads.consumed last.2 consumed).1);
-        }
+        read = reads.read;
+        consumed = subst (Consumes (Some xs) left') (append-nil reads.read) (subst (λ m. Consumes (Some xs) left' (reads.read ++ m)) (ends left left' reads.consumed last.2 consumed).0
+            (Consumes-trans (Some xs) left left' reads.read more reads.consumed consumed));
+        unbroken = reads.unbroken;
+        fronts = inr (last.0, ap (λ l. l ++ more) last.1 ∙ (ends left left' reads.consumed last.2 consumed).0, (ends left left' reads.consumed last.2 consumed).1);
+      }
     ] where
-  none_more : (ys zs : List ℕ) → [] ≡ ys ++ zs → (ys ≡ []) × (zs ≡ [])
-  none_more [] zs is = (refl, sym is)
-  none_more (y ∷ ys) zs is = absurd (cc)
-  ends : (a b : Option (List ℕ)) → Consumes (Some xs) a reads.read → IsAtEnd a → Consumes a b more → (more ≡ []) × IsAtEnd b
-  ends None b all at_end consumed = absurd all
-  ends (Some ys) None all at_end consumed = absurd consumed
-  ends (Some ys) (Some zs) all at_end consumed = none_more more zs (sym at_end ∙ consumed)
+      none_more : (ys zs : List ℕ) → [] ≡ ys ++ zs → (ys ≡ []) × (zs ≡ [])
+      none_more [] zs is = (refl, sym is)
+      none_more (y ∷ ys) zs is = absurd (cc)
+
+      ends : (a b : Option (List ℕ)) → Consumes (Some xs) a reads.read → IsAtEnd a → Consumes a b more → (more ≡ []) × IsAtEnd b
+      ends None b all at_end consumed = absurd all
+      ends (Some ys) None all at_end consumed = absurd consumed
+      ends (Some ys) (Some zs) all at_end consumed = none_more more zs (sym at_end ∙ consumed)
 
 -- ---- what is found
 
@@ -84,9 +85,9 @@ all_read first left texts rest reads none ended = record {
   consumed = reads.consumed;
   ended = ended;
   lines = elim reads.fronts [
-      | inl front ↦ sym (ap lines_of (front ∙ ap (λ l. with_breaks texts ++ l) none) ∙ lines_front texts [] reads.unbroken ∙ append-nil texts)
-      | inr last ↦ last.0
-    ];
+    | inl front ↦ sym (ap lines_of (front ∙ ap (λ l. with_breaks texts ++ l) none) ∙ lines_front texts [] reads.unbroken ∙ append-nil texts)
+    | inr last ↦ last.0
+  ];
 }
 
 module _ (first left : Option (List ℕ)) (texts : List (List ℕ)) (rest : List ℕ) (reads : ReadsSome first left texts rest) (old new : ReaderState) where
@@ -97,9 +98,9 @@ module _ (first left : Option (List ℕ)) (texts : List (List ℕ)) (rest : List
     consumed = reads.consumed;
     unbroken = texts_both texts (new.line ∷ []) reads.unbroken (takes.one, tt);
     fronts = elim reads.fronts [
-        | inl front ↦ inl (front ∙ ap (λ l. with_breaks texts ++ l) takes.bytes ∙ breaks_more texts new.line new.waits)
-        | inr last ↦ absurd (not_empty new.line (sym last.1 ∙ takes.bytes))
-      ];
+      | inl front ↦ inl (front ∙ ap (λ l. with_breaks texts ++ l) takes.bytes ∙ breaks_more texts new.line new.waits)
+      | inr last ↦ absurd (not_empty new.line (sym last.1 ∙ takes.bytes))
+    ];
   } where
     not_empty : (line : List ℕ) → [] ≡ line ++ 10 ∷ new.waits → ⊥
     not_empty [] is = cc
@@ -115,10 +116,14 @@ module _ (first left : Option (List ℕ)) (texts : List (List ℕ)) (rest : List
     consumed = reads.consumed;
     unbroken = texts_both texts (new.line ∷ []) reads.unbroken (takes.one, tt);
     fronts = elim reads.fronts [
-        | inl front ↦ inr (sym (ap lines_of (front ∙ ap (λ l. with_breaks texts ++ l) takes.bytes) ∙ lines_front texts new.line reads.unbroken
-            ∙ ap (λ l. texts ++ l) (is_last new.line takes.one takes.some)), takes.none_waits, ended)
-        | inr last ↦ absurd (takes.some (sym takes.bytes ∙ last.1))
-      ];
+      | inl front ↦ inr (
+        sym (ap lines_of (front ∙ ap (λ l. with_breaks texts ++ l) takes.bytes) ∙ lines_front texts new.line reads.unbroken
+            ∙ ap (λ l. texts ++ l) (is_last new.line takes.one takes.some)),
+        takes.none_waits,
+        ended,
+      )
+      | inr last ↦ absurd (takes.some (sym takes.bytes ∙ last.1))
+    ];
   }
 
   pub last_next : TakesLast rest old new → IsAtEnd left → IsNext left rest new.line
@@ -132,12 +137,12 @@ longer_too given other rest few long = record {
   bytes = long.bytes;
   one = long.one;
   long = elim long.long [
-      | inl line ↦ inl line
-      | inr input ↦ inr (elim input [
-          | inl most ↦ inl (omega (arith, most, few))
-          | inr last ↦ inr (omega (arith, last.0, few), last.1)
-        ])
-    ];
+    | inl line ↦ inl line
+    | inr input ↦ inr (elim input [
+      | inl most ↦ inl (omega (arith, most, few))
+      | inr last ↦ inr (omega (arith, last.0, few), last.1)
+    ])
+  ];
 }
 
 -- ---- counts

@@ -1,4 +1,3 @@
-
 use script_lines::LineFault;
 use std::alloc::AllocError;
 use std::error::Error;

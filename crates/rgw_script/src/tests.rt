@@ -9,21 +9,20 @@ use std::alloc::Global;
 use std::test::Fail;
 
 /// A race for one name that `a` loses, and a line that is none.
-const LOST_RACE: &[u8] = b"start a 1 put box/k hello\nstart b 1 put box/k -\nstep a 4\nstep b 4\nrun b\nrun a\ndo 1 stat box\njump\ndo 1 stat box\n";
+const LOST_RACE: &[u8] =
+    b"start a 1 put box/k hello\nstart b 1 put box/k -\nstep a 4\nstep b 4\nrun b\nrun a\ndo 1 stat box\njump\ndo 1 stat box\n";
 
-const LOST_RACE_PRINTS: &[u8] = b"a 4\nb 4\nb 201 d41d8cd98f00b204e9800998ecf8427e\na 201 5d41402abc4b2a76b9719d911017c592\n200 objects=1 bytes=0\nbad line 8\n";
+const LOST_RACE_PRINTS: &[u8] =
+    b"a 4\nb 4\nb 201 d41d8cd98f00b204e9800998ecf8427e\na 201 5d41402abc4b2a76b9719d911017c592\n200 objects=1 bytes=0\nbad line 8\n";
 
 /// A tag that expires before the head is written.
-const EXPIRED_TAG: &[u8] = b"start w 1 put box/k hello\nstep w 3\nclock 120000000\nrun w\ndo 1 get box/k";
+const EXPIRED_TAG: &[u8] =
+    b"start w 1 put box/k hello\nstep w 3\nclock 120000000\nrun w\ndo 1 get box/k";
 
-const EXPIRED_TAG_PRINTS: &[u8] =
-    b"w 3\nw 201 5d41402abc4b2a76b9719d911017c592\n200 5 hello\n";
+const EXPIRED_TAG_PRINTS: &[u8] = b"w 3\nw 201 5d41402abc4b2a76b9719d911017c592\n200 5 hello\n";
 
 /// What a script prints that is read and written in pieces, and how it ends.
-fn printed_by(
-    alloc: Global,
-    script: &[u8],
-) -> Result<(Vec<u8>, Result<(), ScriptFault>), Fail> {
+fn printed_by(alloc: Global, script: &[u8]) -> Result<(Vec<u8>, Result<(), ScriptFault>), Fail> {
     let settings = Settings::new(
         1,
         4_194_304,
@@ -44,14 +43,7 @@ fn printed_by(
     };
     let mut input = SliceSource::new(script, 7, &[]);
     let mut output = VecSink::new(alloc, 5, &[]);
-    let end = run_script(
-        alloc,
-        &settings,
-        &plan,
-        &mut realm,
-        &mut input,
-        &mut output,
-    );
+    let end = run_script(alloc, &settings, &plan, &mut realm, &mut input, &mut output);
     Ok((output.into_bytes(), end))
 }
 

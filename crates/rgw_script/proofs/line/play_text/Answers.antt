@@ -41,18 +41,22 @@ returns-then-not-branch-clause-left g c =
     c.refuse-then-not-branch.ensures.refused
 
 pub returns-in-Ok-clause-played : goal.returns-in-Ok-clause-played
-returns-in-Ok-clause-played g c =
-    (c.play.new.out.items,
-    played_so c.args.settings.now c.in-Some.line c.args.script.now c.play.new.self c.args.realm.now c.play.new.realm c.play.new.out.items c.args.text.now c.in_ok-play.field-0
-    c.in_ok-play.ensures c.if-not-branch.false
-    (meant_by (settings_view c.settings.inside) c.args.settings.now c.args.text.now c.in_ok-line.field-0 c.in-Some.line c.settings.view_is c.in-Some.is c.in_ok-line.ensures.some),
-    subst (Appends (g.K.Sink.taken c.args.output.now) (g.K.Sink.taken c.write_all.new.sink)) c.as_slice.ensures.value c.in-Ok.ensures.ok)
+returns-in-Ok-clause-played g c = (
+  c.play.new.out.items,
+  played_so c.args.settings.now c.in-Some.line c.args.script.now c.play.new.self c.args.realm.now c.play.new.realm c.play.new.out.items c.args.text.now c.in_ok-play.field-0
+      c.in_ok-play.ensures c.if-not-branch.false
+      (meant_by (settings_view c.settings.inside) c.args.settings.now c.args.text.now c.in_ok-line.field-0 c.in-Some.line c.settings.view_is c.in-Some.is c.in_ok-line.ensures.some),
+  subst (Appends (g.K.Sink.taken c.args.output.now) (g.K.Sink.taken c.write_all.new.sink)) c.as_slice.ensures.value c.in-Ok.ensures.ok,
+)
 
 pub returns-in-Err-clause-left : goal.returns-in-Err-clause-left
 returns-in-Err-clause-left g c =
-    inl (scene_of c.play.new.self c.play.new.realm.history, c.play.new.out.items,
-    played_so c.args.settings.now c.in-Some.line c.args.script.now c.play.new.self c.args.realm.now c.play.new.realm c.play.new.out.items c.args.text.now c.in_ok-play.field-0
-    c.in_ok-play.ensures c.if-not-branch.false
-    (meant_by (settings_view c.settings.inside) c.args.settings.now c.args.text.now c.in_ok-line.field-0 c.in-Some.line c.settings.view_is c.in-Some.is c.in_ok-line.ensures.some),
-    refl,
-    subst (AppendsProperPrefix (g.K.Sink.taken c.args.output.now) (g.K.Sink.taken c.write_all.new.sink)) c.as_slice.ensures.value c.in-Err.ensures.err)
+    inl (
+      scene_of c.play.new.self c.play.new.realm.history,
+      c.play.new.out.items,
+      played_so c.args.settings.now c.in-Some.line c.args.script.now c.play.new.self c.args.realm.now c.play.new.realm c.play.new.out.items c.args.text.now c.in_ok-play.field-0
+          c.in_ok-play.ensures c.if-not-branch.false
+          (meant_by (settings_view c.settings.inside) c.args.settings.now c.args.text.now c.in_ok-line.field-0 c.in-Some.line c.settings.view_is c.in-Some.is c.in_ok-line.ensures.some),
+      refl,
+      subst (AppendsProperPrefix (g.K.Sink.taken c.args.output.now) (g.K.Sink.taken c.write_all.new.sink)) c.as_slice.ensures.value c.in-Err.ensures.err,
+    )

@@ -22,10 +22,13 @@ returns-in_err-reader-clause-cause g c =
     rw (p.1, p.2) (counts_write (g.S.Source.faults c.args.input.now) (g.S.Source.faults c.args.input.now) (g.K.Sink.faults c.args.output.now) (g.K.Sink.faults c.args.output.now) OutOfMemory (λ e. absurd (cc)) refl refl)
 
 pub lines-init : goal.lines-init
-lines-init g c =
-    (c.requires.holds,
-    so_far_none c.args.settings.now (scene_of c.args.script.now c.args.realm.now.history) (g.S.Source.left c.args.input.now) (g.K.Sink.taken c.args.output.now) c.in_ok-reader.reader c.in_ok-reader.ensures,
-    omega (arith, c.requires.next), refl, refl)
+lines-init g c = (
+  c.requires.holds,
+  so_far_none c.args.settings.now (scene_of c.args.script.now c.args.realm.now.history) (g.S.Source.left c.args.input.now) (g.K.Sink.taken c.args.output.now) c.in_ok-reader.reader c.in_ok-reader.ensures,
+  omega (arith, c.requires.next),
+  refl,
+  refl,
+)
 
 pub overflow_add-number : goal.overflow_add-number
 overflow_add-number g c =
@@ -100,15 +103,16 @@ lines-preserved g c =
     let so = c.lines.invariant.1 in
     let found = c.in_ok-next.ensures.found in
     let finds = finds_as _ _ _ _ _ Line c.in-Line.is found.2 in
-    let played = c.in_ok-play_text-in-Line.ensures.played in
-    (c.in_ok-play_text-in-Line.ensures.holds,
-    played_on c.args.settings.now (scene_of c.args.script.now c.args.realm.now.history) (scene_of c.lines.script c.lines.realm.history)
-    (g.S.Source.left c.args.input.now) (g.S.Source.left c.lines.input) (g.S.Source.left c.next.new.source) (g.K.Sink.taken c.args.output.now) (g.K.Sink.taken c.lines.output)
-    c.lines.reader c.next.new.self c.lines.number so found.0 found.1 (g.K.Sink.taken c.play_text.new.output) (scene_of c.play_text.new.script c.play_text.new.realm.history) played.0 finds
-    (subst (λ t. PlaysOne c.args.settings.now (scene_of c.lines.script c.lines.realm.history) t (scene_of c.play_text.new.script c.play_text.new.realm.history) played.0) c.line.ensures played.1) played.2,
-    (let up = c.in_ok-play_text-in-Line.ensures.next in let low = c.lines.invariant.2 in omega (arith, up, low)),
-    read_well _ _ _ _ c.in_ok-next.ensures.cause c.lines.invariant.3,
-    c.in_ok-play_text-in-Line.ensures.kept ∙ c.lines.invariant.4)
+    let played = c.in_ok-play_text-in-Line.ensures.played in (
+      c.in_ok-play_text-in-Line.ensures.holds,
+      played_on c.args.settings.now (scene_of c.args.script.now c.args.realm.now.history) (scene_of c.lines.script c.lines.realm.history)
+          (g.S.Source.left c.args.input.now) (g.S.Source.left c.lines.input) (g.S.Source.left c.next.new.source) (g.K.Sink.taken c.args.output.now) (g.K.Sink.taken c.lines.output)
+          c.lines.reader c.next.new.self c.lines.number so found.0 found.1 (g.K.Sink.taken c.play_text.new.output) (scene_of c.play_text.new.script c.play_text.new.realm.history) played.0 finds
+          (subst (λ t. PlaysOne c.args.settings.now (scene_of c.lines.script c.lines.realm.history) t (scene_of c.play_text.new.script c.play_text.new.realm.history) played.0) c.line.ensures played.1) played.2,
+      (let up = c.in_ok-play_text-in-Line.ensures.next in let low = c.lines.invariant.2 in omega (arith, up, low)),
+      read_well _ _ _ _ c.in_ok-next.ensures.cause c.lines.invariant.3,
+      c.in_ok-play_text-in-Line.ensures.kept ∙ c.lines.invariant.4,
+    )
 
 pub returns-in_err-play_text-in-Line-clause-runs : goal.returns-in_err-play_text-in-Line-clause-runs
 returns-in_err-play_text-in-Line-clause-runs g c =

@@ -8,7 +8,7 @@ abbrev pub invariant-lines : goal.invariant-lines
 invariant-lines g l =
     Holds l.settings l.script l.realm
     × SoFar l.settings (scene_of l.fn.script l.fn.realm.history) (g.S.Source.left l.fn.input) (g.S.Source.left l.input) (g.K.Sink.taken l.fn.output) (g.K.Sink.taken l.output)
-        l.reader l.number (scene_of l.script l.realm.history)
+    l.reader l.number (scene_of l.script l.realm.history)
     × (l.script.next ≤ l.number + 2)
     × (g.S.Source.faults l.input ≡ g.S.Source.faults l.fn.input)
     × (g.K.Sink.faults l.output ≡ g.K.Sink.faults l.fn.output)

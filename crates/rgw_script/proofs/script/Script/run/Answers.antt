@@ -29,9 +29,12 @@ returns-clause-holds c =
 
 pub returns-clause-played : goal.returns-clause-played
 returns-clause-played c = λ is.
-    let takes : Takes c.args.self.now c.take.new.self c.args.name (Some c.in-Some.active) = record { who = c.in-Some.ensures.who; gone = c.in-Some.ensures.gone; kept = c.in-Some.ensures.kept } in
-    (_, part_taken c.args.self.now c.take.new.self c.args.name c.in-Some.active takes, c.in_ok-finish.ensures.acted.0,
-    ran_out c.args.settings.now c.args.self.now c.take.new.self c.args.name c.in-Some.active c.finish.new.self c.args.realm.now c.finish.new.realm takes c.in_ok-finish.ensures.role
-    c.in_ok-finish.ensures.acted.0 c.args.out.now.items c.push_named_ending.new.out.items c.requires.empty c.in_ok-finish.ensures.acted.2
-    (subst (λ s. HasEnded s c.finish.new.realm.history c.finish.new.self) c.requires.holds.is_open.settings_are c.in_ok-finish.ensures.ended)
-    (let told = c.in_ok-push_named_ending.ensures in record { outcome = told.0; shown = told.1; bears = told.2; told = told.3 }))
+    let takes : Takes c.args.self.now c.take.new.self c.args.name (Some c.in-Some.active) = record { who = c.in-Some.ensures.who; gone = c.in-Some.ensures.gone; kept = c.in-Some.ensures.kept } in (
+      _,
+      part_taken c.args.self.now c.take.new.self c.args.name c.in-Some.active takes,
+      c.in_ok-finish.ensures.acted.0,
+      ran_out c.args.settings.now c.args.self.now c.take.new.self c.args.name c.in-Some.active c.finish.new.self c.args.realm.now c.finish.new.realm takes c.in_ok-finish.ensures.role
+          c.in_ok-finish.ensures.acted.0 c.args.out.now.items c.push_named_ending.new.out.items c.requires.empty c.in_ok-finish.ensures.acted.2
+          (subst (λ s. HasEnded s c.finish.new.realm.history c.finish.new.self) c.requires.holds.is_open.settings_are c.in_ok-finish.ensures.ended)
+          (let told = c.in_ok-push_named_ending.ensures in record { outcome = told.0; shown = told.1; bears = told.2; told = told.3 }),
+    )

@@ -50,20 +50,27 @@ returns-in_ok-put-in-Short-clause-holds c =
 pub returns-in_ok-put-in-Short-clause-played : goal.returns-in_ok-put-in-Short-clause-played
 returns-in_ok-put-in-Short-clause-played c = λ is.
     let eq = c.requires.holds.is_open.settings_are in
-    let takes : Takes c.args.self.now c.take.new.self c.args.name (Some c.in-Some.active) = record { who = c.in-Some.ensures.who; gone = c.in-Some.ensures.gone; kept = c.in-Some.ensures.kept } in
-    (_, part_taken c.args.self.now c.take.new.self c.args.name c.in-Some.active takes,
-    inl (stepped c.args.settings.now c.args.self.now c.take.new.self c.args.name c.in-Some.active c.act.new.self c.args.realm.now c.act.new.realm takes c.in_ok-act.ensures.role
-    c.args.events c.put.new.self c.args.out.now.items c.push_count_line.new.out.items c.requires.empty (acted_as _ Short _ _ _ _ _ c.in-Short.is c.in_ok-act.ensures.acted)
-    (stands_as _ Short _ _ _ _ c.in-Short.is eq c.in_ok-act.ensures.stands) c.in_ok-put-in-Short.ensures c.in_ok-push_count_line-in-Short.ensures))
+    let takes : Takes c.args.self.now c.take.new.self c.args.name (Some c.in-Some.active) = record { who = c.in-Some.ensures.who; gone = c.in-Some.ensures.gone; kept = c.in-Some.ensures.kept } in (
+      _,
+      part_taken c.args.self.now c.take.new.self c.args.name c.in-Some.active takes,
+      inl (stepped c.args.settings.now c.args.self.now c.take.new.self c.args.name c.in-Some.active c.act.new.self c.args.realm.now c.act.new.realm takes c.in_ok-act.ensures.role
+          c.args.events c.put.new.self c.args.out.now.items c.push_count_line.new.out.items c.requires.empty (acted_as _ Short _ _ _ _ _ c.in-Short.is c.in_ok-act.ensures.acted)
+          (stands_as _ Short _ _ _ _ c.in-Short.is eq c.in_ok-act.ensures.stands) c.in_ok-put-in-Short.ensures c.in_ok-push_count_line-in-Short.ensures),
+    )
 
 pub returns-in_ok-push_named_ending-in-Ended-clause-played : goal.returns-in_ok-push_named_ending-in-Ended-clause-played
 returns-in_ok-push_named_ending-in-Ended-clause-played c = λ is.
     let eq = c.requires.holds.is_open.settings_are in
     let takes : Takes c.args.self.now c.take.new.self c.args.name (Some c.in-Some.active) = record { who = c.in-Some.ensures.who; gone = c.in-Some.ensures.gone; kept = c.in-Some.ensures.kept } in
-    let acted = acted_as _ Ended _ _ _ _ _ c.in-Ended.is c.in_ok-act.ensures.acted in
-    (_, part_taken c.args.self.now c.take.new.self c.args.name c.in-Some.active takes,
-    inr (acted.0, acted.1,
-    ran_out c.args.settings.now c.args.self.now c.take.new.self c.args.name c.in-Some.active c.act.new.self c.args.realm.now c.act.new.realm takes c.in_ok-act.ensures.role
-    acted.0 c.args.out.now.items c.push_named_ending.new.out.items c.requires.empty acted.2
-    (stands_as _ Ended _ _ _ _ c.in-Ended.is eq c.in_ok-act.ensures.stands)
-    (let told = c.in_ok-push_named_ending-in-Ended.ensures in record { outcome = told.0; shown = told.1; bears = told.2; told = told.3 })))
+    let acted = acted_as _ Ended _ _ _ _ _ c.in-Ended.is c.in_ok-act.ensures.acted in (
+      _,
+      part_taken c.args.self.now c.take.new.self c.args.name c.in-Some.active takes,
+      inr (
+        acted.0,
+        acted.1,
+        ran_out c.args.settings.now c.args.self.now c.take.new.self c.args.name c.in-Some.active c.act.new.self c.args.realm.now c.act.new.realm takes c.in_ok-act.ensures.role
+            acted.0 c.args.out.now.items c.push_named_ending.new.out.items c.requires.empty acted.2
+            (stands_as _ Ended _ _ _ _ c.in-Ended.is eq c.in_ok-act.ensures.stands)
+            (let told = c.in_ok-push_named_ending-in-Ended.ensures in record { outcome = told.0; shown = told.1; bears = told.2; told = told.3 }),
+      ),
+    )
