@@ -1,13 +1,13 @@
 -- Events of one actor, and what they leave of it and of the others.
-use Rattle.std.proofs.Common.{◌≡◌, ◌≢◌, ◌⊎◌, inl, inr, ℕ, ◌+◌, ◌<◌, ◌≤◌, ◌^◌, ◌||◌, Bool, true, false, cond, List, [], ◌∷◌, ◌++◌, length, refl, sym, ap, ◌∙◌, subst, arith, length-append}
-use Rattle.std.specs.List.{AllByRecursion, list_any}
+use Rattle.std.proofs.Common.{◌≡◌, ◌≢◌, inl, inr, ℕ, ◌+◌, ◌<◌, ◌||◌, Bool, true, false, List, [], ◌∷◌, ◌++◌, length, refl, sym, ap, ◌∙◌, subst, arith}
+use Rattle.std.specs.List.{AllByRecursion}
 use Rattle.std.proofs.lemmas.List.{append-nil}
 use Rattle.std.proofs.lemmas.List.Folds.{list_any-append}
 use Rattle.realm_core.specs.Realms.{RealmView}
 use Rattle.realm_core.specs.Solo.{NoneLater, door_of}
 use Rattle.realm_model.specs.Doors.{DoorView, actor_at, IsSeen, NoneByPass}
 use Rattle.realm_model.specs.Histories.{Legal}
-use Rattle.realm_model.specs.Owns.{own_events, NoneBy}
+use Rattle.realm_model.specs.Owns.{NoneBy}
 use Rattle.realm_model.specs.Phases.{ActorId}
 use Rattle.realm_model.specs.Settings.{SettingsView}
 use Rattle.realm_model.specs.Worlds.{actor_of, same_actor}
@@ -15,7 +15,7 @@ use Rattle.realm_model.specs.declared.actor.Actor.{Actor}
 use Rattle.realm_model.specs.declared.event.Event.{Event}
 use Rattle.realm_model.proofs.ObjectLemmas.{actor_itself}
 use Rattle.realm_model.proofs.Others.{phase-others, account-others}
-use Rattle.realm_door.specs.Steps.{Grows, IsLater, IsSame, actor_of_pass}
+use Rattle.realm_door.specs.Steps.{Grows, IsSame, actor_of_pass}
 use Rattle.realm_door.proofs.Others.{none_by, same_other_pass}
 use Rattle.call_service.specs.Serving.{IsNew}
 use Rattle.script_player.specs.Going.{ActsAlone, GoesUpTo, HasGone}

@@ -1,8 +1,8 @@
 -- The container that is made before the lines.
-use Rattle.std.proofs.Common.{◌≡◌, ◌⊎◌, inl, inr, ⊎_elim, ℕ, zero, suc, ◌+◌, ◌<◌, ◌^◌, false, List, [], ◌∷◌, ◌++◌, length, Option, None, Some, Result, Ok, Err, OnOk, IfErr, refl, sym, ap, ◌∙◌, subst, arith}
+use Rattle.std.proofs.Common.{◌≡◌, ◌⊎◌, inl, inr, ⊎_elim, ℕ, zero, suc, ◌+◌, ◌^◌, false, List, ◌++◌, length, Option, None, Some, Result, Ok, Err, OnOk, IfErr, refl, sym, ap, ◌∙◌, subst, arith}
 use Rattle.std.specs.List.{AllByRecursion}
 use Rattle.object_words.proofs.NameLemmas.{at-none}
-use Rattle.container_preset.specs.Presets.{preset, make, makes, look, event_by, row_now, Stops, StopsAfter}
+use Rattle.container_preset.specs.Presets.{preset, makes, event_by, row_now, Stops, StopsAfter}
 use Rattle.realm_core.specs.Realms.{RealmView, new_realm}
 use Rattle.realm_core.specs.Solo.{door_of}
 use Rattle.realm_model.specs.Doors.{DoorView, actor_at}

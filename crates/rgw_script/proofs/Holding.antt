@@ -1,17 +1,14 @@
 -- What holds of all actors that play, where one of them is taken out, goes on, or is put in.
-use Rattle.std.proofs.Common.{◌≡◌, ◌≢◌, ◌⊎◌, inl, inr, ℕ, ◌+◌, ◌<◌, ◌≤◌, Bool, true, false, cond, List, Option, None, Some, refl, sym, ap, ◌∙◌, subst, IfNone, arith}
+use Rattle.std.proofs.Common.{◌≡◌, ◌≢◌, ◌⊎◌, inl, inr, ℕ, ◌+◌, ◌<◌, Bool, true, false, cond, List, Option, None, Some, refl, sym, ap, ◌∙◌, subst, arith}
 use Rattle.std.specs.Prelude.{if◌then◌else◌}
 use Rattle.std.specs.Str.{bytes_eq}
 use Rattle.std.proofs.lemmas.Slice.Eq.{bytes_eq-Decides}
-use Rattle.realm_core.specs.Realms.{RealmView}
 use Rattle.realm_model.specs.Settings.{SettingsView}
 use Rattle.realm_model.specs.declared.event.Event.{Event}
-use Rattle.rgw_script.specs.Casts.{Table, under, playing}
-use Rattle.rgw_script.specs.Scenes.{Role, Part, unused, plays, gone, recast}
-use Rattle.rgw_script.specs.Stages.{role_of, part_of, StandsIn, AreStanding, Holds}
+use Rattle.rgw_script.specs.Casts.{Table, playing}
+use Rattle.rgw_script.specs.Scenes.{Part, plays, gone, recast}
+use Rattle.rgw_script.specs.Stages.{role_of, part_of, StandsIn, AreStanding}
 use Rattle.rgw_script.specs.declared.active.Active.{Active}
-use Rattle.rgw_script.specs.declared.cast.Cast.{Cast}
-use Rattle.rgw_script.specs.declared.script.Script.{Script}
 
 -- ---- tables
 

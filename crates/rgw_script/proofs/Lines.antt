@@ -1,9 +1,8 @@
 -- The lines of a script, one after another, to the end of the input or to where it ends before.
-use Rattle.std.proofs.Common.{◌≡◌, ◌≢◌, ◌⊎◌, inl, inr, ℕ, ◌+◌, ◌^◌, ◌<◌, ◌≤◌, List, [], ◌∷◌, ◌++◌, length, Option, None, Some, Result, Ok, Err, refl, sym, ap, ◌∙◌, subst, arith, append_assoc, length-append}
+use Rattle.std.proofs.Common.{◌≡◌, ◌≢◌, ◌⊎◌, inl, inr, ℕ, ◌+◌, ◌^◌, ◌≤◌, List, [], ◌∷◌, ◌++◌, length, Option, Result, Ok, Err, refl, sym, ap, ◌∙◌, subst, arith, append_assoc, length-append}
 use Rattle.std.specs.Io.KnownBytes.{Consumes, Appends, IsAtEnd}
 use Rattle.std.proofs.KnownBytes.{Appends-nil, Appends-trans}
 use Rattle.std.proofs.lemmas.List.{append-nil}
-use Rattle.gw_io.specs.Outside.{Rose}
 use Rattle.realm_model.specs.Settings.{SettingsView}
 use Rattle.realm_model.specs.declared.event.Event.{Event}
 use Rattle.script_lines.specs.Faults.{CountsFaults}
@@ -11,15 +10,14 @@ use Rattle.script_lines.specs.Reading.{ReaderState, fresh, TakesLine, TakesLast,
 use Rattle.script_lines.specs.declared.fault.LineFault.{LineFault}
 use Rattle.script_lines.specs.declared.fault.LineFault.TheVariants as line_faults
 use Rattle.script_lines.specs.declared.reader.Next.{Next}
-use Rattle.script_lines.specs.declared.reader.TheConstants.{LINE_LIMIT, INPUT_LIMIT}
 use Rattle.rgw_script.specs.Faults.{line_fault}
 use Rattle.rgw_script.specs.Plays.{PlaysOne, PlaysAll}
 use Rattle.rgw_script.specs.Printing.{CountsWrite, Refuses}
-use Rattle.rgw_script.specs.Runs.{with_breaks, ReadsAll, ReadsSome, IsNext, LeavesText, LeavesTooLong, LeavesUnread, PlaysThrough, PlaysUpTo, HasScriptCause}
+use Rattle.rgw_script.specs.Runs.{with_breaks, ReadsSome, LeavesText, LeavesTooLong, LeavesUnread, PlaysThrough, PlaysUpTo, HasScriptCause}
 use Rattle.rgw_script.specs.Scenes.{Scene}
 use Rattle.rgw_script.specs.declared.fault.ScriptFault.{ScriptFault}
 use Rattle.rgw_script.specs.declared.fault.ScriptFault.TheVariants.{OutOfMemory, ReadFault, WriteFault, Worn, BadLine}
-use Rattle.rgw_script.proofs.Reading.{Counts, read_on, nothing_read, all_read, line_read, line_next, last_read, last_next, longer_too, counts_line, counts_last, given_more}
+use Rattle.rgw_script.proofs.Reading.{Counts, read_on, nothing_read, all_read, line_read, line_next, last_read, last_next, longer_too, counts_line, counts_last}
 
 -- ---- lines that were played
 

@@ -1,5 +1,5 @@
 -- Lines that name an actor, or begin one.
-use Rattle.std.proofs.Common.{◌≡◌, ◌≢◌, ◌⊎◌, inl, inr, ℕ, ◌+◌, ◌<◌, ◌≤◌, Bool, true, false, List, [], ◌++◌, Option, None, Some, Result, Ok, Err, OnOk, OnErr, IfErr, IfSome, IfNone, refl, sym, ap, ◌∙◌, subst, arith}
+use Rattle.std.proofs.Common.{◌≡◌, ◌≢◌, ℕ, ◌+◌, ◌≤◌, Bool, true, false, List, [], ◌++◌, Option, None, Some, Result, Ok, Err, OnOk, OnErr, IfErr, IfSome, IfNone, refl, sym, ap, ◌∙◌, subst, arith}
 use Rattle.std.specs.Prelude.{is_some}
 use Rattle.realm_core.specs.Realms.{RealmView}
 use Rattle.realm_model.specs.Settings.{SettingsView}
@@ -9,22 +9,21 @@ use Rattle.script_words.specs.Replies.{outcome_text, reply_line, named_line, cou
 use Rattle.script_words.specs.declared.line.Line.{Line}
 use Rattle.script_words.specs.declared.line.Line.TheVariants as lines
 use Rattle.script_words.specs.declared.line.Verb.{Verb}
-use Rattle.script_player.specs.Going.{ActsAlone}
 use Rattle.script_player.specs.Meanings.{Means}
 use Rattle.script_player.specs.Plays.{fits}
 use Rattle.script_player.specs.declared.player.Gone.{Gone}
 use Rattle.script_player.specs.declared.player.Gone.TheVariants.{Short, Ended}
-use Rattle.rgw_script.specs.Casts.{Table, under, playing}
+use Rattle.rgw_script.specs.Casts.{under, playing}
 use Rattle.rgw_script.specs.Plays.{Acts, Ends, GoesOn, StepsOn, RunsOut, Does, Plays, Misses, Begins}
-use Rattle.rgw_script.specs.Scenes.{Role, Part, unused, plays, gone, asked_of, has_acted, view_of, recast, Scene, with_part, with_history, with_next, next_role}
-use Rattle.rgw_script.specs.Stages.{role_of, part_of, scene_of, door_to, IsOpen, AreBelow, StandsIn, AreStanding, Holds, HasActed, HasActedSome, HasEnded, StandsAfter, BearsOut, StopsAt, ComesTo}
+use Rattle.rgw_script.specs.Scenes.{Role, plays, asked_of, has_acted, view_of, recast, next_role}
+use Rattle.rgw_script.specs.Stages.{role_of, part_of, scene_of, door_to, IsOpen, AreBelow, StandsIn, Holds, HasActed, HasActedSome, HasEnded, StandsAfter, BearsOut, StopsAt, ComesTo}
 use Rattle.rgw_script.specs.declared.active.Active.{Active}
 use Rattle.rgw_script.specs.declared.cast.Cast.{Cast}
 use Rattle.rgw_script.specs.declared.fault.ScriptFault.{ScriptFault}
 use Rattle.rgw_script.specs.declared.fault.ScriptFault.TheVariants.{OutOfMemory}
 use Rattle.rgw_script.specs.declared.script.Script.{Script}
 use Rattle.rgw_script.proofs.Acting.{raised_below, acted_below}
-use Rattle.rgw_script.proofs.Holding.{Puts, at_playing, same_standing, raised_standing, left_standing, left_apart, later_standing, put_standing, parts_put, parts_same, parts_back}
+use Rattle.rgw_script.proofs.Holding.{Puts, at_playing, same_standing, raised_standing, left_standing, left_apart, later_standing, put_standing, parts_put, parts_back}
 
 -- ---- results
 

@@ -1,5 +1,5 @@
 -- A line of a script's text: what it asks can be played, or it is bad.
-use Rattle.std.proofs.Common.{◌≡◌, inl, inr, ℕ, ◌≤◌, Bool, true, false, List, length, Option, None, Some, Ok, Err, IfSome, refl, sym, ap, subst, arith}
+use Rattle.std.proofs.Common.{◌≡◌, inl, inr, ℕ, ◌≤◌, Bool, true, false, List, length, Option, Some, Ok, Err, IfSome, ap, subst, arith}
 use Rattle.std.proofs.KnownBytes.{Appends-nil}
 use Rattle.realm_core.specs.Realms.{RealmView}
 use Rattle.realm_model.specs.Settings.{SettingsView}

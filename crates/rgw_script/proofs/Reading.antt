@@ -5,7 +5,7 @@ use Rattle.std.specs.List.{AllByRecursion}
 use Rattle.std.proofs.KnownBytes.{Consumes-nil, Consumes-trans}
 use Rattle.std.proofs.lemmas.List.{append-nil}
 use Rattle.script_lines.specs.Lines.{IsUnbroken, lines_of}
-use Rattle.script_lines.specs.Reading.{ReaderState, fresh, TakesLine, TakesLast, BeginsTooLong}
+use Rattle.script_lines.specs.Reading.{ReaderState, TakesLine, TakesLast, BeginsTooLong}
 use Rattle.script_lines.specs.declared.reader.TheConstants.{LINE_LIMIT, INPUT_LIMIT}
 use Rattle.script_lines.proofs.LineLemmas.{goes_first, is_last}
 use Rattle.rgw_script.specs.Runs.{with_breaks, ReadsAll, ReadsSome, IsNext}

@@ -1,4 +1,4 @@
-use Rattle.std.proofs.Common.{rules, inl, inr, refl, ap, subst, sym, Ok}
+use Rattle.std.proofs.Common.{rules, inl, refl, ap, subst, Ok}
 use Rattle.std.proofs.KnownBytes.{Appends-nil}
 use Rattle.std.specs.Io.KnownBytes.{Appends}
 use Rattle.gw_io.specs.Outside.{AppendsProperPrefix}

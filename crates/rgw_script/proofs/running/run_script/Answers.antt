@@ -1,6 +1,4 @@
-use Rattle.std.proofs.Common.{rules, sym, subst}
 use Rattle.std.proofs.lemmas.Result.{err_from_is_err_and}
-use Rattle.rgw_script.specs.Stages.{Holds}
 use Rattle.rgw_script.proofs.Containers.{unbegun, unmade_counts, opens, opens_holds, runs_on}
 use Rattle.rgw_script.proofs.running.run_script.Goals as goal
 

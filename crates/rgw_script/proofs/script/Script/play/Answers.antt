@@ -1,4 +1,4 @@
-use Rattle.rgw_script.proofs.Playing.{as_line, comes_clock, comes_start, comes_stop, comes_do}
+use Rattle.rgw_script.proofs.Playing.{as_line, comes_clock, comes_start, comes_stop}
 use Rattle.rgw_script.proofs.script.Script.play.Goals as goal
 
 pub returns-in-Clock : goal.returns-in-Clock
