@@ -1,6 +1,5 @@
 // A run of the program, over any input, output and clock.
 ghost use Rattle.std.specs.Prelude.{◌≡◌, IfSome, IsSome, None, Some, [], map, string_bytes, IfOk};
-ghost use Rattle.object_words.specs.Limits.{is_name};
 ghost use Rattle.swift_auth.specs.Users.{standard_user, account_of};
 ghost use Rattle.realm_core.specs.Realms.{new_realm};
 ghost use Rattle.rgw_words.specs.Words.{once_of};
