@@ -125,7 +125,7 @@ abbrev pub GetEnded : GetPlay → Type 0
 GetEnded x = get_stages.IsOver (get.stage_of x.task) × (get.fault_of x.task ≡ None)
 
 abbrev pub StatEnded : ContainerTask → Type 0
-StatEnded t = stat.IsOver t.stage × (stat.fault_of t ≡ None)
+StatEnded t = stat.IsOver (stat.stage_of t) × (stat.fault_of t ≡ None)
 
 abbrev pub EndedBy : Acting → Type 0
 EndedBy (actings.Put x) = PutEnded x

@@ -140,6 +140,10 @@ fits t settings d =
 abbrev pub fault_of : ContainerTask → Option DoorFault
 fault_of t = t.fault
 
+-- where the task stands
+abbrev pub stage_of : ContainerTask → Stage
+stage_of t = t.stage
+
 -- what the task is asked
 abbrev pub request_of : ContainerTask → ContainerRequest
 request_of t = t.request

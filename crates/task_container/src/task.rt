@@ -1,7 +1,7 @@
 ghost use Rattle.std.specs.Prelude.{◌≡◌, ◌≤◌, IfOk, None};
 ghost use Rattle.realm_model.specs.Settings.{SettingsView};
 ghost use Rattle.realm_model.specs.Doors.{DoorView, actor_at};
-ghost use Rattle.task_container.specs.Stages.{IsOpen, op_of, step_of, row_shown, header_shown, header_step, after_look, after_header, after_left, request_of, fault_of, fits};
+ghost use Rattle.task_container.specs.Stages.{IsOpen, op_of, step_of, row_shown, header_shown, header_step, after_look, after_header, after_left, stage_of, request_of, fault_of, fits};
 ghost use Rattle.realm_model.specs.Accounts.{blank};
 ghost use Rattle.realm_model.specs.Histories.{account_of};
 
@@ -47,7 +47,7 @@ impl ContainerTask {
         ensures fits { (settings : SettingsView) (d : DoorView) → 1 ≤ request.zone → request.zone ≤ settings.zones
             → account_of settings d.seen (actor_at d) ≡ blank → fits result settings d }
         ensures sound { fault_of result ≡ None }
-        ensures open { IsOpen result.stage }
+        ensures open { IsOpen (stage_of result) }
     {
         ContainerTask {
             request,
@@ -94,7 +94,7 @@ impl ContainerTask {
     ghost use Rattle.turn_cell.specs.declared.machine.DoorFault.TheVariants.{Worn};
     ghost use Rattle.realm_model.specs.Histories.{Legal};
     ghost use Rattle.realm_door.specs.Turns.{MakesEvent, IsOneMore};
-    ghost use Rattle.task_container.specs.Stages.{IsOpen, request_of, fault_of, fits};
+    ghost use Rattle.task_container.specs.Stages.{IsOpen, stage_of, request_of, fault_of, fits};
 
     /// Makes the event that comes next.
     #[tactic(auto, using(crate::proofs::Turning::fits_next, crate::proofs::Turning::may_step))]
@@ -104,7 +104,7 @@ impl ContainerTask {
         door: &mut D,
         moment: u64,
     ) -> Result<(), DoorFault>
-        requires open { IsOpen self.old.stage }
+        requires open { IsOpen (stage_of self.old) }
         requires sound { fault_of self.old ≡ None }
         requires fits { D.tells →
             Legal (D.settings door.old) (D.told door.old).seen
@@ -236,7 +236,7 @@ fn stage_when_moved(moved: u32) -> Stage
 
 impl Task for ContainerTask {
     ghost use Rattle.std.specs.Prelude.{[], None};
-    ghost use Rattle.task_container.specs.Stages.{IsOver, request_of, fits};
+    ghost use Rattle.task_container.specs.Stages.{IsOver, stage_of, request_of, fault_of, fits};
     ghost use Rattle.task_container.specs.Counts.{IsContainerOutcome};
     ghost use Rattle.realm_model.specs.Histories.{account_of};
     ghost use Rattle.realm_model.specs.Owns.{own_events};
@@ -253,9 +253,9 @@ impl Task for ContainerTask {
     ghost means = { λ request outcome settings d. IsContainerOutcome request outcome
         (account_of settings d.seen (actor_at d)) (own_events d.seen (actor_at d)) };
 
-    ghost is_ended = { λ t. IsOver t.stage × (t.fault ≡ None) };
+    ghost is_ended = { λ t. IsOver (stage_of t) × (fault_of t ≡ None) };
 
-    ghost fault = { λ t. t.fault };
+    ghost fault = { fault_of };
 
     ghost piece = { λ t. [] };
 
