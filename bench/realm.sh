@@ -1,0 +1,16 @@
+#!/bin/sh
+# Measures how long events of a realm take, kind by kind, with so many heads in one zone, and how fast
+# large objects are stored and read. It proves and builds the program first, where that has changed.
+# Events come in chunks of a hundred: the fastest chunk is told, and the one in the middle.
+# Usage: bench/realm.sh [HEADS..]     from any folder; 1000 and 1000000 heads if left out
+set -eu
+cd "$(dirname "$0")/../crates/realm_bench"
+built=$(rt run 2>&1) || {
+    printf '%s\n' "$built" >&2
+    exit 1
+}
+[ $# -gt 0 ] || set -- 1000 1000000
+for heads; do
+    ./out/realm_bench "$heads"
+done
+./out/realm_bench large

@@ -1,0 +1,2 @@
+pub mod KnownListings
+pub mod Listings
