@@ -27,10 +27,22 @@ pub fn count_of(alloc: Global) -> anyhow::Result<ContainerRequest>
 /// Counts at moment 0, as the actor of this number, and prints what was counted.
 pub fn count<R: Print>(rt: &R, alloc: Global, play: &mut Play, actor: u64) -> anyhow::Result<()> {
     let mut task = ContainerTask::new(count_of(alloc)?);
+    take_turns(rt, alloc, play, &mut task, actor)?;
+    tell_end(rt, actor, task.outcome())
+}
+
+// Takes the turns of a count to its end.
+fn take_turns<R: Print>(
+    rt: &R,
+    alloc: Global,
+    play: &mut Play,
+    task: &mut ContainerTask,
+    actor: u64,
+) -> anyhow::Result<()> {
     for _ in 0..TURNS {
-        if play.turn(rt, alloc, &mut task, actor, 0)? == TaskTurn::Done {
+        if play.turn(rt, alloc, task, actor, 0)? == TaskTurn::Done {
             break;
         }
     }
-    tell_end(rt, actor, task.outcome())
+    Ok(())
 }

@@ -41,15 +41,30 @@ pub fn get<R: Print>(
     name: &str,
 ) -> anyhow::Result<()> {
     let mut task = GetTask::new(get_of(alloc, name)?);
+    take_turns(rt, alloc, play, &mut task, actor)?;
+    tell_end(rt, actor, task.outcome())
+}
+
+// Takes the turns of a GET to its end.
+fn take_turns<R: Print>(
+    rt: &R,
+    alloc: Global,
+    play: &mut Play,
+    task: &mut GetTask,
+    actor: u64,
+) -> anyhow::Result<()> {
     for _ in 0..TURNS {
-        match play.turn(rt, alloc, &mut task, actor, 0)? {
-            TaskTurn::Gives => {
-                let piece = str::from_utf8(task.piece())?;
-                println!(rt; "gives {piece}")?;
-            }
+        match play.turn(rt, alloc, task, actor, 0)? {
+            TaskTurn::Gives => tell_piece(rt, task)?,
             TaskTurn::More | TaskTurn::Wants => {}
             TaskTurn::Done => break,
         }
     }
-    tell_end(rt, actor, task.outcome())
+    Ok(())
+}
+
+fn tell_piece<R: Print>(rt: &R, task: &GetTask) -> anyhow::Result<()> {
+    let piece = str::from_utf8(task.piece())?;
+    println!(rt; "gives {piece}")?;
+    Ok(())
 }
