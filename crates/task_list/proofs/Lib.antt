@@ -1,0 +1,10 @@
+pub mod Growing
+pub mod Merged
+pub mod Names
+pub mod Passing
+pub mod Placing
+pub mod Rows
+pub mod Settling
+pub mod Staging
+pub mod Steps
+pub mod Turning

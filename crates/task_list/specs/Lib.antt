@@ -1,0 +1,6 @@
+pub mod Cursors
+pub mod Listed
+pub mod Merges
+pub mod Progresses
+pub mod Stages
+pub mod Tasks

@@ -1,0 +1,206 @@
+ghost use Rattle.std.specs.Prelude.{◌≡◌, ◌≤◌, ◌⊎◌, IfOk, None};
+ghost use Rattle.realm_model.specs.Settings.{SettingsView};
+ghost use Rattle.realm_model.specs.Doors.{DoorView, actor_at};
+ghost use Rattle.realm_model.specs.Accounts.{blank};
+ghost use Rattle.realm_model.specs.Histories.{account_of};
+ghost use Rattle.realm_model.specs.Owns.{own_events};
+ghost use Rattle.std.specs.Prelude.{[]};
+ghost use Rattle.task_list.specs.declared.stage.Stage.TheVariants.{Broken as broken};
+ghost use Rattle.task_list.specs.Tasks.{IsGoing, Takes, op_of, request_of, fault_of, fits};
+
+use crate::request::{ListOutcome, ListRequest};
+use crate::stage::{Stage, next_stage};
+use object_words::ShardKey;
+use realm_door::{Door, Task, TaskTurn};
+use realm_model::{Op, Reply};
+use rgw_types::Text;
+use std::alloc::{AllocError, Global};
+use std::mem::replace;
+use turn_cell::DoorFault;
+
+/// The most entries of a page.
+const PAGE_LIMIT: u32 = 1000;
+
+/// A request for a listing: the row is read, then a page of each shard by its number, and then, by rising
+/// name, the head of each name that a change is under way of, and the next page of each shard whose page
+/// is used up. Where a shard no longer serves, the row is read again, and the pages of all shards above
+/// the last name that was settled.
+#[derive(Drop)]
+pub struct ListTask {
+    request: ListRequest,
+    stage: Stage,
+    /// How many answers were Moved or Closed.
+    moved: u32,
+    fault: Option<DoorFault>,
+}
+
+impl ListTask {
+    /// A task that made no event.
+    pub fn new(request: ListRequest) -> ListTask
+        ensures request { request_of result ≡ request }
+        ensures fits { (settings : SettingsView) (d : DoorView) → 1 ≤ request.zone → request.zone ≤ settings.zones
+            → account_of settings d.seen (actor_at d) ≡ blank → own_events d.seen (actor_at d) ≡ []
+            → fits result settings d }
+        ensures sound { fault_of result ≡ None }
+    {
+        ListTask {
+            request,
+            stage: Stage::Look(None),
+            moved: 0,
+            fault: None,
+        }
+    }
+
+    /// The operation that comes next.
+    fn next_op(&self) -> Result<Op, AllocError>
+        requires { IsGoing self.now.stage }
+        ensures { IfOk result (λ op. op ≡ op_of self.now.request self.now.stage) }
+    {
+        let zone = self.request.zone;
+        match &self.stage {
+            Stage::Page(merging, next) => Ok(Op::Page {
+                zone,
+                key: ShardKey {
+                    container: merging.row.id,
+                    instance: merging.row.instance,
+                    shard: next.shard,
+                },
+                after: next.after.clone()?,
+                limit: PAGE_LIMIT,
+            }),
+            Stage::Head(merging, name) => Ok(Op::HeadRead {
+                zone,
+                container: merging.row.id,
+                name: name.clone()?,
+            }),
+            _ => Ok(Op::BucketRead {
+                zone,
+                name: self.request.command.container.clone()?,
+            }),
+        }
+    }
+
+    /// Goes on by the answer to that operation.
+    fn take(&mut self, alloc: Global, reply: Reply)
+        ensures request { self.new.request ≡ self.old.request }
+        ensures fault { self.new.fault ≡ self.old.fault }
+        ensures taken { (self.new.stage ≡ broken)
+            ⊎ Takes self.old.request self.old.stage self.old.moved reply self.new.stage self.new.moved }
+    {
+        let stage = replace(&mut self.stage, Stage::Broken);
+        if let Ok((stage, moved)) = next_stage(alloc, &self.request, stage, self.moved, reply) {
+            self.stage = stage;
+            self.moved = moved;
+        }
+    }
+}
+
+impl ListTask {
+    ghost use Rattle.std.specs.Prelude.{◌≡◌, ◌<◌, ◌≤◌, ◌^◌, length, Some, None, IfErr, OnOk, OnErr};
+    ghost use Rattle.turn_cell.specs.declared.machine.DoorFault.TheVariants.{Worn};
+    ghost use Rattle.realm_model.specs.Histories.{Legal};
+    ghost use Rattle.realm_door.specs.Turns.{MakesEvent, IsOneMore};
+    ghost use Rattle.task_list.specs.Tasks.{IsGoing, stage_of, request_of, fault_of, fits};
+
+    /// Makes the event that comes next.
+    #[tactic(auto, using(crate::proofs::Turning::fits_next, crate::proofs::Turning::may_step))]
+    pub fn event<D: Door>(
+        &mut self,
+        alloc: Global,
+        door: &mut D,
+        moment: u64,
+    ) -> Result<(), DoorFault>
+        requires going { IsGoing (stage_of self.old) }
+        requires sound { fault_of self.old ≡ None }
+        requires fits { D.tells →
+            Legal (D.settings door.old) (D.told door.old).seen
+            × fits self.old (D.settings door.old) (D.told door.old) }
+        ensures kept { D.tells →
+            Legal (D.settings door.old) (D.told door.new).seen
+            × fits self.new (D.settings door.old) (D.told door.new) }
+        ensures made { OnOk result (D.tells → MakesEvent (D.settings door.old) moment (D.told door.old) (D.told door.new)) }
+        ensures alone { OnOk result (D.tells → D.alone → IsOneMore (D.told door.old) (D.told door.new)) }
+        ensures counts { OnOk result ((D.last door.old < D.last door.new) × (D.last door.new ≤ 2 ^ 62)) }
+        ensures request { request_of self.new ≡ request_of self.old }
+        ensures stopped { OnErr result ((D.tells → D.told door.new ≡ D.told door.old) × (D.last door.new ≡ D.last door.old)) }
+        ensures sound { OnOk result (fault_of self.new ≡ None) }
+        ensures faulted { IfErr result (λ f. fault_of self.new ≡ Some f) }
+        ensures worn { IfErr result (λ f. D.tells → f ≡ Worn → length (D.found door.new) ≡ 2 ^ 62) }
+        ensures settings { D.settings door.new ≡ D.settings door.old }
+        ensures home { D.home door.new ≡ D.home door.old }
+    {
+        let Ok(op) = self.next_op() else {
+            self.fault = Some(DoorFault::OutOfMemory);
+            return Err(DoorFault::OutOfMemory);
+        };
+        match door.step(alloc, op, moment) {
+            Ok(answered) => {
+                self.take(alloc, answered.reply);
+                Ok(())
+            }
+            Err(stopped) => {
+                self.fault = Some(stopped.fault);
+                Err(stopped.fault)
+            }
+        }
+    }
+}
+
+impl Task for ListTask {
+    ghost use Rattle.std.specs.Prelude.{[], None};
+    ghost use Rattle.task_list.specs.Tasks.{IsOver, stage_of, request_of, fault_of, fits};
+    ghost use Rattle.task_list.specs.Listed.{IsListOutcome};
+    ghost use Rattle.realm_model.specs.Histories.{account_of};
+    ghost use Rattle.realm_model.specs.Owns.{own_events};
+    ghost use Rattle.realm_model.specs.Doors.{actor_at};
+
+    type Command = ListRequest;
+
+    type Outcome = ListOutcome;
+
+    ghost command = { request_of };
+
+    ghost fits = { fits };
+
+    ghost means = { λ request outcome settings d. IsListOutcome request outcome
+        (account_of settings d.seen (actor_at d)) (own_events d.seen (actor_at d)) };
+
+    ghost is_ended = { λ t. IsOver (stage_of t) × (fault_of t ≡ None) };
+
+    ghost fault = { fault_of };
+
+    ghost piece = { λ t. [] };
+
+    ghost given = { λ t. 0 };
+
+    ghost wants = { λ t. ⊥ };
+
+    #[tactic(auto, using(crate::proofs::Turning::is_going_of, crate::proofs::Turning::not_over))]
+    fn turn<D: Door>(
+        &mut self,
+        alloc: Global,
+        door: &mut D,
+        moment: u64,
+    ) -> Result<TaskTurn, DoorFault> {
+        if let Some(fault) = self.fault {
+            return Err(fault);
+        }
+        match &self.stage {
+            Stage::Ended(_) => return Ok(TaskTurn::Done),
+            Stage::Broken => {
+                self.fault = Some(DoorFault::OutOfMemory);
+                return Err(DoorFault::OutOfMemory);
+            }
+            _ => {}
+        }
+        self.event(alloc, door, moment)?;
+        Ok(TaskTurn::More)
+    }
+
+    fn outcome(&self) -> Option<&ListOutcome> {
+        match (&self.stage, self.fault) {
+            (Stage::Ended(outcome), None) => Some(outcome),
+            _ => None,
+        }
+    }
+}
