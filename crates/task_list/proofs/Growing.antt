@@ -1,6 +1,5 @@
 -- What own events showed stays shown when one more comes.
-use Rattle.std.proofs.Common.{◌≡◌, ℕ, ◌<◌, ◌≤◌, ◌⊎◌, true, false, List, [], ◌∷◌, ◌++◌, Option, Some, None, inl, inr, ⊎_elim, refl}
-use Rattle.std.specs.List.{All, Contains}
+use Rattle.std.proofs.Common.{ℕ, List, [], ◌∷◌, ◌++◌, Option, Some, None, inl, inr}
 use Rattle.std.specs.FinMap.Entries.{find}
 use Rattle.std.proofs.lemmas.List.Elements.{Contains-append_left, All-weaker}
 use Rattle.object_words.specs.declared.bucket.Bucket.{Bucket}
@@ -10,12 +9,10 @@ use Rattle.object_words.specs.Rows.{RowView}
 use Rattle.realm_model.specs.Owns.{OwnEvent}
 use Rattle.list_words.specs.declared.command.ListCommand.{ListCommand}
 use Rattle.list_words.specs.declared.row.ListedRow.{ListedRow}
-use Rattle.list_words.specs.Listings.{in_scope}
 use Rattle.task_list.specs.declared.cursor.Cursor.{Cursor}
 use Rattle.task_list.specs.declared.merging.NextPage.{NextPage}
-use Rattle.task_list.specs.declared.merging.Merging.{Merging}
-use Rattle.task_list.specs.Listed.{IsPaged, IsUnsettled, IsByPage, IsByHead, IsFolded, IsShown, is_within}
-use Rattle.task_list.specs.Stages.{PagedAs, IsSettledTo, IsRowShown, CursorFits, IsUsedUp, UsedUp, IsCovered, PagesFit, MergingFits}
+use Rattle.task_list.specs.Listed.{IsPaged, IsUnsettled, IsByPage, IsByHead, IsShown}
+use Rattle.task_list.specs.Stages.{PagedAs, IsSettledTo, IsRowShown, CursorFits, UsedUp, IsCovered, PagesFit}
 
 module _ (zone : ℕ) (c : ListCommand) (events : List OwnEvent) (own : OwnEvent) where
   abbrev more : List OwnEvent

@@ -1,11 +1,9 @@
 -- What each step of a merge keeps.
-use Rattle.std.proofs.Common.{◌≡◌, ◌≢◌, ℕ, ◌+◌, ◌<◌, ◌≤◌, ◌==◌, ◌⊎◌, ◌&&◌, not, nat_le, Bool, true, false, cond, List, [], ◌∷◌, ◌++◌, length, Option, Some, None, Result, Ok, Err, IfOk, OnOk, inl, inr, refl, sym, ◌∙◌, ap, subst, arith}
+use Rattle.std.proofs.Common.{◌≡◌, ℕ, ◌+◌, ◌<◌, ◌≤◌, nat_le, true, false, cond, List, [], ◌∷◌, ◌++◌, length, Option, Some, None, Result, Ok, Err, IfOk, OnOk, inl, inr, refl, sym, ◌∙◌, ap, subst, arith}
 use Rattle.std.specs.List.{All, Contains}
 use Rattle.std.specs.List.Sorted.{IsPermutation}
-use Rattle.std.proofs.lemmas.Bool.{both_ways, cases_eq, leb-true, and_from}
-use Rattle.std.proofs.lemmas.Bool.Decides.{nat_tests}
+use Rattle.std.proofs.lemmas.Bool.{both_ways, cases_eq, leb-true}
 use Rattle.std.proofs.lemmas.List.Elements.{All-nil, All-contains, Contains-push}
-use Rattle.std.proofs.lemmas.List.Sorted.{IsPermutation-sym}
 use Rattle.object_words.specs.declared.bucket.Bucket.{Bucket}
 use Rattle.object_words.specs.declared.entry.EntryPage.{EntryPage}
 use Rattle.object_words.specs.declared.head.SeenSlot.{SeenSlot}
@@ -16,19 +14,19 @@ use Rattle.realm_model.specs.Owns.{OwnEvent}
 use Rattle.list_words.specs.declared.command.ListCommand.{ListCommand}
 use Rattle.list_words.specs.declared.row.ListedRow.{ListedRow}
 use Rattle.list_words.specs.declared.row.ListedRow.TheVariants.{Subdir}
-use Rattle.list_words.specs.Listings.{is_before, in_scope, is_past, subdir_of, listed_row, most_rows, ends_with_subdir}
-use Rattle.list_words.proofs.Texts.{before_itself, before_trans, not_after}
+use Rattle.list_words.specs.Listings.{is_before, is_past, subdir_of, listed_row, most_rows, ends_with_subdir}
+use Rattle.list_words.proofs.Texts.{before_itself, before_trans}
 use Rattle.list_words.proofs.Keys.{past}
 use Rattle.task_list.specs.declared.cursor.Cursor.{Cursor}
 use Rattle.task_list.specs.declared.merge.Merge.{Merge}
 use Rattle.task_list.specs.declared.merging.NextPage.{NextPage}
 use Rattle.task_list.specs.declared.merging.Merging.{Merging}
 use Rattle.task_list.specs.declared.progress.Progress.{Progress}
-use Rattle.task_list.specs.Cursors.{left_of, left_in, name_of}
+use Rattle.task_list.specs.Cursors.{left_of, name_of}
 use Rattle.task_list.specs.Merges.{cursors_of}
 use Rattle.task_list.specs.Progresses.{settled_of, rows_in, rows_with}
-use Rattle.task_list.specs.Listed.{IsByPage, IsByHead, IsUnsettled, AreShown, entry_row, row_if_there, slot_row, is_unsettled, is_settled}
-use Rattle.task_list.specs.Stages.{PagedAs, IsSettledTo, IsRowShown, PagesFit, UsedUp, IsUsedUp, IsCovered, HasCursor, IsNext, Lacks, IsAbove, IsOther, MergingFits, IsGap, HeadFits, PoppedFits, EntryFits, IsRead, IsPageEvent, IsHeadEvent}
+use Rattle.task_list.specs.Listed.{IsByPage, IsByHead, AreShown, entry_row, row_if_there, slot_row, is_unsettled, is_settled}
+use Rattle.task_list.specs.Stages.{PagedAs, IsSettledTo, PagesFit, IsCovered, IsAbove, IsOther, MergingFits, IsGap, HeadFits, PoppedFits, EntryFits, IsRead, IsPageEvent, IsHeadEvent}
 use Rattle.task_list.proofs.Growing.{grow_settled, grow_row, grow_pages, grow_paged_as, grow_unsettled}
 use Rattle.task_list.proofs.Settling.{is_full, is_complete, settle_none, settle_folded, settle_listed}
 use Rattle.task_list.proofs.Passing.{pages-narrow, pages-moved, gap_before, here, some_left, none_left, page_left, page_put, page_empty, shard_within}

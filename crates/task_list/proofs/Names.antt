@@ -1,23 +1,22 @@
 -- Lists by rising name, and what stands in them under a name.
-use Rattle.std.proofs.Common.{◌≡◌, ◌≢◌, ℕ, ◌<◌, ◌≤◌, ◌==◌, ◌&&◌, nat_le, min, Bool, true, false, T, cond, List, [], ◌∷◌, ◌++◌, take, length, Option, Some, None, zero, suc, refl, sym, ◌∙◌, ap, subst, arith}
+use Rattle.std.proofs.Common.{◌≡◌, ◌≢◌, ℕ, ◌&&◌, Bool, true, false, T, cond, List, [], ◌∷◌, ◌++◌, take, length, Some, None, zero, suc, refl, sym, ◌∙◌, ap, subst, arith}
 use Rattle.std.specs.declared.cmp.Ordering.{Ordering}
 use Rattle.std.specs.declared.cmp.Ordering.TheVariants.{Less, Equal, Greater}
 use Rattle.std.specs.Ordering.{is_lt, is_eq, eq_by_cmp}
-use Rattle.std.specs.List.{All, filter}
+use Rattle.std.specs.List.{All}
 use Rattle.std.specs.FinMap.Entries.{find, below_all, is_sorted, is_sorted-where_key}
-use Rattle.std.specs.Cmp.Lexicographic.{nat_list_cmp_total}
 use Rattle.std.proofs.lemmas.Bool.{both_ways, false_from_ne_true}
 use Rattle.std.proofs.lemmas.Bool.Decides.{nat_tests}
 use Rattle.std.proofs.lemmas.List.{length-take}
-use Rattle.std.proofs.lemmas.List.Elements.{All-head, All-tail, All-take, All-weaker, filter_passes}
-use Rattle.object_words.specs.Names.{name_cmp, Named, entries, where_name}
+use Rattle.std.proofs.lemmas.List.Elements.{All-head, All-tail, All-take, filter_passes}
+use Rattle.object_words.specs.Names.{name_cmp, entries, where_name}
 use Rattle.object_words.specs.Entries.{EntryView}
 use Rattle.object_words.specs.Shards.{Shard}
 use Rattle.object_words.specs.ShardCalls.{entries_after, page_of}
 use Rattle.object_words.proofs.KeyLemmas.{same_text}
 use Rattle.object_words.proofs.NameLemmas.{name_itself}
 use Rattle.list_words.specs.Listings.{is_before}
-use Rattle.list_words.proofs.Texts.{before_itself, before_trans, before_upto, upto_before, not_after}
+use Rattle.list_words.proofs.Texts.{before_itself, before_trans, before_upto, not_after}
 use Rattle.task_list.specs.Listed.{last_name, reaches, page_limit}
 use Rattle.task_list.specs.Stages.{IsPageAbove}
 

@@ -1,11 +1,11 @@
 -- Entries pass out of the pages at hand, and pages come.
-use Rattle.std.proofs.Common.{◌≡◌, ◌≢◌, ℕ, ◌+◌, ◌<◌, ◌≤◌, ◌%◌, ◌⊎◌, ◌&&◌, ◌||◌, not, Bool, true, false, T, cond, List, [], ◌∷◌, ◌++◌, length, Option, Some, None, inl, inr, zero, suc, refl, sym, ◌∙◌, ap, subst, arith}
-use Rattle.std.specs.List.{All, Contains, sum_by}
+use Rattle.std.proofs.Common.{◌≡◌, ◌≢◌, ℕ, ◌<◌, ◌≤◌, ◌⊎◌, Bool, true, false, List, [], ◌∷◌, ◌++◌, Option, Some, None, inl, inr, zero, suc, refl, sym, ◌∙◌, ap, subst, arith}
+use Rattle.std.specs.List.{All, Contains}
 use Rattle.std.specs.List.Sorted.{IsPermutation}
-use Rattle.std.specs.FinMap.Entries.{find, is_sorted}
+use Rattle.std.specs.FinMap.Entries.{find}
 use Rattle.std.proofs.lemmas.Bool.{both_ways, cases_eq}
-use Rattle.std.proofs.lemmas.List.Elements.{All-nil, All-cons, All-head, All-tail, All-weaker, All-contains, Contains-push, Contains-append_left}
-use Rattle.std.proofs.lemmas.List.Sorted.{All-permutation, Contains-permutation, IsPermutation-sym}
+use Rattle.std.proofs.lemmas.List.Elements.{All-cons, All-head, All-tail, All-weaker, All-contains, Contains-push, Contains-append_left}
+use Rattle.std.proofs.lemmas.List.Sorted.{All-permutation, Contains-permutation}
 use Rattle.object_words.specs.declared.bucket.Bucket.{Bucket}
 use Rattle.object_words.specs.declared.entry.EntryPage.{EntryPage}
 use Rattle.object_words.specs.Entries.{EntryView}
@@ -13,15 +13,15 @@ use Rattle.object_words.specs.Hashes.{shard_of}
 use Rattle.object_words.specs.Names.{name_cmp}
 use Rattle.realm_model.specs.Owns.{OwnEvent}
 use Rattle.list_words.specs.declared.command.ListCommand.{ListCommand}
-use Rattle.list_words.specs.Listings.{is_before, in_scope}
-use Rattle.list_words.proofs.Texts.{before_itself, before_upto, upto_before, not_after}
+use Rattle.list_words.specs.Listings.{is_before}
+use Rattle.list_words.proofs.Texts.{before_itself, before_upto}
 use Rattle.task_list.specs.declared.cursor.Cursor.{Cursor}
 use Rattle.task_list.specs.declared.merging.NextPage.{NextPage}
-use Rattle.task_list.specs.Cursors.{left_of, left_in, name_of}
-use Rattle.task_list.specs.Listed.{PageRows, last_name, reaches, asks_page, IsPaged}
-use Rattle.task_list.specs.Stages.{PagedAs, IsRowShown, EntriesFit, CursorFits, Lacks, IsUsedUp, UsedUp, HasCursor, IsNext, IsCovered, PagesFit, IsAbove, IsLater, IsPageAbove, IsPageEvent}
+use Rattle.task_list.specs.Cursors.{left_of, name_of}
+use Rattle.task_list.specs.Listed.{PageRows, reaches, asks_page}
+use Rattle.task_list.specs.Stages.{PagedAs, IsRowShown, EntriesFit, CursorFits, Lacks, IsUsedUp, UsedUp, IsCovered, PagesFit, IsAbove, IsPageEvent}
 use Rattle.task_list.proofs.Names.{find-below, find-head, find-other, find-none, rest_rises, reaches-before, reaches-first, reaches_by}
-use Rattle.task_list.proofs.Growing.{grow_paged_as, grow_pages, grow_cursor}
+use Rattle.task_list.proofs.Growing.{grow_paged_as, grow_pages}
 
 some_is : {X : Type 0} {x y : X} → Some x ≡ Some y → x ≡ y
 some_is same = cc

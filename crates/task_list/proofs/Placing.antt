@@ -1,5 +1,5 @@
 -- What a name is to the rows so far.
-use Rattle.std.proofs.Common.{◌≡◌, ℕ, ◌+◌, ◌-◌, ◌<◌, ◌≤◌, ◌==◌, ◌&&◌, not, Bool, true, false, List, [], ◌∷◌, length, slice_get, Option, Some, None, bytes_eq, suc, refl, sym, ◌∙◌, ap, subst, arith}
+use Rattle.std.proofs.Common.{◌≡◌, ℕ, ◌-◌, ◌==◌, ◌&&◌, Bool, true, false, List, [], ◌∷◌, length, slice_get, Option, Some, None, suc, refl, sym, ◌∙◌, ap, arith}
 use Rattle.std.proofs.lemmas.Bool.{and_parts, eqb-true}
 use Rattle.object_words.specs.Hashes.{shard_of}
 use Rattle.object_words.specs.Rows.{RowView}
@@ -10,7 +10,7 @@ use Rattle.list_words.specs.declared.row.ListedRow.{ListedRow}
 use Rattle.list_words.specs.declared.row.ListedRow.TheVariants.{Thing, Subdir}
 use Rattle.list_words.specs.Listings.{is_before, in_scope, subdir_of, thing_of, row_under, listed_row, is_same_subdir, ends_with_subdir, IsKey}
 use Rattle.task_list.specs.declared.merging.Merging.{Merging}
-use Rattle.task_list.specs.Progresses.{settled_of, rows_in, is_listed}
+use Rattle.task_list.specs.Progresses.{settled_of, is_listed}
 use Rattle.task_list.specs.Stages.{IsOwn}
 use Rattle.task_list.proofs.Rows.{thing_repeats_none}
 

@@ -1,7 +1,7 @@
 -- A listing goes up to one more name, or to its end.
-use Rattle.std.proofs.Common.{◌≡◌, ◌≢◌, ℕ, ◌+◌, ◌<◌, ◌≤◌, ◌⊎◌, ◌&&◌, not, Bool, true, false, T, cond, List, [], ◌∷◌, ◌++◌, take, length, Option, Some, None, inl, inr, refl, sym, ◌∙◌, ap, subst, arith}
-use Rattle.std.specs.List.{All, Contains}
-use Rattle.std.specs.FinMap.Entries.{find, is_sorted}
+use Rattle.std.proofs.Common.{◌≡◌, ◌≢◌, ℕ, ◌<◌, ◌≤◌, ◌⊎◌, not, true, false, cond, List, [], ◌∷◌, ◌++◌, length, Option, Some, None, inl, inr, refl, sym, ◌∙◌, ap, subst, arith}
+use Rattle.std.specs.List.{All}
+use Rattle.std.specs.FinMap.Entries.{find}
 use Rattle.std.proofs.lemmas.Bool.{both_ways, not-true}
 use Rattle.std.proofs.lemmas.List.{take_all, length_push}
 use Rattle.std.proofs.lemmas.List.Elements.{Contains-append_left, All-weaker, All-push, All-contains}
@@ -11,10 +11,10 @@ use Rattle.realm_model.specs.Owns.{OwnEvent}
 use Rattle.list_words.specs.declared.command.ListCommand.{ListCommand}
 use Rattle.list_words.specs.declared.row.ListedRow.{ListedRow}
 use Rattle.list_words.specs.declared.row.ListedRow.TheVariants.{Subdir}
-use Rattle.list_words.specs.Listings.{is_before, in_scope, subdir_of, listed_row, most_rows, all_rows, rows_of, ends_with_subdir}
-use Rattle.list_words.proofs.Texts.{before_itself, before_trans, upto_before, not_after, same_place}
+use Rattle.list_words.specs.Listings.{is_before, in_scope, subdir_of, listed_row, most_rows, all_rows, ends_with_subdir}
+use Rattle.list_words.proofs.Texts.{before_itself, upto_before, not_after, same_place}
 use Rattle.list_words.proofs.Rows.{all_rows-push}
-use Rattle.task_list.specs.Listed.{IsByPage, IsByHead, IsFolded, IsShown, is_within, AreShown}
+use Rattle.task_list.specs.Listed.{IsByPage, IsByHead, IsShown, is_within, AreShown}
 use Rattle.task_list.specs.Stages.{PagedAs, IsSettledTo, IsAbove}
 use Rattle.task_list.proofs.Names.{find-none, find-push_other, find-push_same, sorted-push}
 use Rattle.task_list.proofs.Rows.{of_subdir}

@@ -1,22 +1,17 @@
 -- What is settled at the beginning of a container's pages.
-use Rattle.std.proofs.Common.{◌≡◌, ℕ, ◌≤◌, true, List, [], length, Option, Some, None, refl, sym, ◌∙◌, ap, subst, arith}
-use Rattle.std.specs.List.{All}
+use Rattle.std.proofs.Common.{◌≡◌, ℕ, true, List, [], length, Some, ap, subst, arith}
 use Rattle.std.proofs.lemmas.Bool.{both_ways}
 use Rattle.std.proofs.lemmas.List.Elements.{All-nil}
-use Rattle.object_words.specs.declared.bucket.Bucket.{Bucket}
 use Rattle.object_words.specs.Rows.{RowView}
 use Rattle.realm_model.specs.Owns.{OwnEvent}
 use Rattle.list_words.specs.declared.command.ListCommand.{ListCommand}
 use Rattle.list_words.specs.declared.row.ListedRow.{ListedRow}
-use Rattle.list_words.specs.Listings.{is_before, in_scope, most_rows}
-use Rattle.task_list.specs.declared.merging.NextPage.{NextPage}
-use Rattle.task_list.specs.declared.merging.Merging.{Merging}
-use Rattle.task_list.specs.declared.progress.Progress.{Progress}
+use Rattle.list_words.specs.Listings.{in_scope}
 use Rattle.task_list.specs.declared.stage.Known.{Known}
 use Rattle.task_list.specs.Progresses.{settled_of, rows_in, IsStart}
 use Rattle.task_list.specs.Listed.{is_within}
-use Rattle.task_list.specs.Stages.{IsSettledTo, IsRowShown, MergingFits}
-use Rattle.task_list.specs.Tasks.{KnownFits, WentOn, AfterRow}
+use Rattle.task_list.specs.Stages.{IsSettledTo}
+use Rattle.task_list.specs.Tasks.{KnownFits}
 use Rattle.task_list.proofs.Settling.{not_above}
 
 -- no name is settled

@@ -1,8 +1,8 @@
 -- Each answer brings the task to a stage that its actor's own events come to.
-use Rattle.std.proofs.Common.{◌≡◌, ◌≢◌, ℕ, ◌+◌, ◌<◌, ◌≤◌, ◌==◌, ◌⊎◌, min, true, false, cond, nat_lt, List, [], ◌∷◌, ◌++◌, length, Option, Some, None, inl, inr, refl, sym, ◌∙◌, ap, subst, arith}
-use Rattle.std.specs.List.{All, Contains}
+use Rattle.std.proofs.Common.{◌≡◌, ℕ, ◌+◌, ◌<◌, ◌≤◌, ◌==◌, true, false, cond, nat_lt, List, [], ◌∷◌, ◌++◌, Option, Some, None, inl, inr, refl, sym, ◌∙◌, ap, subst, arith}
+use Rattle.std.specs.List.{All}
 use Rattle.std.proofs.lemmas.Bool.Decides.{nat_tests}
-use Rattle.std.proofs.lemmas.List.Elements.{All-nil, All-push, All-weaker, All-contains, Contains-push, Contains-push_cases}
+use Rattle.std.proofs.lemmas.List.Elements.{All-push, All-weaker, All-contains, Contains-push, Contains-push_cases}
 use Rattle.object_words.specs.declared.bucket.Bucket.{Bucket}
 use Rattle.object_words.specs.declared.entry.EntryPage.{EntryPage}
 use Rattle.object_words.specs.declared.head.HeadSeen.{HeadSeen}
@@ -31,8 +31,7 @@ use Rattle.swift_auth.specs.declared.policy.Verdict.{Verdict}
 use Rattle.swift_auth.specs.declared.policy.Verdict.TheVariants.{Granted, Unknown, Denied}
 use Rattle.swift_auth.specs.Policies.{found_under, verdict_of}
 use Rattle.task_words.specs.declared.reply.Refusal.{Refusal}
-use Rattle.task_words.specs.declared.reply.Refusal.TheVariants as refusals
-use Rattle.task_words.specs.Outcomes.{most_moved, LookedUp}
+use Rattle.task_words.specs.Outcomes.{most_moved}
 use Rattle.task_words.specs.Rows.{refusal_by, row_refusal}
 use Rattle.list_words.specs.declared.command.ListCommand.{ListCommand}
 use Rattle.task_list.specs.declared.merging.NextPage.{NextPage}
@@ -43,9 +42,9 @@ use Rattle.task_list.specs.declared.stage.Known.{Known}
 use Rattle.task_list.specs.declared.stage.Stage.{Stage}
 use Rattle.task_list.specs.declared.stage.Stage.TheVariants.{Look, Page, Head, Broken, Ended}
 use Rattle.task_list.specs.Progresses.{settled_of, rows_in}
-use Rattle.task_list.specs.Listed.{page_limit, asks_row, asks_page, asks_head, IsUnsettled, AreUnsettled, OnlyReads, IsRefusal, GrantedBy, IsListOutcome}
-use Rattle.task_list.specs.Stages.{IsRowShown, MergingFits, HeadFits, IsLater, IsPageAbove, IsPageEvent, IsHeadEvent}
-use Rattle.task_list.specs.Tasks.{IsGoing, op_of, row_shown, one_moved, after_left, KnownFits, WentOn, AfterRow, Takes, Going, Looking, FitsAt}
+use Rattle.task_list.specs.Listed.{page_limit, asks_row, asks_page, asks_head, IsUnsettled, AreUnsettled, IsRefusal}
+use Rattle.task_list.specs.Stages.{MergingFits, HeadFits, IsLater, IsPageAbove, IsPageEvent, IsHeadEvent}
+use Rattle.task_list.specs.Tasks.{IsGoing, op_of, one_moved, after_left, KnownFits, WentOn, AfterRow, Takes, Going, Looking, FitsAt}
 use Rattle.task_list.proofs.Growing.{grow_settled, grow_unsettled}
 use Rattle.task_list.proofs.Names.{page_is_above}
 

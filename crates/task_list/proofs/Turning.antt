@@ -23,7 +23,6 @@ use Rattle.task_list.specs.declared.request.ListRequest.{ListRequest}
 use Rattle.task_list.specs.declared.task.ListTask.{ListTask}
 use Rattle.task_list.specs.declared.stage.Stage.{Stage}
 use Rattle.task_list.specs.declared.stage.Stage.TheVariants.{Look, Page, Head, Broken, Ended}
-use Rattle.task_list.specs.Listed.{AreUnsettled}
 use Rattle.task_list.specs.Tasks.{IsOver, IsGoing, op_of, Takes, Going, FitsAt, fits}
 use Rattle.task_list.proofs.Steps.{page_answered, one_step}
 

@@ -1,5 +1,5 @@
 -- What the end of a listing means: which of the actor's own events, and which answers to them, its rows rest on.
-use Rattle.std.specs.Prelude.{◌≡◌, ◌⊎◌, ℕ, ◌<◌, ◌==◌, ◌||◌, ◌&&◌, not, Bool, true, false, T, List, [], ◌∷◌, length, Option, Some, None, if◌then◌else◌}
+use Rattle.std.specs.Prelude.{◌≡◌, ◌⊎◌, ℕ, ◌<◌, ◌==◌, ◌||◌, not, Bool, true, T, List, [], ◌∷◌, length, Option, Some, None, if◌then◌else◌}
 use Rattle.std.specs.List.{All, Contains}
 use Rattle.std.specs.FinMap.Entries.{find, is_sorted}
 use Rattle.object_words.specs.declared.bucket.Bucket.{Bucket}

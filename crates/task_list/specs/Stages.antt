@@ -1,5 +1,5 @@
 -- Where a listing stands, between own events.
-use Rattle.std.specs.Prelude.{◌≡◌, ◌⊎◌, ◌++◌, ℕ, ◌+◌, ◌-◌, ◌^◌, ◌<◌, ◌≤◌, ◌==◌, nat_lt, min, Bool, true, false, T, List, [], ◌∷◌, length, Option, Some, None, if◌then◌else◌}
+use Rattle.std.specs.Prelude.{◌≡◌, ◌⊎◌, ℕ, ◌<◌, ◌≤◌, Bool, true, false, T, List, [], ◌∷◌, length, Option, Some, None}
 use Rattle.std.specs.List.{All, Contains}
 use Rattle.std.specs.FinMap.Entries.{find, is_sorted}
 use Rattle.object_words.specs.declared.bucket.Bucket.{Bucket}
@@ -11,7 +11,6 @@ use Rattle.object_words.specs.Hashes.{shard_of}
 use Rattle.object_words.specs.Names.{name_cmp}
 use Rattle.object_words.specs.Rows.{RowView}
 use Rattle.realm_model.specs.Owns.{OwnEvent}
-use Rattle.realm_model.specs.declared.event.Reply.{Reply}
 use Rattle.realm_model.specs.declared.event.Reply.TheVariants.{Row, Entries, Head as head_reply}
 use Rattle.list_words.specs.declared.command.ListCommand.{ListCommand}
 use Rattle.list_words.specs.declared.row.ListedRow.{ListedRow}

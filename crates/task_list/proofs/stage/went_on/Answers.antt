@@ -1,4 +1,4 @@
-use Rattle.std.proofs.Common.{◌≡◌, List, ap, sym, subst}
+use Rattle.std.proofs.Common.{sym, subst}
 use Rattle.object_words.specs.declared.bucket.Bucket.{Bucket}
 use Rattle.task_list.specs.declared.merging.Next.{Next}
 use Rattle.task_list.specs.Progresses.{rows_in}

@@ -1,4 +1,4 @@
-use Rattle.std.proofs.Common.{◌≡◌, ◌<◌, List, None, Some, length, refl, sym, ◌∙◌, ap, subst, arith}
+use Rattle.std.proofs.Common.{Some, length, sym, ◌∙◌, subst, arith}
 use Rattle.std.proofs.lemmas.List.Sorted.{sum_by_popped}
 use Rattle.task_list.specs.declared.cursor.Cursor.{Cursor}
 use Rattle.task_list.specs.declared.merging.Passed.{Passed}

@@ -1,4 +1,4 @@
-use Rattle.std.proofs.Common.{◌≡◌, ◌<◌, None, refl, sym, ◌∙◌, subst}
+use Rattle.std.proofs.Common.{◌<◌, refl, subst}
 use Rattle.task_list.specs.Stages.{MergingFits}
 use Rattle.task_list.proofs.Merged.{first_page}
 use Rattle.task_list.proofs.merging.Merging.go_on.Goals as goal

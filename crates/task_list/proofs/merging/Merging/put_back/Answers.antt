@@ -1,4 +1,4 @@
-use Rattle.std.proofs.Common.{◌≡◌, ◌∷◌, [], List, ℕ, Some, None, IfSome, length, ap, sym, ◌∙◌, subst, refl, arith}
+use Rattle.std.proofs.Common.{◌≡◌, ◌∷◌, List, ℕ, IfSome, length, ap, ◌∙◌, subst, refl, arith}
 use Rattle.std.proofs.lemmas.List.Sorted.{sum_by_pushed}
 use Rattle.object_words.specs.Entries.{EntryView}
 use Rattle.task_list.specs.declared.cursor.Cursor.{Cursor}
