@@ -7,8 +7,8 @@ use Rattle.list_words.specs.declared.row.ListedRow.TheVariants.{Thing}
 use Rattle.list_words.specs.Listings.{thing_of}
 
 -- the row of an object of so many bytes
-abbrev pub row : ℕ → RowView
-row size = record {
+abbrev pub sized : ℕ → RowView
+sized size = record {
   exists = true;
   size = size;
   stamp = record { micros = 1700000000000000; zone = 1 };
@@ -18,11 +18,11 @@ row size = record {
 
 -- objects with these names, of one byte each
 abbrev pub named : List (List ℕ) → List (List ℕ × RowView)
-named names = map (λ name. (name, row 1)) names
+named names = map (λ name. (name, sized 1)) names
 
 -- an object's row in a listing
 abbrev pub listed : List ℕ → ListedRow
-listed name = Thing name (thing_of (row 1))
+listed name = Thing name (thing_of (sized 1))
 
 -- all names of a container
 abbrev pub all : ListCommand
