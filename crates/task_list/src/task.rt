@@ -104,12 +104,7 @@ impl ListTask {
 
     /// Makes the event that comes next.
     #[tactic(auto, using(crate::proofs::Turning::fits_next, crate::proofs::Turning::may_step))]
-    pub fn event<D: Door>(
-        &mut self,
-        alloc: Global,
-        door: &mut D,
-        moment: u64,
-    ) -> Result<(), DoorFault>
+    fn event<D: Door>(&mut self, alloc: Global, door: &mut D, moment: u64) -> Result<(), DoorFault>
         requires going { IsGoing (stage_of self.old) }
         requires sound { fault_of self.old ≡ None }
         requires fits { D.tells →
