@@ -232,8 +232,13 @@ impl Omap {
         ensures in_order { IsInOrder self.new.rows }
     {
         let place = gap_for(self.leaves.as_slice(), key);
-        let (row, leaf) = self.spares.make_row(key, value);
-        self.leaves.insert_with(place, row, leaf);
+        if self.leaves.has_room(place) {
+            let row = self.spares.make_row(key, value);
+            self.leaves.insert(place, row);
+        } else {
+            let (row, leaf) = self.spares.make_row_and_leaf(key, value);
+            self.leaves.insert_with(place, row, leaf);
+        }
     }
 
     /// Copies of the first rows whose keys are above `after`, at most `limit` of them, and whether

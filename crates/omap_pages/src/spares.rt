@@ -12,15 +12,13 @@ pub const SPARE_KEY_LEN: usize = 16;
 /// The longest value that a spare row takes, in bytes.
 pub const SPARE_VALUE_LEN: usize = 1040;
 
-// The buffers of a row that is not there yet, and a leaf for it.
+// The buffers of a row that is not there yet.
 #[derive(Debug, Drop)]
 struct SpareRow {
     key: Vec<u8>,
     value: Vec<u8>,
-    leaf: Leaf,
     ghost key_room: { SPARE_KEY_LEN ≤ vec_capacity key },
     ghost value_room: { SPARE_VALUE_LEN ≤ vec_capacity value },
-    ghost no_rows: { leaf ≡ [] },
 }
 
 impl SpareRow {
@@ -28,15 +26,35 @@ impl SpareRow {
         Ok(SpareRow {
             key: Vec::with_capacity(alloc, SPARE_KEY_LEN)?,
             value: Vec::with_capacity(alloc, SPARE_VALUE_LEN)?,
-            leaf: Leaf::new(alloc)?,
         })
+    }
+
+    // A row with this key and value.
+    fn into_row(self, key: &[u8], value: &[u8]) -> Row
+        requires key_fits { length key.now ≤ SPARE_KEY_LEN }
+        requires value_fits { length value.now ≤ SPARE_VALUE_LEN }
+        ensures key { result.0 ≡ key.now }
+        ensures value { result.1.value ≡ value.now }
+        ensures fits { length value.now ≤ result.1.room }
+    {
+        Row::new(filled(self.key, key), filled(self.value, value))
     }
 }
 
-// Rows that are not there yet, which contracts see as the number of them.
+// A leaf that is not there yet.
+#[derive(Debug, Drop)]
+struct SpareLeaf {
+    leaf: Leaf,
+    ghost no_rows: { leaf ≡ [] },
+}
+
+// Rows that are not there yet, which contracts see as the number of them, and leaves for them. Most rows go
+// into a leaf that is there, so leaves stay for later rows.
 #[derive(Debug, Drop)]
 pub(crate) struct Spares {
     rows: Vec<SpareRow>,
+    leaves: Vec<SpareLeaf>,
+    ghost enough: { vec_len rows ≤ vec_len leaves },
 }
 
 impl Model for Spares {
@@ -53,6 +71,7 @@ impl Spares {
     {
         Spares {
             rows: Vec::new(alloc),
+            leaves: Vec::new(alloc),
         }
     }
 
@@ -69,13 +88,29 @@ impl Spares {
         ensures enough { count ≤ self.old → IsOk result }
         ensures err { OnErr result (self.new ≡ self.old) }
     {
-        let missing = count.saturating_sub(self.rows.len());
-        let mut added = several(*self.rows.allocator(), missing)?;
-        self.rows.append(&mut added)
+        let alloc = *self.rows.allocator();
+        let mut rows = several_rows(alloc, count.saturating_sub(self.rows.len()))?;
+        let mut leaves = several_leaves(alloc, count.saturating_sub(self.leaves.len()))?;
+        self.leaves.append(&mut leaves)?;
+        self.rows.append(&mut rows)
     }
 
-    // One of them as a row with this key and value, and its leaf. Takes no memory.
-    pub(crate) fn make_row(&mut self, key: &[u8], value: &[u8]) -> (Row, Leaf)
+    // One of them as a row with this key and value. Takes no memory.
+    pub(crate) fn make_row(&mut self, key: &[u8], value: &[u8]) -> Row
+        requires some { 0 < self.old }
+        requires key_fits { length key.now ≤ SPARE_KEY_LEN }
+        requires value_fits { length value.now ≤ SPARE_VALUE_LEN }
+        ensures fewer { self.new + 1 ≡ self.old }
+        ensures key { result.0 ≡ key.now }
+        ensures value { result.1.value ≡ value.now }
+        ensures fits { length value.now ≤ result.1.room }
+    {
+        let spare = self.rows.pop().unwrap();
+        spare.into_row(key, value)
+    }
+
+    // One of them as a row with this key and value, and a leaf for it. Takes no memory.
+    pub(crate) fn make_row_and_leaf(&mut self, key: &[u8], value: &[u8]) -> (Row, Leaf)
         requires some { 0 < self.old }
         requires key_fits { length key.now ≤ SPARE_KEY_LEN }
         requires value_fits { length value.now ≤ SPARE_VALUE_LEN }
@@ -86,18 +121,30 @@ impl Spares {
         ensures leaf { result.1 ≡ [] }
     {
         let spare = self.rows.pop().unwrap();
-        let row = Row::new(filled(spare.key, key), filled(spare.value, value));
-        (row, spare.leaf)
+        let SpareLeaf { leaf } = self.leaves.pop().unwrap();
+        (spare.into_row(key, value), leaf)
     }
 }
 
-fn several(alloc: Global, count: usize) -> Result<Vec<SpareRow>, AllocError>
+fn several_rows(alloc: Global, count: usize) -> Result<Vec<SpareRow>, AllocError>
     ensures ok { IfOk result (λ spares. vec_len spares ≡ count) }
     ensures none { count ≡ 0 → IsOk result }
 {
     let mut spares = Vec::with_capacity(alloc, count)?;
     for _ in 0..count {
         spares.push(SpareRow::new(alloc)?)?;
+    }
+    Ok(spares)
+}
+
+fn several_leaves(alloc: Global, count: usize) -> Result<Vec<SpareLeaf>, AllocError>
+    ensures ok { IfOk result (λ spares. vec_len spares ≡ count) }
+    ensures none { count ≡ 0 → IsOk result }
+{
+    let mut spares = Vec::with_capacity(alloc, count)?;
+    for _ in 0..count {
+        let leaf = Leaf::new(alloc)?;
+        spares.push(SpareLeaf { leaf })?;
     }
     Ok(spares)
 }

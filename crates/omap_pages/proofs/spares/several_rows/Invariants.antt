@@ -1,5 +1,5 @@
 use Rattle.std.proofs.Common.{◌≡◌, vec_len}
-use Rattle.omap_pages.proofs.spares.several.Given as goal
+use Rattle.omap_pages.proofs.spares.several_rows.Given as goal
 
 abbrev pub invariant-loop : goal.invariant-loop
 invariant-loop l = vec_len l.spares ≡ l.counter
