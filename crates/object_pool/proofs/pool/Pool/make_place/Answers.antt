@@ -6,11 +6,11 @@ use Rattle.object_pool.specs.Objects.{Object, frames_of, is_key, nothing, exists
 use Rattle.object_pool.proofs.Touches.{still_there, at_key, no_bytes, no_object_changes, same_objects}
 use Rattle.object_pool.proofs.pool.Pool.make_place.Goals as goal
 
-there : (c : goal.After-drop-parts_mut-then-is_kept-2) → IsSome (lookup (is_key c.args.key.now) c.args.self.now.slots)
+there : (c : goal.After-drop-parts_mut-then-is_kept-3) → IsSome (lookup (is_key c.args.key.now) c.args.self.now.slots)
 there c = sym c.is_kept.ensures ∙ c.if-is_kept.true
 
 -- what is put there is nothing
-written : (c : goal.After-drop-parts_mut-then-is_kept-2) → set_value (is_key c.args.key.now) c.args.self.now.slots (record (slot_at c.args.self.now.slots c.args.key.now) { attrs = c.in_ok-self.field-0.attrs; rows = c.in_ok-self.field-0.rows }) ≡ set_value (is_key c.args.key.now) c.args.self.now.slots nothing
+written : (c : goal.After-drop-parts_mut-then-is_kept-3) → set_value (is_key c.args.key.now) c.args.self.now.slots (record (slot_at c.args.self.now.slots c.args.key.now) { attrs = c.in_ok-self.field-0.attrs; rows = c.in_ok-self.field-0.rows }) ≡ set_value (is_key c.args.key.now) c.args.self.now.slots nothing
 written c =
     let none = no_bytes (slot_at c.args.self.now.slots c.args.key.now) c.requires in
     let object : Parts → _ → Object = λ p b. record { bytes = b; attrs = p.attrs; rows = p.rows } in
