@@ -141,12 +141,6 @@ module _ (tells alone : Type 0) (site : Site) (form : ReplyForm) (asked : Asked)
       served s (subst (λ (t : Site). IsServed tells alone t form asked (side b z.intake z.ends) y s) same x)
   served_task other (Err fault) same x = tt
 
--- nothing was done
-pub unbegun_task : (tells alone : Type 0) (site : Site) (form : ReplyForm) (asked : Asked) (found : List Event) (z : Side) (fault : ServeFault) → fault ≡ faults.OutOfMemory
-    → StopsTask tells alone site form asked found z z fault
-unbegun_task tells alone site form asked found z fault is =
-    subst (StopsTask tells alone site form asked found z z) (sym is) (λ plan is_read. inl (refl, refl))
-
 -- where the one user asks under the own account
 pub site_is : (now settings : SettingsView) (zone : ℕ) (asker : Asker) → now ≡ settings → asker ≡ standard_asker
     → ◌≡◌ {A = Site} (record { settings = now; zone = zone; asker = asker }) (site_of settings zone)

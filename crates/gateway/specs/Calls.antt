@@ -5,7 +5,7 @@ use Rattle.realm_model.specs.Histories.{Legal}
 use Rattle.realm_model.specs.Settings.{SettingsView}
 use Rattle.realm_model.specs.declared.event.Event.{Event}
 use Rattle.realm_door.specs.Steps.{next_count, actor_of_pass, IsCounted, IsUnused, IsSame}
-use Rattle.swift_auth.specs.Users.{standard_user, account_of}
+use Rattle.swift_auth.specs.Users.{UserView, standard_user, account_of}
 use Rattle.task_words.specs.declared.asker.Asker.{Asker}
 use Rattle.call_words.specs.Calls.{Call, IsOfNext, IsRight, AreRight, actor_after}
 use Rattle.call_service.specs.Serving.{Site}
@@ -20,6 +20,13 @@ standard_asker = record { account = account_of standard_user; user = Some standa
 -- where a connection is served
 abbrev pub site_of : SettingsView → ℕ → Site
 site_of settings zone = record { settings = settings; zone = zone; asker = standard_asker }
+
+-- requests are served in a zone of the realm, whose settings the door has, and asked by the one user
+pub record IsSite (settings of_door : SettingsView) (zone : ℕ) (user : UserView) : Type 0 where
+  pub low : 1 ≤ zone
+  pub high : zone ≤ settings.zones
+  pub same : of_door ≡ settings
+  pub user_is : user ≡ standard_user
 
 -- ---- actors
 

@@ -6,7 +6,6 @@ mod laws;
 mod refusal;
 mod request;
 mod serve;
-mod task;
 mod turn;
 
 pub use call_service::ServeFault;

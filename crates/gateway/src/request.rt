@@ -1,30 +1,32 @@
 //! One request whose head was read: its reply, and what it leaves of the connection.
-ghost use Rattle.std.specs.Prelude.{◌≡◌, ◌≤◌, ◌<◌, Ok, Err, length, IfOk, IfErr};
-ghost use Rattle.swift_auth.specs.Users.{standard_user};
+ghost use Rattle.std.specs.Prelude.{◌≡◌, ◌≤◌, ◌<◌, length, IfOk, IfErr};
 ghost use Rattle.swift_requests.specs.Asks.{asked_of};
 ghost use Rattle.call_words.specs.Streams.{use_of};
 ghost use Rattle.http_model.specs.Forms.{is_bodiless};
 ghost use Rattle.call_service.specs.Serving.{Side, HasServeCause, side};
-ghost use Rattle.gateway.specs.Calls.{MayBegin, site_of};
+ghost use Rattle.gateway.specs.Calls.{MayBegin, IsSite, site_of};
 ghost use Rattle.gateway.specs.Requests.{IsBehindHead, Serves, Stops};
 ghost use Rattle.gateway.specs.Serving.{ReadsHead};
 ghost use Rattle.gateway.specs.Texts.{closing_end};
 ghost use Rattle.gateway.specs.Turns.{ComesTo, WritesFew};
 
 use crate::ConnEnd;
+use crate::asker::asker_of;
 use crate::refusal::serve_refused;
-use crate::task::{serve_next_get, serve_next_put};
 use crate::turn::Turn;
 use call_service::{ServeFault, Served};
+use get_service::serve_get;
 use gw_io::{Clock, Ends, Sink, Source};
 use http_intake::Intake;
 use http_model::{Head, ReplyForm};
+use put_service::serve_put;
 use realm_door::Door;
 use realm_model::Settings;
 use std::alloc::Global;
 use swift_auth::User;
 use swift_reply::SwiftRefusal;
 use swift_requests::{Asked, body_use, closes, read_asked};
+use task_get::GetRequest;
 
 /// How a connection ends behind a reply that closes it.
 fn closing_end(asked: &Asked) -> ConnEnd
@@ -36,7 +38,7 @@ fn closing_end(asked: &Asked) -> ConnEnd
     }
 }
 
-/// Replies to what a request asks.
+/// Replies to what a request asks; what makes events is a task of the next actor of the pass.
 fn serve_asked<D: Door, S: Source, K: Sink, C: Clock>(
     alloc: Global,
     settings: &Settings,
@@ -54,10 +56,7 @@ fn serve_asked<D: Door, S: Source, K: Sink, C: Clock>(
     out: &mut Vec<u8>,
 ) -> Result<Served, ServeFault>
     requires room { 0 < length buffer.old }
-    requires low { 1 ≤ zone }
-    requires high { zone ≤ settings.now.zones }
-    requires same { D.settings door.old ≡ settings.now }
-    requires user { user.now ≡ standard_user }
+    requires site { IsSite settings.now (D.settings door.old) zone user.now }
     requires behind { IsBehindHead intake.old head.now }
     requires most { settings.now.largest ≤ 5368709120 }
     requires asks { asked ≡ asked_of settings.now.largest head.now }
@@ -77,12 +76,22 @@ fn serve_asked<D: Door, S: Source, K: Sink, C: Clock>(
     ensures kept { length buffer.new ≡ length buffer.old }
 {
     match asked {
-        Asked::Put(put) => serve_next_put(
-            alloc, settings, zone, user, put, form, door, clock, intake, source, sink, buffer, out,
-        ),
-        Asked::Get(get) => serve_next_get(
-            alloc, settings, zone, user, get, form, door, clock, intake, source, sink, buffer, out,
-        ),
+        Asked::Put(put) => {
+            let asker = asker_of(user)?;
+            door.begin();
+            serve_put(
+                alloc, settings, zone, asker, put, form, door, clock, intake, source, sink, buffer,
+                out,
+            )
+        }
+        Asked::Get(get) => {
+            let asker = asker_of(user)?;
+            let request = GetRequest { zone, asker, get };
+            door.begin();
+            serve_get(
+                alloc, request, form, door, clock, intake, source, sink, buffer, out,
+            )
+        }
         refused => {
             let plan = body_use(settings.largest, head, &refused);
             serve_refused(&refused, plan, form, intake, source, sink, buffer, out)
@@ -107,10 +116,7 @@ pub(crate) fn serve_request<D: Door, S: Source, K: Sink, C: Clock>(
     out: &mut Vec<u8>,
 ) -> Result<Turn, ServeFault>
     requires room { 0 < length buffer.old }
-    requires low { 1 ≤ zone }
-    requires high { zone ≤ settings.now.zones }
-    requires same { D.settings door.old ≡ settings.now }
-    requires user { user.now ≡ standard_user }
+    requires site { IsSite settings.now (D.settings door.old) zone user.now }
     requires behind { IsBehindHead intake.old head.now }
     requires may { D.tells → MayBegin settings.now (D.told door.old) }
 

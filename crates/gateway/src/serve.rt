@@ -1,7 +1,6 @@
 ghost use Rattle.std.specs.Prelude.{◌≡◌, ◌≤◌, ◌<◌, length};
-ghost use Rattle.swift_auth.specs.Users.{standard_user};
 ghost use Rattle.http_intake.specs.Intake.{fresh};
-ghost use Rattle.gateway.specs.Calls.{MayBegin, site_of};
+ghost use Rattle.gateway.specs.Calls.{MayBegin, IsSite, site_of};
 ghost use Rattle.gateway.specs.Serving.{ServesConnection};
 
 use crate::ServeFault;
@@ -101,10 +100,7 @@ fn serve_requests<D: Door, S: Source, K: Sink, C: Clock>(
     buffer: &mut [u8],
 ) -> Result<Served, ServeFault>
     requires room { 0 < length buffer.old }
-    requires low { 1 ≤ zone }
-    requires high { zone ≤ settings.now.zones }
-    requires same { D.settings door.old ≡ settings.now }
-    requires user { user.now ≡ standard_user }
+    requires site { IsSite settings.now (D.settings door.old) zone user.now }
     requires unread { intake.old ≡ fresh settings.now.largest }
     requires may { D.tells → MayBegin settings.now (D.told door.old) }
     ensures served { ServesConnection D.tells D.alone (site_of settings.now zone) (D.found door.new)

@@ -1,13 +1,12 @@
 //! One turn of a connection: the next request is read and replied to.
-ghost use Rattle.std.specs.Prelude.{◌≡◌, ◌≤◌, ◌<◌, length, IfOk, IfErr};
-ghost use Rattle.swift_auth.specs.Users.{standard_user};
+ghost use Rattle.std.specs.Prelude.{◌≡◌, ◌<◌, length, IfOk, IfErr};
 ghost use Rattle.call_service.specs.Serving.{side, WritesAtFault, HasServeCause};
 ghost use Rattle.std.specs.Io.KnownBytes.{Appends};
 ghost use Rattle.http_model.specs.Replies.{bad_request_text};
 ghost use Rattle.gateway.specs.declared.serve.ConnEnd.TheVariants as ends;
 ghost use Rattle.gateway.specs.Texts.{closing};
 ghost use Rattle.gateway.specs.Serving.{LeavesText};
-ghost use Rattle.gateway.specs.Calls.{MayBegin, site_of};
+ghost use Rattle.gateway.specs.Calls.{MayBegin, IsSite, site_of};
 ghost use Rattle.gateway.specs.Requests.{IsReady};
 ghost use Rattle.gateway.specs.Turns.{TakesTurn, EndsHeads, EndsSo, LeavesSo};
 
@@ -85,10 +84,7 @@ pub(crate) fn take_turn<D: Door, S: Source, K: Sink, C: Clock>(
     out: &mut Vec<u8>,
 ) -> Result<Turn, ServeFault>
     requires room { 0 < length buffer.old }
-    requires low { 1 ≤ zone }
-    requires high { zone ≤ settings.now.zones }
-    requires same { D.settings door.old ≡ settings.now }
-    requires user { user.now ≡ standard_user }
+    requires site { IsSite settings.now (D.settings door.old) zone user.now }
     requires ready { IsReady intake.old }
     requires may { D.tells → MayBegin settings.now (D.told door.old) }
     ensures turn { TakesTurn D.tells D.alone (site_of settings.now zone) k (D.found door.new)
