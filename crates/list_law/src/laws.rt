@@ -1,0 +1,35 @@
+//! Laws of the definitions: the functions here do nothing.
+ghost use Rattle.std.specs.Prelude.{◌≡◌, ℕ, List};
+ghost use Rattle.std.specs.List.{Contains};
+ghost use Rattle.realm_model.specs.Settings.{SettingsView, IsSettings};
+ghost use Rattle.realm_model.specs.Phases.{ActorId};
+ghost use Rattle.realm_model.specs.Maps.{slot_at, heads};
+ghost use Rattle.realm_model.specs.Owns.{OwnEvent, own_events};
+ghost use Rattle.realm_model.specs.Histories.{account_of, Legal};
+ghost use Rattle.realm_model.specs.declared.event.Event.{Event as EventOf};
+ghost use Rattle.list_words.specs.declared.row.ListedRow.{ListedRow as RowOf};
+ghost use Rattle.list_words.specs.Listings.{rows_of};
+ghost use Rattle.task_list.specs.declared.request.ListRequest.{ListRequest as RequestOf};
+ghost use Rattle.task_list.specs.Listed.{ListedBy};
+ghost use Rattle.list_law.specs.Maps.{live_names, slot_after, AreOfMap};
+
+/// The rows of a listing that ends in a legal history, whatever others do between its events, are those
+/// of a map in which each name has what the container had under it at one of the listing's own events.
+/// The container is the one whose row its last own bucket read showed.
+pub fn listings_are_of_a_map()
+    ensures { (settings : SettingsView) (history : List EventOf) (actor : ActorId)
+        → (r : RequestOf) (rows : List RowOf) → IsSettings settings → Legal settings history
+        → (listed : ListedBy r rows (account_of settings history actor) (own_events history actor))
+        → AreOfMap history r.zone r.command listed.row.id rows (own_events history actor) }
+{}
+
+/// Where no name of the container changed from the listing's first event to its last, the rows are those
+/// of the container's map.
+pub fn calm_listings_are_of_the_map()
+    ensures { (settings : SettingsView) (history : List EventOf) (actor : ActorId)
+        → (r : RequestOf) (rows : List RowOf) → IsSettings settings → Legal settings history
+        → (listed : ListedBy r rows (account_of settings history actor) (own_events history actor))
+        → ((own : OwnEvent) (name : List ℕ) → Contains (own_events history actor) own
+        → slot_after history own.number r.zone listed.row.id name ≡ slot_at (heads history r.zone listed.row.id) name)
+        → rows ≡ rows_of r.command (live_names (heads history r.zone listed.row.id)) }
+{}
