@@ -1,3 +1,4 @@
 pub mod Bodies
 pub mod Serving
+pub mod Replying
 pub mod Faults

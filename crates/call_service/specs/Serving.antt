@@ -19,7 +19,7 @@ use Rattle.realm_model.specs.declared.event.Reply.TheVariants.{No}
 use Rattle.object_words.specs.declared.why.Why.TheVariants.{Gone}
 use Rattle.realm_door.specs.Steps.{Grows}
 use Rattle.swift_requests.specs.declared.asked.Asked.{Asked}
-use Rattle.swift_requests.specs.declared.asked.Asked.TheVariants.{BadHost, Refused, Put, Get}
+use Rattle.swift_requests.specs.declared.asked.Asked.TheVariants.{BadHost, Refused, Put, Get, Listing}
 use Rattle.task_words.specs.declared.asker.Asker.{Asker}
 use Rattle.task_words.specs.declared.outcome.Outcome.{Outcome}
 use Rattle.task_words.specs.declared.outcome.Outcome.TheVariants.{Done, BodyFailed, LateRead}
@@ -106,6 +106,12 @@ pub record AppendsFront (old new : Option (List ℕ)) (bytes : List ℕ) : Type 
   pub grown : Appends old new front
   pub whole : bytes ≡ front ++ rest
 
+-- what a fault leaves of a text: nothing for want of memory, a front where a write failed
+abbrev pub LeavesText : Option (List ℕ) → Option (List ℕ) → List ℕ → ServeFault → Type 0
+LeavesText old new text faults.OutOfMemory = Appends old new []
+LeavesText old new text faults.WriteFault = AppendsFront old new text
+LeavesText old new text fault = ⊥
+
 -- the present actor's account and events bear out that its task ended so
 abbrev pub BearsOut : Site → Asked → List ℕ → Outcome → List ℕ → DoorView → Type 0
 BearsOut site asked body outcome shown e =
@@ -171,6 +177,7 @@ abbrev pub IsLateIn : Site → Asked → DoorView → ℕ → ℕ → Type 0
 IsLateIn site BadHost e read_at clock = ⊥
 IsLateIn site (Refused why) e read_at clock = ⊥
 IsLateIn site (Put c) e read_at clock = ⊥
+IsLateIn site (Listing c listing) e read_at clock = ⊥
 IsLateIn site (Get c) e read_at clock =
     IsGetOutcome site.zone site.asker c (LateRead read_at clock) (account_of site.settings e.seen (actor_at e))
     × MissesStripe clock (own_events e.seen (actor_at e))

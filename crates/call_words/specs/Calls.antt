@@ -13,7 +13,7 @@ use Rattle.realm_door.specs.Steps.{IsSame, actor_of_pass}
 use Rattle.swift_reply.specs.declared.reply.SwiftReply.TheVariants as Swift
 use Rattle.swift_reply.specs.Replies as swift
 use Rattle.swift_requests.specs.declared.asked.Asked.{Asked}
-use Rattle.swift_requests.specs.declared.asked.Asked.TheVariants.{BadHost, Refused, Put, Get}
+use Rattle.swift_requests.specs.declared.asked.Asked.TheVariants.{BadHost, Refused, Put, Get, Listing}
 use Rattle.task_words.specs.declared.asker.Asker.{Asker}
 use Rattle.task_words.specs.declared.command.GetCommand.{GetCommand}
 use Rattle.task_words.specs.declared.command.BodyEnd.TheVariants.{Whole}
@@ -22,7 +22,8 @@ use Rattle.task_words.specs.declared.outcome.Outcome.TheVariants.{Done}
 use Rattle.task_words.specs.declared.reply.MapReply.TheVariants.{Shown}
 use Rattle.task_words.specs.Answers.{get, answer, span_of}
 use Rattle.task_words.specs.Outcomes.{Body, IsGetOutcome, IsPutOutcome}
-use Rattle.call_words.specs.Texts.{outcome_reply, HasReply, text_if}
+use Rattle.task_list.specs.Listed.{IsListOutcome, AreOfListing}
+use Rattle.call_words.specs.Texts.{outcome_reply, list_reply, HasReply, text_if}
 use Rattle.call_words.specs.Events.{AreOfGet, AreOfPut}
 
 -- ---- calls
@@ -50,6 +51,8 @@ text_by form (Put c) alone shown = []
 text_by form (Put c) (task actor outcome) shown = text_if form (outcome_reply None outcome) []
 text_by form (Get c) alone shown = []
 text_by form (Get c) (task actor outcome) shown = text_if form (outcome_reply (span_of c) outcome) shown
+text_by form (Listing c listing) alone shown = []
+text_by form (Listing c listing) (task actor outcome) shown = text_if form (list_reply listing outcome) []
 
 abbrev pub call_text : ReplyForm → Call → List ℕ
 call_text form call = text_by form call.asked call.ground call.shown
@@ -80,6 +83,9 @@ IsBorneOut zone asker (Put c) body outcome shown y events =
 IsBorneOut zone asker (Get c) body outcome shown y events =
     IsGetOutcome zone asker c outcome y × HasReply (outcome_reply (span_of c) outcome) × AreShownBy zone c outcome shown y.decided
     × AreOfGet events
+IsBorneOut zone asker (Listing c listing) body outcome shown y events =
+    IsListOutcome (record { zone = zone; asker = asker; command = c }) outcome y events × HasReply (list_reply listing outcome)
+    × (shown ≡ []) × AreOfListing events
 
 -- the request is refused before any name is looked at
 abbrev pub IsRefused : Asked → Type 0
@@ -87,6 +93,7 @@ IsRefused BadHost = Unit {0}
 IsRefused (Refused why) = Unit {0}
 IsRefused (Put c) = ⊥
 IsRefused (Get c) = ⊥
+IsRefused (Listing c listing) = ⊥
 
 -- what a reply rests on is so in a history
 abbrev pub RestsOn : SettingsView → ℕ → Asker → ℕ → List Event → Asked → List ℕ → List ℕ → Ground → Type 0

@@ -6,6 +6,7 @@ use Rattle.swift_auth.specs.declared.policy.Rule.{Rule}
 use Rattle.swift_auth.specs.declared.policy.Rule.TheVariants as Rules
 use Rattle.swift_reply.specs.declared.reply.Denial.{Denial}
 use Rattle.swift_reply.specs.declared.reply.Denial.TheVariants as Denied
+use Rattle.swift_reply.specs.declared.reply.ListingForm.{ListingForm}
 use Rattle.swift_reply.specs.declared.reply.ShownSpan.{ShownSpan}
 use Rattle.swift_reply.specs.declared.reply.SwiftRefusal.{SwiftRefusal}
 use Rattle.swift_reply.specs.declared.reply.SwiftRefusal.TheVariants as Why
@@ -15,7 +16,7 @@ use Rattle.swift_reply.specs.Replies.{reply_head, reply_text}
 use Rattle.task_words.specs.declared.outcome.Outcome.{Outcome}
 use Rattle.task_words.specs.declared.outcome.Outcome.TheVariants.{Done, BodyFailed, Busy, MovedOften, RacedOften, LateTag, LateRead, NoSpace}
 use Rattle.task_words.specs.declared.reply.MapReply.{MapReply}
-use Rattle.task_words.specs.declared.reply.MapReply.TheVariants.{Stored, Shown, Same, Counted, Refused}
+use Rattle.task_words.specs.declared.reply.MapReply.TheVariants.{Stored, Shown, Same, Counted, Listed, Refused}
 use Rattle.task_words.specs.declared.reply.Refusal.{Refusal}
 use Rattle.task_words.specs.declared.reply.Refusal.TheVariants as Map
 use Rattle.task_words.specs.declared.span.Span.{Span}
@@ -54,6 +55,7 @@ reply_in asked (Shown kind meta etag stamp size start count) = Some (Swift.Shown
 }) (span_shown asked size start count))
 reply_in asked (Same etag stamp) = Some (Swift.Same etag stamp)
 reply_in asked (Counted row objects bytes) = None
+reply_in asked (Listed rows) = None
 reply_in asked (Refused refusal) = Some (Swift.Refused (refusal_in refusal))
 
 -- the refusal that an end of a task without a reply by what is stored is. A body that failed, and a stripe that was gone, have
@@ -72,6 +74,13 @@ refusal_by (NoSpace free needed) = Some (Why.NoSpace free needed)
 abbrev pub outcome_reply : Option Span → Outcome → Option SwiftReply
 outcome_reply asked (Done reply) = reply_in asked reply
 outcome_reply asked outcome = option_map Swift.Refused (refusal_by outcome)
+
+-- the reply to a listing whose task ended so, with its rows in this form
+abbrev pub list_reply : ListingForm → Outcome → Option SwiftReply
+list_reply listing (Done (Listed rows)) = Some (Swift.Listed rows listing)
+list_reply listing (Done (Refused refusal)) = Some (Swift.Refused (refusal_in refusal))
+list_reply listing (Done reply) = None
+list_reply listing outcome = option_map Swift.Refused (refusal_by outcome)
 
 -- ---- texts
 

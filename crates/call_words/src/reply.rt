@@ -3,13 +3,13 @@ ghost use Rattle.std.specs.Prelude.{◌≡◌, ◌++◌, [], OnOk};
 ghost use Rattle.swift_reply.specs.declared.reply.SwiftReply.TheVariants.{Refused};
 ghost use Rattle.swift_reply.specs.Replies.{reply_text};
 ghost use Rattle.task_words.specs.Spans.{is_partial};
-ghost use Rattle.call_words.specs.Texts.{denial_of, refusal_in, refusal_by, reply_in, span_shown, outcome_reply, HasReply, front_if};
+ghost use Rattle.call_words.specs.Texts.{denial_of, refusal_in, refusal_by, reply_in, span_shown, outcome_reply, list_reply, HasReply, front_if, text_if};
 
 use http_model::ReplyForm;
-use std::alloc::AllocError;
+use std::alloc::{AllocError, Global};
 use swift_auth::Rule;
 use swift_reply::{
-    Denial, ShownSpan, SwiftRefusal, push_refusal, push_same, push_shown_head, push_span_head,
+    Denial, ListingForm, ShownSpan, SwiftRefusal, push_listed, push_refusal, push_same, push_shown_head, push_span_head,
     push_stored,
 };
 use task_words::{MapReply, Outcome, Refusal, Span};
@@ -66,7 +66,7 @@ pub fn push_map_reply(
         MapReply::Stored { etag, stamp } => push_stored(out, etag, *stamp, form),
         MapReply::Same { etag, stamp } => push_same(out, etag, *stamp, form),
         MapReply::Refused(refusal) => push_refusal(out, &refusal_in(*refusal), form),
-        MapReply::Counted { .. } => unreachable!(),
+        MapReply::Counted { .. } | MapReply::Listed(_) => unreachable!(),
         MapReply::Shown {
             kind,
             meta,
@@ -124,5 +124,29 @@ pub fn push_outcome(
     match refusal_by(outcome) {
         Some(refusal) => push_refusal(out, &refusal, form),
         None => unreachable!(),
+    }
+}
+
+/// Adds the reply to a listing whose task ended so. An end that is not replied adds nothing.
+pub fn push_list_outcome(
+    alloc: Global,
+    out: &mut Vec<u8>,
+    outcome: &Outcome,
+    listing: ListingForm,
+    form: ReplyForm,
+) -> Result<(), AllocError>
+    requires { HasReply (list_reply listing outcome.now) }
+    ensures { OnOk result (out.new.items ≡ out.old.items ++ text_if form (list_reply listing outcome.now) []) }
+{
+    match outcome {
+        Outcome::Done(MapReply::Listed(rows)) => push_listed(alloc, out, rows, listing, form),
+        Outcome::Done(MapReply::Refused(refusal)) => {
+            push_refusal(out, &refusal_in(*refusal), form)
+        }
+        Outcome::Done(_) => unreachable!(),
+        _ => match refusal_by(outcome) {
+            Some(refusal) => push_refusal(out, &refusal, form),
+            None => unreachable!(),
+        },
     }
 }

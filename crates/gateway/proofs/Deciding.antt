@@ -4,7 +4,7 @@ use Rattle.realm_model.specs.Accounts.{blank}
 use Rattle.realm_model.specs.Owns.{OwnEvent}
 use Rattle.swift_auth.specs.declared.policy.Deed.{Deed}
 use Rattle.swift_requests.specs.declared.asked.Asked.{Asked}
-use Rattle.swift_requests.specs.declared.asked.Asked.TheVariants.{BadHost, Refused, Put, Get}
+use Rattle.swift_requests.specs.declared.asked.Asked.TheVariants.{BadHost, Refused, Put, Get, Listing}
 use Rattle.task_words.specs.declared.asker.Asker.{Asker}
 use Rattle.task_words.specs.declared.command.GetCommand.{GetCommand}
 use Rattle.task_words.specs.declared.command.PutCommand.{PutCommand}
@@ -15,6 +15,8 @@ use Rattle.task_words.specs.declared.reply.MapReply.TheVariants as Map
 use Rattle.task_words.specs.declared.reply.Refusal.{Refusal}
 use Rattle.task_words.specs.declared.reply.Refusal.TheVariants.{Unauthorized, Denied, NoContainer, NoObject, NotMet, NoRange, OtherEtag}
 use Rattle.task_words.specs.Answers.{Command}
+use Rattle.task_list.specs.declared.request.ListRequest.{ListRequest}
+use Rattle.task_list.specs.Listed.{IsListReply, IsListOutcome}
 use Rattle.task_words.specs.Outcomes.{LookedUp, ByMap, Body, IsGetReply, IsGetOutcome, IsPutReply, IsPutOutcome}
 use Rattle.call_words.specs.Calls.{IsBorneOut, whole}
 
@@ -39,6 +41,7 @@ get_reply zone asker c (Map.Stored etag stamp) x = no_map _ _ _ _ x.0
 get_reply zone asker c (Map.Same etag stamp) x = no_map _ _ _ _ x.0
 get_reply zone asker c (Map.Shown kind meta etag stamp size start count) x = no_map _ _ _ _ x.0
 get_reply zone asker c (Map.Counted row objects bytes) x = no_map _ _ _ _ x.0
+get_reply zone asker c (Map.Listed rows) x = no_map _ _ _ _ x.0
 
 get_outcome : (zone : ℕ) (asker : Asker) (c : GetCommand) (outcome : Outcome) → IsGetOutcome zone asker c outcome blank → ⊥
 get_outcome zone asker c (Done reply) x = get_reply zone asker c reply x
@@ -62,6 +65,7 @@ put_reply zone asker c body (Map.Stored etag stamp) events x = no_map _ _ _ _ x.
 put_reply zone asker c body (Map.Same etag stamp) events x = x
 put_reply zone asker c body (Map.Shown kind meta etag stamp size start count) events x = x
 put_reply zone asker c body (Map.Counted row objects bytes) events x = x
+put_reply zone asker c body (Map.Listed rows) events x = x
 
 put_outcome : (zone : ℕ) (asker : Asker) (c : PutCommand) (body : Body) (outcome : Outcome) (events : List OwnEvent) → IsPutOutcome zone asker c body outcome blank events → ⊥
 put_outcome zone asker c body (Done reply) events x = put_reply zone asker c body reply events x
@@ -73,9 +77,20 @@ put_outcome zone asker c body LateTag events x = no_look _ _ _ _ _ x.0.by_row
 put_outcome zone asker c body (LateRead read_at clock) events x = x
 put_outcome zone asker c body (NoSpace free needed) events x = no_look _ _ _ _ _ x.0.by_row
 
+list_reply : (r : ListRequest) (reply : MapReply) (events : List OwnEvent) → IsListReply r reply blank events → ⊥
+list_reply r (Map.Listed rows) events x = none_some x.look x.is_last
+list_reply r (Map.Refused refusal) events x = no_look _ _ _ _ _ x.1
+list_reply r reply events x = x
+
+list_outcome : (r : ListRequest) (outcome : Outcome) (events : List OwnEvent) → IsListOutcome r outcome blank events → ⊥
+list_outcome r (Done reply) events x = list_reply r reply events x.0
+list_outcome r MovedOften events x = no_look _ _ _ _ _ x.0
+list_outcome r outcome events x = x
+
 -- nothing is borne out by an actor without events
 pub not_blank : (zone : ℕ) (asker : Asker) (asked : Asked) (body shown : List ℕ) (outcome : Outcome) (events : List OwnEvent) → IsBorneOut zone asker asked body outcome shown blank events → ⊥
 not_blank zone asker BadHost body shown outcome events x = x
 not_blank zone asker (Refused why) body shown outcome events x = x
 not_blank zone asker (Put c) body shown outcome events x = put_outcome zone asker c (whole body) outcome events x.0
 not_blank zone asker (Get c) body shown outcome events x = get_outcome zone asker c outcome x.0
+not_blank zone asker (Listing c l) body shown outcome events x = list_outcome (record { zone = zone; asker = asker; command = c }) outcome events x.0

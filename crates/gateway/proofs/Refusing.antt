@@ -12,7 +12,7 @@ use Rattle.gateway.specs.declared.serve.ConnEnd.TheVariants as conn
 use Rattle.gateway.specs.declared.turn.Turn.{Turn}
 use Rattle.gateway.specs.declared.turn.Turn.TheVariants.{Over}
 use Rattle.gateway.specs.Texts.{closing}
-use Rattle.gateway.specs.Serving.{LeavesText}
+use Rattle.call_service.specs.Serving.{LeavesText}
 use Rattle.gateway.specs.Turns.{end_for, EndsSo, LeavesSo}
 
 module _ (cause : IntakeFault) (word : BadRequest) (bodiless : Bool) (taken taken' : Option (List ℕ)) where

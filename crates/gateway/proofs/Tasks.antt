@@ -13,13 +13,13 @@ use Rattle.realm_model.specs.Doors.{DoorView, actor_at}
 use Rattle.realm_model.specs.declared.event.Event.{Event}
 use Rattle.realm_door.specs.Steps.{actor_of_pass, next_count, begun}
 use Rattle.swift_requests.specs.declared.asked.Asked.{Asked}
-use Rattle.swift_requests.specs.declared.asked.Asked.TheVariants.{BadHost, Refused, Put, Get}
 use Rattle.swift_requests.specs.declared.body.BodyUse.{BodyUse}
 use Rattle.swift_requests.specs.declared.body.BodyUse.TheVariants.{Fed, Dropped, Unread}
 use Rattle.task_words.specs.declared.outcome.Outcome.{Outcome}
-use Rattle.call_words.specs.Calls.{task, text_by, IsBorneOut}
+use Rattle.call_words.specs.Calls.{task, IsBorneOut}
 use Rattle.call_words.specs.Streams.{IsRead}
 use Rattle.call_service.specs.Bodies.{HasGivenAll}
+use Rattle.call_service.proofs.Replying.{any_actor}
 use Rattle.call_service.specs.Serving.{Site, Side, side, own_moments, Acts, is_by_end, Tells, BearsOut, IsReplied, LeavesUnwritten, IsServed, IsStopped}
 use Rattle.call_service.specs.declared.fault.ServeFault.{ServeFault}
 use Rattle.call_service.specs.declared.fault.ServeFault.TheVariants as faults
@@ -31,13 +31,6 @@ use Rattle.gateway.specs.Calls.{standard_asker, site_of, MayBegin, IsSettled}
 use Rattle.gateway.specs.Requests.{TakesBody, IsLeftBy, IsUnanswered, Replies, LeavesTask, LeavesAsked, ServesTask, StopsTask}
 use Rattle.gateway.proofs.Growing.{new_actor, new_moments, grown_count, grown_most, advances_one}
 use Rattle.gateway.proofs.Deciding.{not_blank}
-
--- the text of a reply does not say whose task it was
-same_text : (form : ReplyForm) (asked : Asked) (a b : ℕ) (outcome : Outcome) (shown : List ℕ) → text_by form asked (task a outcome) shown ≡ text_by form asked (task b outcome) shown
-same_text form BadHost a b outcome shown = refl
-same_text form (Refused why) a b outcome shown = refl
-same_text form (Put c) a b outcome shown = refl
-same_text form (Get c) a b outcome shown = refl
 
 -- a body that was given whole was taken, where it is read
 pub given_taken : (plan : BodyUse) (n : ℕ) (old new : IntakeState) (a b : Option (List ℕ)) (body : List ℕ) → IsRead plan n → HasGivenAll old new a b body → TakesBody plan old new a b body
@@ -95,7 +88,7 @@ module _ (tells alone : Type 0) (site : Site) (form : ReplyForm) (asked : Asked)
     ground = task (next_count z.door) r.outcome;
     shown = r.shown;
     answered = record {
-      written = subst (Appends z.ends.taken y.ends.taken) (same_text form asked b.count (next_count z.door) r.outcome r.shown) r.written;
+      written = subst (Appends z.ends.taken y.ends.taken) (any_actor form asked r.outcome r.shown b.count (next_count z.door)) r.written;
       moments = r.asks.clock;
       asked_clock = r.asks.asked_clock;
       each = λ is. subst (Tells (is_by_end r.outcome) r.asks.clock)

@@ -17,7 +17,7 @@ use Rattle.realm_door.specs.Steps.{next_count, begun}
 use Rattle.swift_requests.specs.Asks.{asked_of}
 use Rattle.swift_requests.specs.Bodies.{is_unread, closes}
 use Rattle.swift_requests.specs.declared.asked.Asked.{Asked}
-use Rattle.swift_requests.specs.declared.asked.Asked.TheVariants.{BadHost, Refused, Put, Get}
+use Rattle.swift_requests.specs.declared.asked.Asked.TheVariants.{BadHost, Refused, Put, Get, Listing}
 use Rattle.swift_requests.specs.declared.body.BodyUse.{BodyUse}
 use Rattle.swift_requests.specs.declared.body.BodyUse.TheVariants.{Fed, Dropped, Unread}
 use Rattle.call_words.specs.Calls.{Ground, Call, call_text, actor_after}
@@ -115,6 +115,7 @@ module _ (tells alone : Type 0) (site : Site) (form : ReplyForm) (found : List E
   asked_left (Refused w) plan z y fault may (left, idle) is = same_left alone site z.door y.door may idle.door
   asked_left (Put c) plan z y fault may (b, begins, x) is = task_left (Put c) z y b fault may begins x is
   asked_left (Get c) plan z y fault may (b, begins, x) is = task_left (Get c) z y b fault may begins x is
+  asked_left (Listing c l) plan z y fault may (b, begins, x) is = task_left (Listing c l) z y b fault may begins x is
 
   request_left : (asked : Asked) (plan : BodyUse) (z y : Side) (fault : ServeFault) → MayBegin site.settings z.door → LeavesRequest tells alone site form asked plan found z y fault → tells
       → IsLeftBy alone site z.door y.door

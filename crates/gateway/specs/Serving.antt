@@ -68,12 +68,6 @@ IsTidy tells e pass last later Ends.Cut = tells → later ≡ own_moments e.seen
 IsTidy tells e pass last later (Ends.Refused word bodiless) = IsDone tells e last later
 IsTidy tells e pass last later (Ends.NotBuilt bodiless) = IsDone tells e last later
 
--- the text was not made, or a front of it was written
-abbrev pub LeavesText : Option (List ℕ) → Option (List ℕ) → List ℕ → ServeFault → Type 0
-LeavesText taken taken' text faults.OutOfMemory = Appends taken taken' []
-LeavesText taken taken' text faults.WriteFault = AppendsFront taken taken' text
-LeavesText taken taken' text fault = ⊥
-
 -- ---- served to an end
 
 -- What waited and what was read are the requests of these calls and that end; what was written are the texts of their replies;

@@ -1,4 +1,5 @@
-//! One connection of the gateway: requests on objects in, replies out, through a door of the realm.
+//! One connection of the gateway: requests on objects and containers in, replies out, through a door of the
+//! realm.
 #![tactic(auto)]
 
 mod asker;

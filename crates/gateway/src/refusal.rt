@@ -4,11 +4,10 @@ ghost use Rattle.std.specs.Io.KnownBytes.{Appends};
 ghost use Rattle.http_model.specs.Replies.{bad_request_text};
 ghost use Rattle.call_words.specs.Calls.{alone, text_by, IsRefused};
 ghost use Rattle.call_service.specs.Bodies.{ReadsAtFault};
-ghost use Rattle.call_service.specs.Serving.{AppendsFront, WritesAtFault};
+ghost use Rattle.call_service.specs.Serving.{AppendsFront, WritesAtFault, LeavesText};
 ghost use Rattle.call_service.specs.declared.fault.ServeFault.TheVariants as faults;
 ghost use Rattle.gateway.specs.Texts.{closing};
 ghost use Rattle.gateway.specs.Requests.{IsBeforeBody, UsesBody, LeavesBody, Refuses, LeavesRefusal};
-ghost use Rattle.gateway.specs.Serving.{LeavesText};
 
 use call_service::{ServeFault, Served, drop_body, send};
 use gw_io::{Sink, Source};
@@ -26,7 +25,7 @@ fn push_refused(out: &mut Vec<u8>, asked: &Asked, form: ReplyForm) -> Result<(),
     match asked {
         Asked::BadHost => push_bad_request(out, BadRequest::Host, form),
         Asked::Refused(refusal) => push_refusal(out, refusal, form),
-        Asked::Put(_) | Asked::Get(_) => unreachable!(),
+        Asked::Put(_) | Asked::Get(_) | Asked::Listing(_, _) => unreachable!(),
     }
 }
 

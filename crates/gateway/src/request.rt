@@ -19,6 +19,7 @@ use get_service::serve_get;
 use gw_io::{Clock, Ends, Sink, Source};
 use http_intake::Intake;
 use http_model::{Head, ReplyForm};
+use list_service::serve_listing;
 use put_service::serve_put;
 use realm_door::Door;
 use realm_model::Settings;
@@ -27,6 +28,7 @@ use swift_auth::User;
 use swift_reply::SwiftRefusal;
 use swift_requests::{Asked, body_use, closes, read_asked};
 use task_get::GetRequest;
+use task_list::ListRequest;
 
 /// How a connection ends behind a reply that closes it.
 fn closing_end(asked: &Asked) -> ConnEnd
@@ -90,6 +92,18 @@ fn serve_asked<D: Door, S: Source, K: Sink, C: Clock>(
             door.begin();
             serve_get(
                 alloc, request, form, door, clock, intake, source, sink, buffer, out,
+            )
+        }
+        Asked::Listing(command, listing) => {
+            let asker = asker_of(user)?;
+            let request = ListRequest {
+                zone,
+                asker,
+                command,
+            };
+            door.begin();
+            serve_listing(
+                alloc, request, listing, form, door, clock, intake, source, sink, buffer, out,
             )
         }
         refused => {

@@ -1,11 +1,10 @@
 //! One turn of a connection: the next request is read and replied to.
 ghost use Rattle.std.specs.Prelude.{◌≡◌, ◌<◌, length, IfOk, IfErr};
-ghost use Rattle.call_service.specs.Serving.{side, WritesAtFault, HasServeCause};
+ghost use Rattle.call_service.specs.Serving.{side, WritesAtFault, HasServeCause, LeavesText};
 ghost use Rattle.std.specs.Io.KnownBytes.{Appends};
 ghost use Rattle.http_model.specs.Replies.{bad_request_text};
 ghost use Rattle.gateway.specs.declared.serve.ConnEnd.TheVariants as ends;
 ghost use Rattle.gateway.specs.Texts.{closing};
-ghost use Rattle.gateway.specs.Serving.{LeavesText};
 ghost use Rattle.gateway.specs.Calls.{MayBegin, IsSite, site_of};
 ghost use Rattle.gateway.specs.Requests.{IsReady};
 ghost use Rattle.gateway.specs.Turns.{TakesTurn, EndsHeads, EndsSo, LeavesSo};

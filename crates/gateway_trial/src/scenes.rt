@@ -76,6 +76,27 @@ const SCENES: &[Scene] = &[
             b"GET /swift/v1/AUTH_acme/box/k HTTP/1.1\r\nHost: h\r\nX-Auth-Token: AUTH_tk1\r\nIf-None-Match: \"5d41402abc4b2a76b9719d911017c592\"\r\n\r\nGET /swift/v1/AUTH_acme/box/k HTTP/1.1\r\nHost: h\r\nX-Auth-Token: AUTH_tk1\r\nIf-Match: \"5d41402abc4b2a76b9719d911017c592\"\r\n\r\n",
         ],
     },
+    Scene {
+        title: "a name with escapes, and metadata",
+        frames: 64,
+        connections: &[
+            b"PUT /swift/v1/AUTH_acme/box/a%2Fb%20c HTTP/1.1\r\nHost: h\r\nX-Auth-Token: AUTH_tk1\r\nX-Object-Meta-Color: red\r\nx-object-meta-A: 1\r\nContent-Length: 5\r\n\r\nhelloGET /swift/v1/AUTH_acme/box/a/b%20c?unknown=x HTTP/1.0\r\nX-Auth-Token: AUTH_tk1\r\n\r\n",
+        ],
+    },
+    Scene {
+        title: "what a target and the fields are refused for",
+        frames: 64,
+        connections: &[
+            b"GET /swift/v2/AUTH_acme/box/k HTTP/1.1\r\nHost: h\r\n\r\nGET /swift/v1/AUTH_acme/box/%G1 HTTP/1.1\r\nHost: h\r\n\r\nPUT /swift/v1/AUTH_acme/box/k HTTP/1.1\r\nHost: h\r\nX-Auth-Token: AUTH_tk1\r\nX-Object-Meta-: x\r\nContent-Length: 5\r\n\r\nhelloDELETE /swift/v1/AUTH_acme/box/k HTTP/1.1\r\nHost: h\r\n\r\n",
+        ],
+    },
+    Scene {
+        title: "the names of a container",
+        frames: 64,
+        connections: &[
+            b"PUT /swift/v1/AUTH_acme/box/a/1 HTTP/1.1\r\nHost: h\r\nX-Auth-Token: AUTH_tk1\r\nContent-Type: text/plain\r\nContent-Length: 5\r\n\r\nhelloPUT /swift/v1/AUTH_acme/box/b HTTP/1.1\r\nHost: h\r\nX-Auth-Token: AUTH_tk1\r\nContent-Length: 0\r\n\r\nGET /swift/v1/AUTH_acme/box HTTP/1.1\r\nHost: h\r\nX-Auth-Token: AUTH_tk1\r\n\r\nGET /swift/v1/AUTH_acme/box/?delimiter=%2F HTTP/1.1\r\nHost: h\r\nX-Auth-Token: AUTH_tk1\r\n\r\nGET /swift/v1/AUTH_acme/box?prefix=a&format=json HTTP/1.1\r\nHost: h\r\nX-Auth-Token: AUTH_tk1\r\n\r\nGET /swift/v1/AUTH_acme/box?marker=c HTTP/1.1\r\nHost: h\r\nX-Auth-Token: AUTH_tk1\r\n\r\nGET /swift/v1/AUTH_acme/box HTTP/1.1\r\nHost: h\r\n\r\nGET /swift/v1/AUTH_acme/other HTTP/1.1\r\nHost: h\r\nX-Auth-Token: AUTH_tk1\r\n\r\n",
+        ],
+    },
 ];
 
 /// Serves the connections of each scene to a realm of its own.

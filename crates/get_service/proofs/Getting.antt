@@ -16,7 +16,7 @@ use Rattle.task_words.specs.declared.command.GetCommand.{GetCommand}
 use Rattle.task_words.specs.declared.outcome.Outcome.{Outcome}
 use Rattle.task_words.specs.declared.outcome.Outcome.TheVariants.{Done, LateRead}
 use Rattle.task_words.specs.declared.reply.MapReply.{MapReply}
-use Rattle.task_words.specs.declared.reply.MapReply.TheVariants.{Stored, Shown, Same, Counted, Refused}
+use Rattle.task_words.specs.declared.reply.MapReply.TheVariants.{Stored, Shown, Same, Counted, Listed, Refused}
 use Rattle.task_words.specs.declared.reply.Refusal.TheVariants as Map
 use Rattle.task_words.specs.declared.span.ByteRange.{ByteRange}
 use Rattle.task_words.specs.Spans.{bytes_taken}
@@ -97,6 +97,8 @@ not_ended r (Done (Stored etag stamp)) y events m ends late =
     let e : false ≡ true = ap (λ x. ends_get (Done x)) m.0.0.answers ∙ answer_ends r.get m.0.0.event.before in cc
 not_ended r (Done (Counted row objects bytes)) y events m ends late =
     let e : false ≡ true = ap (λ x. ends_get (Done x)) m.0.0.answers ∙ answer_ends r.get m.0.0.event.before in cc
+not_ended r (Done (Listed rows)) y events m ends late =
+    let e : false ≡ true = ap (λ x. ends_get (Done x)) m.0.0.answers ∙ answer_ends r.get m.0.0.event.before in cc
 not_ended r (Done (Refused Map.OtherEtag)) y events m ends late =
     let e : false ≡ true = ap (λ x. ends_get (Done x)) m.0.0.answers ∙ answer_ends r.get m.0.0.event.before in cc
 not_ended r (Done (Refused refusal)) y events m ends late = let e : true ≡ false = ends in cc
@@ -148,7 +150,7 @@ module _ (tells : Type 0) (settings : SettingsView) (form : ReplyForm) where
         shown = shown;
         by_event = shown_by_event begun.reply begun.shows;
         written = subst (λ l. AppendsFront before now l) (sym text) (front_longer before now (text_up_to form (span_of r.get) begun.reply begun.bytes) (written_body form rest) begun.written);
-        right = λ is.
+        right = λ is body.
             let fits = (up is).1 in
             let rests = shown_rests r (stage_of t) y (phase_at settings d) (events_at d) begun.reply fits.stage (begun.is_shown is) in
             let on = rests_on_event r begun.reply y begun.shows rests.0 in
@@ -271,7 +273,7 @@ module _ (tells : Type 0) (settings : SettingsView) (form : ReplyForm) where
           shown = begun.bytes;
           by_event = shown_by_event begun.reply begun.shows;
           written = subst grown (sym (text_shown form (span_of r.get) begun.reply begun.bytes begun.shows)) begun.written;
-          right = λ is.
+          right = λ is body.
               let rests = shown_rests r (stage_of t) y (phase_at settings d) (events_at d) begun.reply (up is).1.stage (begun.is_shown is) in
               let on = rests_on_event r begun.reply y begun.shows rests.0 in
               borne_by_event r begun.reply y (events_at d) begun.bytes on.event begun.shows rests.0 on.decided
@@ -285,14 +287,14 @@ module _ (tells : Type 0) (settings : SettingsView) (form : ReplyForm) where
       shown = [];
       by_event = ends_by_event outcome ends;
       written = written;
-      right = λ is. borne_without_bytes (request_of t) outcome (account_at settings d) (events_at d) ends (meant is) (none is);
+      right = λ is body. borne_without_bytes (request_of t) outcome (account_at settings d) (events_at d) ends (meant is) (none is);
     }
     unbegun_ends grown false ends late none written = record {
       outcome = LateRead 0 0;
       shown = [];
       by_event = refl;
       written = written;
-      right = λ is. absurd (not_ended (request_of t) outcome (account_at settings d) (events_at d) (meant is) ends late);
+      right = λ is body. absurd (not_ended (request_of t) outcome (account_at settings d) (events_at d) (meant is) ends late);
     }
 
     -- the rest of the reply was written

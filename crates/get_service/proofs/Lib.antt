@@ -3,4 +3,3 @@ pub mod Acting
 pub mod OwnReads
 pub mod Getting
 pub mod Stopping
-pub mod Serving

@@ -15,7 +15,8 @@ use Rattle.call_service.specs.declared.fault.ServeFault.{ServeFault}
 use Rattle.call_service.specs.declared.fault.ServeFault.TheVariants as faults
 use Rattle.call_service.specs.Serving.{AppendsFront}
 use Rattle.get_service.specs.Texts.{StopsPiece, StopsEnd, end_text}
-use Rattle.get_service.specs.Getting.{IsUpTo, brought_at, StopsEvent, HasWritten, IsPartly, Stand, stand, AsksFrom, StopsReply}
+use Rattle.call_service.specs.Replying.{StopsEvent, Stand, stand, AsksFrom}
+use Rattle.get_service.specs.Getting.{IsUpTo, brought_at, HasWritten, IsPartly, StopsReply}
 use Rattle.get_service.proofs.OwnReads.{misses_stripe}
 use Rattle.get_service.proofs.Getting.{partly, still_written, piece_in_part, written_still, ended_in_part}
 

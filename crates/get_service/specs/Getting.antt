@@ -1,5 +1,5 @@
 -- Serving a GET or a HEAD: where the task stands, and what is written by then.
-use Rattle.std.specs.Prelude.{◌≡◌, ◌⊎◌, ℕ, ◌^◌, Bool, true, false, List, [], length, Option, Some}
+use Rattle.std.specs.Prelude.{◌≡◌, ℕ, Bool, true, false, List, [], Option, Some}
 use Rattle.std.specs.Io.KnownBytes.{Appends}
 use Rattle.http_model.specs.declared.reply.ReplyForm.{ReplyForm}
 use Rattle.realm_model.specs.Settings.{SettingsView}
@@ -9,19 +9,16 @@ use Rattle.realm_model.specs.declared.event.Event.{Event}
 use Rattle.realm_door.specs.declared.task.TaskTurn.{TaskTurn}
 use Rattle.realm_door.specs.declared.task.TaskTurn.TheVariants.{Gives}
 use Rattle.swift_requests.specs.declared.asked.Asked.TheVariants.{Get}
-use Rattle.task_words.specs.declared.outcome.Outcome.{Outcome}
-use Rattle.task_words.specs.declared.outcome.Outcome.TheVariants.{LateRead}
 use Rattle.task_words.specs.declared.reply.MapReply.{MapReply}
 use Rattle.task_words.specs.Answers.{span_of}
-use Rattle.task_words.specs.Outcomes.{IsShown, IsGetOutcome}
+use Rattle.task_words.specs.Outcomes.{IsShown}
 use Rattle.task_get.specs.declared.request.GetRequest.{GetRequest}
 use Rattle.task_get.specs.declared.task.GetTask.{GetTask}
 use Rattle.task_get.specs.Pieces.{brought}
-use Rattle.task_get.specs.Tasks.{account_at, events_at, request_of, shown_of, Fits}
-use Rattle.call_words.specs.Calls.{task, text_by, IsBorneOut}
+use Rattle.task_get.specs.Tasks.{events_at, request_of, shown_of, Fits}
 use Rattle.call_service.specs.declared.fault.ServeFault.{ServeFault}
-use Rattle.call_service.specs.declared.fault.ServeFault.TheVariants as faults
-use Rattle.call_service.specs.Serving.{Asks, AppendsFront, is_by_end, MissesStripe}
+use Rattle.call_service.specs.Serving.{Site}
+use Rattle.call_service.specs.Replying as any
 use Rattle.get_service.specs.Texts.{text_up_to}
 
 -- ---- the task
@@ -39,12 +36,6 @@ abbrev pub piece_in : TaskTurn → List ℕ → List ℕ
 piece_in Gives piece = piece
 piece_in turn piece = []
 
--- an event was refused: for want of memory, or since the realm has as many events as it may have
-abbrev pub StopsEvent : Type 0 → List Event → ServeFault → Type 0
-StopsEvent tells found faults.OutOfMemory = Unit {0}
-StopsEvent tells found faults.Worn = tells → length found ≡ 2 ^ 62
-StopsEvent tells found fault = ⊥
-
 -- ---- what was written
 
 -- the head of the reply that the task shows, and the bytes that were brought, or a front of this
@@ -61,44 +52,18 @@ abbrev pub HasWritten : Type 0 → ReplyForm → GetTask → DoorView → Bool �
 HasWritten tells form t d false before now = Appends before now [] × (tells → brought_at (request_of t) d ≡ [])
 HasWritten tells form t d true before now = IsBegun tells form t d (Appends before now)
 
+-- where it is served, and what it asks
+abbrev pub site_of : SettingsView → GetRequest → Site
+site_of settings r = record { settings = settings; zone = r.zone; asker = r.asker }
+
 -- the reply of a task that ended so, or will: what the door tells bears it out
-pub record Replies (tells : Type 0) (settings : SettingsView) (form : ReplyForm) (r : GetRequest) (e : DoorView) (grown : List ℕ → Type 0) : Type 0 where
-  pub outcome : Outcome
-  pub shown : List ℕ
-  pub by_event : is_by_end outcome ≡ false
-  pub written : grown (text_by form (Get r.get) (task e.count outcome) shown)
-  pub right : tells → IsBorneOut r.zone r.asker (Get r.get) [] outcome shown (account_at settings e) (events_at e)
+abbrev pub Replies : Type 0 → SettingsView → ReplyForm → GetRequest → DoorView → (List ℕ → Type 0) → Type 0
+Replies tells settings form r e grown = any.Replies tells (site_of settings r) form (Get r.get) e grown
 
 -- nothing was written, or a front of a reply
 abbrev pub IsPartly : Type 0 → SettingsView → ReplyForm → GetRequest → DoorView → Option (List ℕ) → Option (List ℕ) → Type 0
-IsPartly tells settings form r e before now = Appends before now [] ⊎ Replies tells settings form r e (AppendsFront before now)
-
--- ---- faults
-
--- what the door tells, what the sink has taken, and what the clock has told
-pub record Stand : Type 0 where
-  pub door : DoorView
-  pub taken : Option (List ℕ)
-  pub told : Option (List ℕ)
-
-abbrev pub stand : DoorView → Option (List ℕ) → Option (List ℕ) → Stand
-stand door taken told = record { door = door; taken = taken; told = told }
-
--- the clock was asked once for each event, and once more or not
-abbrev pub AsksFrom : Type 0 → Type 0 → SettingsView → Bool → Stand → Stand → Type 0
-AsksFrom tells alone settings more x y = Asks tells alone settings more x.door y.door x.told y.told
+IsPartly tells settings form r e before now = any.IsPartly tells (site_of settings r) form (Get r.get) e before now
 
 -- what a fault leaves, where the door's last step found this history
-abbrev pub StopsReply : Type 0 → Type 0 → SettingsView → ReplyForm → GetRequest → List Event → Stand → Stand → ServeFault → Type 0
-StopsReply tells alone settings form r found x y faults.ReadFault = ⊥
-StopsReply tells alone settings form r found x y faults.OutOfMemory =
-    ((more : Bool) × AsksFrom tells alone settings more x y) × IsPartly tells settings form r y.door x.taken y.taken
-StopsReply tells alone settings form r found x y faults.Worn =
-    (tells → length found ≡ 2 ^ 62)
-    × ((more : Bool) × AsksFrom tells alone settings more x y) × IsPartly tells settings form r y.door x.taken y.taken
-StopsReply tells alone settings form r found x y faults.WriteFault =
-    AsksFrom tells alone settings false x y × Replies tells settings form r y.door (AppendsFront x.taken y.taken)
-StopsReply tells alone settings form r found x y (faults.Late read_at clock) =
-    AsksFrom tells alone settings false x y
-    × (tells → IsGetOutcome r.zone r.asker r.get (LateRead read_at clock) (account_at settings y.door) × MissesStripe clock (events_at y.door))
-    × IsPartly tells settings form r y.door x.taken y.taken
+abbrev pub StopsReply : Type 0 → Type 0 → SettingsView → ReplyForm → GetRequest → List Event → any.Stand → any.Stand → ServeFault → Type 0
+StopsReply tells alone settings form r found x y fault = any.StopsReply tells alone (site_of settings r) form (Get r.get) found x y fault

@@ -7,7 +7,8 @@ ghost use Rattle.task_words.specs.Answers.{span_of};
 ghost use Rattle.task_get.specs.Stages.{IsOpen, IsOver};
 ghost use Rattle.task_get.specs.Tasks.{request_of, stage_of, fault_of, bytes_of, shown_of, events_at, Fits};
 ghost use Rattle.call_service.specs.Serving.{IsNew, IsServed, IsStopped, HasServeCause, Asks, WritesAtFault, side};
-ghost use Rattle.get_service.specs.Getting.{IsUpTo, brought_at, piece_in, StopsEvent, HasWritten, Replies, stand, AsksFrom, StopsReply};
+ghost use Rattle.call_service.specs.Replying.{StopsEvent, stand, AsksFrom};
+ghost use Rattle.get_service.specs.Getting.{IsUpTo, brought_at, piece_in, HasWritten, Replies, StopsReply};
 
 use crate::write::{send_end, send_piece, span_in};
 use call_service::{ServeFault, Served, drop_body, fault_of};

@@ -23,6 +23,21 @@ pub enum ListedRow {
 /// Rows of a container's listing, in the order in which they are shown.
 pub type ListedRows = Items<ListedRow>;
 
+impl ListedRow {
+    ghost use Rattle.std.specs.Prelude.{◌≡◌};
+    ghost use Rattle.list_words.specs.Listings.{row_key};
+
+    /// The text by which rows are ordered: the name of the object, or the subdir.
+    pub fn key(&self) -> &Text
+        ensures { result.now ≡ row_key self.now }
+    {
+        match self {
+            ListedRow::Thing(name, _) => name.as_text(),
+            ListedRow::Subdir(text) => text,
+        }
+    }
+}
+
 impl ListedThing {
     ghost use Rattle.std.specs.Prelude.{◌≡◌};
     ghost use Rattle.object_words.specs.declared.head.SeenSlot.TheVariants.{Live};

@@ -4,14 +4,15 @@ use Rattle.std.specs.List.{AllByRecursion}
 use Rattle.std.specs.Prelude.{is_some}
 use Rattle.std.proofs.lemmas.Bool.Decides.{nat_tests}
 use Rattle.rgw_types.specs.declared.pool_key.Key.{Key}
+use Rattle.rgw_types.specs.declared.pool_key.Key.TheVariants.{Shard as KeyOfShard}
 use Rattle.object_words.specs.declared.bucket.Bucket.{Bucket}
 use Rattle.object_words.specs.declared.why.Why.{Why}
 use Rattle.object_words.specs.declared.why.Why.TheVariants.{Held, NoTag}
 use Rattle.object_words.specs.Hashes.{shard_of}
-use Rattle.object_words.specs.Keys.{is_key, shard_key, container_of, instance_of, number_of}
+use Rattle.object_words.specs.Keys.{is_key, is_shard_key, shard_key, container_of, instance_of, number_of}
 use Rattle.object_words.specs.Names.{Named, at, entries}
 use Rattle.object_words.specs.Refusals.{first_refusal, fate_refusal, hold_refusal, change_refusal}
-use Rattle.object_words.specs.ShardCalls.{prepare_refusal, tag_refusal, complete_refusal}
+use Rattle.object_words.specs.ShardCalls.{prepare_refusal, tag_refusal, complete_refusal, page_of}
 use Rattle.object_words.specs.Shards.{Shard, entry_at}
 use Rattle.object_words.specs.Tags.{has_tag, guard_of}
 use Rattle.object_words.proofs.KeyLemmas.{same_key}
@@ -25,9 +26,9 @@ use Rattle.realm_model.specs.Allowed.{meets_need}
 use Rattle.realm_model.specs.Accounts.{Looked, MovedCount, has_shard, looked_since, is_left, moved_at}
 use Rattle.realm_model.specs.Histories.{world_of, state_of, phase_of}
 use Rattle.realm_model.specs.declared.op.Op.{Op}
-use Rattle.realm_model.specs.declared.op.Op.TheVariants.{BucketRead, Prepare, Complete, Cancel, HeadRead, HeadWrite, TailMake, TailRead, Announce, BucketSwap}
+use Rattle.realm_model.specs.declared.op.Op.TheVariants.{BucketRead, Page, Prepare, Complete, Cancel, HeadRead, HeadWrite, TailMake, TailRead, Announce, BucketSwap}
 use Rattle.realm_model.specs.declared.event.Reply.{Reply}
-use Rattle.realm_model.specs.declared.event.Reply.TheVariants.{Done, No, Prepared}
+use Rattle.realm_model.specs.declared.event.Reply.TheVariants.{Done, No, Prepared, Entries}
 use Rattle.realm_model.specs.declared.event.Event.{Event}
 use Rattle.realm_model.proofs.Computing.{left_of, right_of}
 use Rattle.realm_model.proofs.ObjectLemmas.{number_same}
@@ -40,7 +41,7 @@ use Rattle.once_law.proofs.Standing.{keeps_rows, OfRow}
 
 -- ---- operations
 
--- the operations of the tasks of calls
+-- the operations of the tasks of calls; a page is one of a shard
 abbrev pub is_of_task : Op → Bool
 is_of_task (BucketRead zone name) = true
 is_of_task (Prepare zone key name) = true
@@ -51,6 +52,7 @@ is_of_task (HeadWrite zone container name guard new when) = true
 is_of_task (TailMake zone write part bytes) = true
 is_of_task (TailRead zone write part begin count) = true
 is_of_task (Announce zone container instance shard bucket) = true
+is_of_task (Page zone key after limit) = is_shard_key key
 is_of_task op = false
 
 pub task_keeps : (op : Op) → is_of_task op ≡ true → keeps_rows op ≡ true
@@ -64,6 +66,10 @@ pub record IsShardKey (key : Key) : Type 0 where
   pub instance : ℕ
   pub number : ℕ
   pub is : key ≡ shard_key container instance number
+
+pub shard_shape : (key : Key) → is_shard_key key ≡ true → IsShardKey key
+shard_shape (KeyOfShard c i n) is = record { container = c; instance = i; number = n; is = refl }
+shard_shape key is = let e : false ≡ true = is in absurd (cc)
 
 any_row : (xs : List (List ℕ × RowRead)) → AllByRecursion (λ e. Unit {0}) xs
 any_row [] = tt
@@ -153,6 +159,11 @@ module _ (settings : SettingsView) (st : State) (zone : ℕ) (key : Key) (name :
       ap (λ o. is_left (on_shard o (λ s. reply_or Done (complete_refusal s name tag)))) there
       ∙ ap (λ r. is_left (reply_or Done (first_refusal r (tag_refusal (entry_at s name) tag)))) (serves_change s serving)
       ∙ tag_left (λ r. reply_or Done r) (entry_at s name) tag refl refl
+
+  pub page_stays : (after : List ℕ) (limit : ℕ) → is_left (reply_of settings st (Page zone key after limit)) ≡ false
+  page_stays after limit =
+      ap (λ o. is_left (on_shard o (λ s. reply_or (Entries (page_of s after limit st.clock)) (fate_refusal s.fate)))) there
+      ∙ ap (λ f. is_left (reply_or (Entries (page_of s after limit st.clock)) (fate_refusal f))) serving.fate
 
 -- a preparation meets no hold
 pub holds_none : (settings : SettingsView) (st : State) (zone : ℕ) (key : Key) (name : List ℕ) (id : ℕ) → ((s : Shard) → st.shards zone key ≡ Some s → IsServing s) → No (Held id) ≡ reply_of settings st (Prepare zone key name) → ⊥

@@ -43,7 +43,7 @@ use Rattle.index_law.specs.Serving.{IsServing, IsMade}
 use Rattle.index_law.proofs.Consequences.{holds_at, shards_at}
 use Rattle.index_law.proofs.Tests.{writes}
 use Rattle.once_law.proofs.Standing.{Standing, stands_one_more}
-use Rattle.once_law.proofs.Calm.{is_of_task, IsShardKey, own_key, prepare_key, complete_key, cancel_key, prepare_stays, ends_stay, holds_none, left_count, made_by_look, task_keeps}
+use Rattle.once_law.proofs.Calm.{is_of_task, IsShardKey, own_key, prepare_key, complete_key, cancel_key, prepare_stays, ends_stay, page_stays, shard_shape, holds_none, left_count, made_by_look, task_keeps}
 use Rattle.once_law.proofs.Moments.{same_clock, clock_behind}
 use Rattle.once_law.specs.Runs.{AreAt}
 
@@ -223,7 +223,12 @@ module _ (settings : SettingsView) (good : IsSettings settings) (base : List Eve
             let stays = ends_stay settings st zone key name m.shard m.there (serving zone key m.shard m.there) tag in
             let clash : false ≡ true = sym stays ∙ ap is_left (sym said) ∙ left in
             cc)
-        by_op (Page zone key from limit) task need said = let clash : false ≡ true = task in absurd (cc)
+        by_op (Page zone key from limit) task need said =
+            left_count y.moved y.looked zone key reply number calm.moved (λ left named.
+            let m = found zone key (shard_shape key task) (y.moved).last named in
+            let stays = page_stays settings st zone key [] m.shard m.there (serving zone key m.shard m.there) from limit in
+            let clash : false ≡ true = sym stays ∙ ap is_left (sym said) ∙ left in
+            cc)
         by_op (Stats zone key) task need said = let clash : false ≡ true = task in absurd (cc)
         by_op op task need said = calm.moved
 

@@ -1,11 +1,11 @@
 -- Calls, one after another.
-use Rattle.std.proofs.Common.{◌≡◌, ℕ, ◌+◌, ◌≤◌, ◌<◌, ◌^◌, ◌==◌, true, false, cond, List, [], ◌∷◌, ◌++◌, length, Some, refl, sym, ◌∙◌, ap, subst, arith, append_assoc}
+use Rattle.std.proofs.Common.{◌≡◌, ℕ, ◌+◌, ◌≤◌, ◌<◌, ◌^◌, ◌==◌, Bool, true, false, cond, List, [], ◌∷◌, ◌++◌, length, Some, refl, sym, ◌∙◌, ap, subst, arith, append_assoc}
 use Rattle.std.specs.List.{AllByRecursion}
 use Rattle.std.proofs.lemmas.List.{append-nil}
 use Rattle.std.proofs.lemmas.Bool.Decides.{nat_tests}
 use Rattle.object_words.specs.Names.{at}
 use Rattle.object_words.proofs.KeyLemmas.{number_itself}
-use Rattle.realm_model.specs.Settings.{SettingsView}
+use Rattle.realm_model.specs.Settings.{SettingsView, IsSettings}
 use Rattle.realm_model.specs.States.{clock_at}
 use Rattle.realm_model.specs.Phases.{ActorId}
 use Rattle.realm_model.specs.Accounts.{Decided, Account, blank}
@@ -13,7 +13,7 @@ use Rattle.realm_model.specs.Owns.{OwnEvent, clock_after, own_from, own_events, 
 use Rattle.realm_model.specs.Worlds.{start, same_actor, actor_of}
 use Rattle.realm_model.specs.Histories.{Doings, state_of, account_of, Legal}
 use Rattle.realm_model.specs.declared.op.Op.{Op}
-use Rattle.realm_model.specs.declared.op.Op.TheVariants.{BucketRead, Prepare, Complete, Cancel, HeadRead, HeadWrite, TailMake, TailRead, Announce}
+use Rattle.realm_model.specs.declared.op.Op.TheVariants.{BucketRead, Page, Prepare, Complete, Cancel, HeadRead, HeadWrite, TailMake, TailRead, Announce}
 use Rattle.realm_model.specs.declared.event.Event.{Event}
 use Rattle.realm_model.proofs.ObjectLemmas.{actor_itself}
 use Rattle.realm_model.proofs.Others.{account-others}
@@ -26,6 +26,7 @@ use Rattle.task_words.specs.declared.asker.Asker.{Asker}
 use Rattle.task_words.specs.declared.outcome.Outcome.{Outcome}
 use Rattle.call_words.specs.Calls.{Ground, alone, task, Call, IsBorneOut, RestsOn, IsOfNext, actor_after, AreRight}
 use Rattle.call_words.specs.Events.{is_of_get, is_of_put, AreOfGet, AreOfPut}
+use Rattle.task_list.specs.Listed.{is_of_listing, AreOfListing}
 use Rattle.call_words.specs.Made.{AreBy, AreMadeFor, AreMade}
 use Rattle.once_law.specs.Maps.{rows_in, slots_in}
 use Rattle.once_law.specs.Folds.{command_in, IsSaidTo, left_behind, AreFolded, slots_behind}
@@ -34,6 +35,7 @@ use Rattle.once_law.proofs.Standing.{keeps_rows, Standing, stands_first, stands_
 use Rattle.once_law.proofs.Calm.{is_of_task, task_keeps}
 use Rattle.once_law.proofs.Stamps.{found_early}
 use Rattle.once_law.proofs.Saying.{get_done, put_done}
+use Rattle.once_law.proofs.Listing.{AreReads, list_done}
 
 -- ---- operations
 
@@ -53,6 +55,12 @@ put_tasks (Complete zone key name tag version row) is = refl
 put_tasks (Cancel zone key name tag) is = refl
 put_tasks op is = let e : false ≡ true = is in absurd (cc)
 
+list_tasks : (op : Op) → is_of_listing op ≡ true → is_of_task op ≡ true
+list_tasks (BucketRead zone name) is = refl
+list_tasks (Page zone key after limit) is = is
+list_tasks (HeadRead zone container name) is = refl
+list_tasks op is = let e : false ≡ true = is in absurd (cc)
+
 abbrev pub OfTasks : List OwnEvent → Type 0
 OfTasks events = AllByRecursion (λ e. is_of_task e.op ≡ true) events
 
@@ -63,6 +71,10 @@ gets_of_tasks (e ∷ es) are = (get_tasks e.op are.0, gets_of_tasks es are.1)
 pub puts_of_tasks : (events : List OwnEvent) → AreOfPut events → OfTasks events
 puts_of_tasks [] are = tt
 puts_of_tasks (e ∷ es) are = (put_tasks e.op are.0, puts_of_tasks es are.1)
+
+pub lists_of_tasks : (events : List OwnEvent) → AreOfListing events → OfTasks events
+lists_of_tasks [] are = tt
+lists_of_tasks (e ∷ es) are = (list_tasks e.op are.0, lists_of_tasks es are.1)
 
 keep_rows : (es : List Event) → AllByRecursion (λ e. is_of_task e.op ≡ true) es → AllByRecursion (λ e. keeps_rows e.op ≡ true) es
 keep_rows [] are = tt
@@ -107,22 +119,32 @@ none_of_later pass count next (call ∷ calls) events later last low settings zo
 
 -- ---- own events
 
-own_ops : (actor : ActorId) (count clock : ℕ) (es : List Event) → AllByRecursion (λ e. actor_of e ≡ actor) es → OfTasks (own_from count clock es actor) → AllByRecursion (λ e. is_of_task e.op ≡ true) es
-own_ops actor count clock [] by are = tt
-own_ops actor count clock (e ∷ es) by are =
-    let now = clock_at clock e.moment in
-    let own : OwnEvent = record { op = e.op; reply = e.reply; number = count + 1; clock = now } in
-    let itself : same_actor actor (actor_of e) ≡ true = subst (λ a. same_actor actor a ≡ true) (sym by.0) (actor_itself actor) in
-    let both = subst (λ b. OfTasks (cond b (own ∷ own_from (count + 1) now es actor) (own_from (count + 1) now es actor))) itself are in
-    (both.0, own_ops actor (count + 1) now es by.1 both.1)
+module _ (test : Op → Bool) where
+  abbrev Pass : List OwnEvent → Type 0
+  Pass events = AllByRecursion (λ e. test e.op ≡ true) events
 
--- the events of an actor that made none before
+  own_ops : (actor : ActorId) (count clock : ℕ) (es : List Event) → AllByRecursion (λ e. actor_of e ≡ actor) es → Pass (own_from count clock es actor) → AllByRecursion (λ e. test e.op ≡ true) es
+  own_ops actor count clock [] by are = tt
+  own_ops actor count clock (e ∷ es) by are =
+      let now = clock_at clock e.moment in
+      let own : OwnEvent = record { op = e.op; reply = e.reply; number = count + 1; clock = now } in
+      let itself : same_actor actor (actor_of e) ≡ true = subst (λ a. same_actor actor a ≡ true) (sym by.0) (actor_itself actor) in
+      let both = subst (λ b. Pass (cond b (own ∷ own_from (count + 1) now es actor) (own_from (count + 1) now es actor))) itself are in
+      (both.0, own_ops actor (count + 1) now es by.1 both.1)
+
+  -- the events of an actor that made none before
+  pub first_pass : (before first : List Event) (pass count : ℕ) → NoneBy (actor_of_pass pass count) before → AreBy pass count first → Pass (own_events (before ++ first) (actor_of_pass pass count)) → AllByRecursion (λ e. test e.op ≡ true) first
+  first_pass before first pass count unused own are =
+      let actor = actor_of_pass pass count in
+      let none : own_events before actor ≡ [] = (same_after_others (record { zones = 0; stripe = 0; frame = 0; frames = 0; shards = 0; tag_life = 0; wait = 0; largest = 0; threshold = 0 }) [] before actor unused).events in
+      let joined = own-append 0 0 before first actor ∙ ap (λ (l : List OwnEvent). l ++ own_from (0 + length before) (clock_after 0 before) first actor) none in
+      own_ops actor (0 + length before) (clock_after 0 before) first own (subst Pass joined are)
+
 pub first_ops : (before first : List Event) (pass count : ℕ) → NoneBy (actor_of_pass pass count) before → AreBy pass count first → OfTasks (own_events (before ++ first) (actor_of_pass pass count)) → AllByRecursion (λ e. is_of_task e.op ≡ true) first
-first_ops before first pass count unused own are =
-    let actor = actor_of_pass pass count in
-    let none : own_events before actor ≡ [] = (same_after_others (record { zones = 0; stripe = 0; frame = 0; frames = 0; shards = 0; tag_life = 0; wait = 0; largest = 0; threshold = 0 }) [] before actor unused).events in
-    let joined = own-append 0 0 before first actor ∙ ap (λ (l : List OwnEvent). l ++ own_from (0 + length before) (clock_after 0 before) first actor) none in
-    own_ops actor (0 + length before) (clock_after 0 before) first own (subst OfTasks joined are)
+first_ops before first pass count unused own are = first_pass is_of_task before first pass count unused own are
+
+first_reads : (before first : List Event) (pass count : ℕ) → NoneBy (actor_of_pass pass count) before → AreBy pass count first → AreOfListing (own_events (before ++ first) (actor_of_pass pass count)) → AreReads first
+first_reads before first pass count unused own are = first_pass is_of_listing before first pass count unused own are
 
 -- an actor without events stands at the first
 pub standing_first : (settings : SettingsView) (before : List Event) (actor : ActorId) → NoneBy actor before → Standing settings before before (account_of settings before actor)
@@ -143,11 +165,11 @@ rests_before settings zone asker pass history more next (task actor outcome) ask
     let there = subst (λ (y : Account). IsBorneOut zone asker asked body outcome shown y (own_events (history ++ more) (actor_of_pass pass actor))) account rests in
     subst (λ (l : List OwnEvent). IsBorneOut zone asker asked body outcome shown (account_of settings history (actor_of_pass pass actor)) l) same.events there
 
-module _ (settings : SettingsView) (zone : ℕ) (asker : Asker) (pass : ℕ) (clocks : ℕ → ℕ) where
+module _ (settings : SettingsView) (good : IsSettings settings) (zone : ℕ) (asker : Asker) (pass : ℕ) (clocks : ℕ → ℕ) where
   -- what one call leaves: the rows stay
   record Steps (before first : List Event) (call : Call) : Type 0 where
     roots : (z : ℕ) → (state_of settings (before ++ first)).root z ≡ (state_of settings before).root z
-    is_said : IsSaidTo (fixed_by settings before zone asker clocks) (slots_in settings before zone) (command_in call.asked call.request.body) call.ground call.shown
+    is_said : IsSaidTo (fixed_by settings before zone asker clocks) (slots_in settings before zone) call.asked call.request.body call.ground call.shown
     left : left_behind (fixed_by settings before zone asker clocks) (slots_in settings before zone) (command_in call.asked call.request.body) call.ground ≡ slots_in settings (before ++ first) zone
 
   module _ (before first : List Event) (legal : Legal settings (before ++ first)) (few : length (before ++ first) ≤ 2 ^ 62) where
@@ -167,7 +189,7 @@ module _ (settings : SettingsView) (zone : ℕ) (asker : Asker) (pass : ℕ) (cl
           → ((event : Decided) → y.decided ≡ Some event → clocks count ≡ event.clock)
           → IsBorneOut zone asker asked body outcome shown y (own_events (before ++ first) actor)
           → ((z : ℕ) → (state_of settings (before ++ first)).root z ≡ (state_of settings before).root z)
-          × IsSaidTo (fixed_by settings before zone asker clocks) (slots_in settings before zone) (command_in asked body) (task count outcome) shown
+          × IsSaidTo (fixed_by settings before zone asker clocks) (slots_in settings before zone) asked body (task count outcome) shown
           × (left_behind (fixed_by settings before zone asker clocks) (slots_in settings before zone) (command_in asked body) (task count outcome) ≡ slots_in settings (before ++ first) zone)
       one_task Asks.BadHost body outcome shown clock borne = absurd borne
       one_task (Asks.Refused why) body outcome shown clock borne = absurd borne
@@ -180,10 +202,15 @@ module _ (settings : SettingsView) (zone : ℕ) (asker : Asker) (pass : ℕ) (cl
           let standing = stands (gets_of_tasks (own_events (before ++ first) actor) borne.3) in
           let done = get_done settings before (before ++ first) zone asker clocks count y standing clock c outcome shown borne.0 borne.1 borne.2 in
           (standing.roots, done.is_said, done.left)
+      one_task (Asks.Listing c listing) body outcome shown clock borne =
+          let standing = stands (lists_of_tasks (own_events (before ++ first) actor) borne.3) in
+          let reads = first_reads before first pass count unused own borne.3 in
+          let done = list_done settings good before first legal zone asker clocks actor unused reads standing c outcome borne.0 in
+          (standing.roots, (done.is_said, borne.2), done.left)
 
     one_alone : (asked : Asked) (body : List ℕ) (shown : List ℕ) (history : List Event) → first ≡ [] → RestsOn settings zone asker pass history asked body shown alone
         → ((z : ℕ) → (state_of settings (before ++ first)).root z ≡ (state_of settings before).root z)
-        × IsSaidTo (fixed_by settings before zone asker clocks) (slots_in settings before zone) (command_in asked body) alone shown
+        × IsSaidTo (fixed_by settings before zone asker clocks) (slots_in settings before zone) asked body alone shown
         × (left_behind (fixed_by settings before zone asker clocks) (slots_in settings before zone) (command_in asked body) alone ≡ slots_in settings (before ++ first) zone)
     one_alone asked body shown history none rests =
         let same : before ++ first ≡ before = ap (λ l. before ++ l) none ∙ append-nil before in
@@ -191,12 +218,13 @@ module _ (settings : SettingsView) (zone : ℕ) (asker : Asker) (pass : ℕ) (cl
       where
         by_asked : (asked : Asked) → RestsOn settings zone asker pass history asked body shown alone → before ++ first ≡ before
             → ((z : ℕ) → (state_of settings (before ++ first)).root z ≡ (state_of settings before).root z)
-            × IsSaidTo (fixed_by settings before zone asker clocks) (slots_in settings before zone) (command_in asked body) alone shown
+            × IsSaidTo (fixed_by settings before zone asker clocks) (slots_in settings before zone) asked body alone shown
             × (left_behind (fixed_by settings before zone asker clocks) (slots_in settings before zone) (command_in asked body) alone ≡ slots_in settings (before ++ first) zone)
         by_asked Asks.BadHost rests same = ((λ z. ap (λ l. (state_of settings l).root z) same), rests.1, ap (λ l. slots_in settings l zone) (sym same))
         by_asked (Asks.Refused why) rests same = ((λ z. ap (λ l. (state_of settings l).root z) same), rests.1, ap (λ l. slots_in settings l zone) (sym same))
         by_asked (Asks.Put c) rests same = absurd rests.0
         by_asked (Asks.Get c) rests same = absurd rests.0
+        by_asked (Asks.Listing c listing) rests same = absurd rests.0
 
     -- what the call's own events leave, where the others come behind them
     module _ (next : ℕ) (call : Call) (calls : List Call) (others later : List Event) (last : ℕ) (unused : NoneBy (actor_of_pass pass next) before)
@@ -207,7 +235,7 @@ module _ (settings : SettingsView) (zone : ℕ) (asker : Asker) (pass : ℕ) (cl
       abbrev Leaves : Ground → Type 0
       Leaves g =
           ((z : ℕ) → (state_of settings (before ++ first)).root z ≡ (state_of settings before).root z)
-          × IsSaidTo (fixed_by settings before zone asker clocks) (slots_in settings before zone) (command_in call.asked call.request.body) g call.shown
+          × IsSaidTo (fixed_by settings before zone asker clocks) (slots_in settings before zone) call.asked call.request.body g call.shown
           × (left_behind (fixed_by settings before zone asker clocks) (slots_in settings before zone) (command_in call.asked call.request.body) g ≡ slots_in settings (before ++ first) zone)
 
       by_ground : (g : Ground) → AreRight settings zone asker pass ((before ++ first) ++ others) (actor_after next g) calls last → IsOfNext next g → AreMadeFor pass g first

@@ -23,9 +23,11 @@ use Rattle.call_words.specs.Calls.{Ground, alone, task, Call, IsBorneOut, RestsO
 use Rattle.call_words.specs.Made.{AreBy, AreMadeFor, AreMade}
 use Rattle.call_words.specs.Texts.{outcome_reply, HasReply}
 use Rattle.task_words.specs.Answers.{span_of}
+use Rattle.task_list.specs.declared.request.ListRequest.{ListRequest}
+use Rattle.task_list.specs.Listed.{IsListOutcome}
 use Rattle.once_law.specs.Folds.{IsRepliedOrFull, AreRepliedOrFull}
 use Rattle.once_law.specs.Runs.{NoneFrom, AreAt}
-use Rattle.once_law.proofs.Folding.{none_of_later, OfTasks, puts_of_tasks, first_ops, standing_first, rests_before, unused_behind}
+use Rattle.once_law.proofs.Folding.{none_of_later, OfTasks, puts_of_tasks, lists_of_tasks, first_ops, standing_first, rests_before, unused_behind}
 use Rattle.once_law.proofs.Calms.{Calm, calm_first, calm_behind}
 use Rattle.once_law.proofs.Moments.{clock_behind}
 
@@ -68,12 +70,20 @@ module _ (settings : SettingsView) (good : IsSettings settings) (zone : ℕ) (as
     get_full c (LateRead read_at late) by has = has
     get_full c outcome by has = absurd by
 
+    list_full : (r : ListRequest) (outcome : Outcome) (events : List OwnEvent) → Calm settings good before moment (before ++ first) y p → IsListOutcome r outcome y events → IsRepliedOrFull (task count outcome)
+    list_full r (Done reply) events still by = tt
+    list_full r MovedOften events still by = let none = still.moved in let many = by.1 in absurd (omega (arith, none, many))
+    list_full r outcome events still by = absurd by
+
     one_full : (asked : Asked) (body : List ℕ) (outcome : Outcome) (shown : List ℕ) → IsBorneOut zone asker asked body outcome shown y (own_events (before ++ first) actor) → IsRepliedOrFull (task count outcome)
     one_full Asks.BadHost body outcome shown borne = absurd borne
     one_full (Asks.Refused why) body outcome shown borne = absurd borne
     one_full (Asks.Put c) body outcome shown borne =
         put_full c body outcome (own_events (before ++ first) actor) (calm (puts_of_tasks (own_events (before ++ first) actor) borne.3)) borne.0 borne.1
     one_full (Asks.Get c) body outcome shown borne = get_full c outcome borne.0 borne.1
+    one_full (Asks.Listing c listing) body outcome shown borne =
+        list_full (record { zone = zone; asker = asker; command = c }) outcome (own_events (before ++ first) actor)
+        (calm (lists_of_tasks (own_events (before ++ first) actor) borne.3)) borne.0
 
   -- ---- calls
 
@@ -90,7 +100,7 @@ module _ (settings : SettingsView) (good : IsSettings settings) (zone : ℕ) (as
       let right' = subst (λ l. AreRight settings zone asker pass l next (call ∷ calls) last) whole_is right in
       let ats = at_both first others (subst (AreAt moment) both at) in (
         here call.ground right'.2 right'.0 own right'.1 (legal_front settings (start settings) (before ++ first) others legal') ats.0,
-        full (before ++ first) others (actor_after next call.ground) calls last later legal' (unused_behind settings zone asker pass (λ count. 0) next call.ground before first right'.0 own unused) right'.2 made by_last
+        full (before ++ first) others (actor_after next call.ground) calls last later legal' (unused_behind settings good zone asker pass (λ count. 0) next call.ground before first right'.0 own unused) right'.2 made by_last
             (clock_behind settings before first moment low ats.0) ats.1,
       )
     where

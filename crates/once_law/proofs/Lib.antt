@@ -2,6 +2,7 @@ pub mod Slots
 pub mod Standing
 pub mod Stamps
 pub mod Saying
+pub mod Listing
 pub mod Folding
 pub mod Moments
 pub mod Calm

@@ -22,7 +22,7 @@ use Rattle.task_words.specs.declared.span.ByteRange.{ByteRange}
 use Rattle.task_words.specs.declared.outcome.Outcome.{Outcome}
 use Rattle.task_words.specs.declared.outcome.Outcome.TheVariants.{Done, BodyFailed, Busy, MovedOften, LateTag, LateRead, NoSpace}
 use Rattle.task_words.specs.declared.reply.MapReply.{MapReply}
-use Rattle.task_words.specs.declared.reply.MapReply.TheVariants.{Stored, Shown, Same, Counted, Refused}
+use Rattle.task_words.specs.declared.reply.MapReply.TheVariants.{Stored, Shown, Same, Counted, Listed, Refused}
 use Rattle.task_words.specs.declared.reply.Refusal.{Refusal}
 use Rattle.task_words.specs.declared.reply.Refusal.TheVariants as Why
 use Rattle.task_words.specs.Answers.{Command, put, get, container_of, name_of, deed_of, Answer, answer, answered, put_answer, stored, etag_in, get_answer, live_answer, shown_range, is_unmet, is_had, span_of}
@@ -249,6 +249,7 @@ module _ (settings : SettingsView) (before history : List Event) (zone : ℕ) (a
   get_done c (Done (Stored etag stamp)) shown by has bytes = none_by_map c (Stored etag stamp) shown by.0 by.1 bytes (λ e. sym e)
   get_done c (Done (Same etag stamp)) shown by has bytes = none_by_map c (Same etag stamp) shown by.0 by.1 bytes (λ e. sym e)
   get_done c (Done (Counted row objects size)) shown by has bytes = none_by_map c (Counted row objects size) shown by.0 by.1 bytes (λ e. sym e)
+  get_done c (Done (Listed rows)) shown by has bytes = none_by_map c (Listed rows) shown by.0 by.1 bytes (λ e. sym e)
   get_done c (Done (Shown kind meta etag stamp size begin count)) shown by has bytes =
       let m = by.0 in
       let one : bytes.event ≡ m.event = let a = bytes.is_last in let b = m.is_last in cc in

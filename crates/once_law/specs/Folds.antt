@@ -1,15 +1,25 @@
--- What the rows and the bucket maps of a zone reply to calls, one after another (OpenStack Object Storage API v1, objects).
-use Rattle.std.specs.Prelude.{◌≡◌, ℕ, Bool, false, List, [], ◌∷◌, Option, Some, None, if◌then◌else◌}
+-- What the rows and the bucket maps of a zone reply to calls, one after another (OpenStack Object Storage API v1, objects and
+-- the listings of containers).
+use Rattle.std.specs.Prelude.{◌≡◌, ℕ, Bool, true, false, T, List, [], ◌∷◌, length, Option, Some, None, if◌then◌else◌}
 use Rattle.std.specs.List.{AllByRecursion}
+use Rattle.std.specs.FinMap.Entries.{find, is_sorted}
 use Rattle.http_model.specs.declared.reply.ReplyForm.{ReplyForm}
+use Rattle.rgw_model.specs.declared.slot.Slot.{Slot}
+use Rattle.rgw_model.specs.declared.slot.Slot.TheVariants.{Live}
 use Rattle.object_words.specs.declared.bucket.Bucket.{Bucket}
+use Rattle.object_words.specs.Names.{name_cmp}
+use Rattle.object_words.specs.Rows.{RowView}
+use Rattle.list_words.specs.declared.command.ListCommand.{ListCommand}
+use Rattle.list_words.specs.declared.row.ListedRow.{ListedRow}
+use Rattle.list_words.specs.Listings.{rows_of}
+use Rattle.swift_auth.specs.declared.policy.Deed.TheVariants.{ListContainer}
 use Rattle.swift_requests.specs.declared.asked.Asked.{Asked}
 use Rattle.swift_requests.specs.declared.asked.Asked.TheVariants as Asks
 use Rattle.task_words.specs.declared.asker.Asker.{Asker}
 use Rattle.task_words.specs.declared.outcome.Outcome.{Outcome}
 use Rattle.task_words.specs.declared.outcome.Outcome.TheVariants.{Done, Busy, MovedOften, LateTag, NoSpace}
 use Rattle.task_words.specs.declared.reply.MapReply.{MapReply}
-use Rattle.task_words.specs.declared.reply.MapReply.TheVariants.{Refused}
+use Rattle.task_words.specs.declared.reply.MapReply.TheVariants.{Listed, Refused}
 use Rattle.task_words.specs.declared.reply.Refusal.{Refusal}
 use Rattle.task_words.specs.declared.reply.Refusal.TheVariants.{NoContainer, OtherEtag}
 use Rattle.task_words.specs.Answers.{Command, put, get, container_of, name_of, deed_of, answer, is_other_etag}
@@ -85,23 +95,64 @@ abbrev pub left_by : Said → Outcome → Slots → Slots
 left_by s (Done reply) slots = s.slots
 left_by s outcome slots = slots
 
+-- ---- listings
+
+-- the row by which an object shows in a listing
+abbrev pub row_in : Slot → Option RowView
+row_in (Live content stamp) = Some (record {
+  exists = true;
+  size = length content.bytes;
+  stamp = stamp;
+  etag = content.etag;
+  kind = content.kind;
+})
+row_in slot = None
+
+-- the live names of a container, by rising name, each with its row
+pub record AreLive (slots : List ℕ → Slot) (live : List (List ℕ × RowView)) : Type 0 where
+  pub rise : T (is_sorted name_cmp live)
+  pub rows : (name : List ℕ) → find name_cmp name live ≡ row_in (slots name)
+
+-- the rows of a listing are those of the live names of the row's container
+pub record AreListed (slots : Slots) (row : Bucket) (c : ListCommand) (rows : List ListedRow) : Type 0 where
+  pub live : List (List ℕ × RowView)
+  pub are_live : AreLive (slots row.id) live
+  pub rows_are : rows ≡ rows_of c live
+
+-- the row refuses it, or its container is listed
+abbrev pub IsListReply : Option Refusal → Option Bucket → Slots → ListCommand → MapReply → Type 0
+IsListReply (Some refusal) row slots c reply = reply ≡ Refused refusal
+IsListReply None (Some row) slots c (Listed rows) = AreListed slots row c rows
+IsListReply refusal row slots c reply = ⊥
+
+-- the task of a listing ended with that reply; or shards did not serve too often
+abbrev pub IsListSaid : Fixed → Slots → ListCommand → Outcome → Type 0
+IsListSaid x slots c (Done reply) =
+    IsListReply (row_refusal x.asker (x.rows c.container) ListContainer) (x.rows c.container) slots c reply
+IsListSaid x slots c MovedOften = Unit {0}
+IsListSaid x slots c outcome = ⊥
+
 -- ---- one call
 
--- the command that it is; none where the request is refused before any name is looked at
+-- the command on an object that it is; none where the request is refused before any name is looked at, or lists a container
 abbrev pub command_in : Asked → List ℕ → Option Command
 command_in Asks.BadHost body = None
 command_in (Asks.Refused why) body = None
 command_in (Asks.Put c) body = Some (put c body)
 command_in (Asks.Get c) body = Some (get c)
+command_in (Asks.Listing c listing) body = None
 
 abbrev pub command_of : Call → Option Command
 command_of call = command_in call.asked call.request.body
 
--- a request alone is no command, and shows no bytes
-abbrev pub IsSaidTo : Fixed → Slots → Option Command → Ground → List ℕ → Type 0
-IsSaidTo x slots None alone shown = shown ≡ []
-IsSaidTo x slots (Some command) (task actor outcome) shown = IsSaid command (said x slots command actor) outcome shown
-IsSaidTo x slots command basis shown = ⊥
+-- a request alone shows no bytes
+abbrev pub IsSaidTo : Fixed → Slots → Asked → List ℕ → Ground → List ℕ → Type 0
+IsSaidTo x slots Asks.BadHost body alone shown = shown ≡ []
+IsSaidTo x slots (Asks.Refused why) body alone shown = shown ≡ []
+IsSaidTo x slots (Asks.Put c) body (task actor outcome) shown = IsSaid (put c body) (said x slots (put c body) actor) outcome shown
+IsSaidTo x slots (Asks.Get c) body (task actor outcome) shown = IsSaid (get c) (said x slots (get c) actor) outcome shown
+IsSaidTo x slots (Asks.Listing c listing) body (task actor outcome) shown = IsListSaid x slots c outcome × (shown ≡ [])
+IsSaidTo x slots asked body basis shown = ⊥
 
 abbrev pub left_behind : Fixed → Slots → Option Command → Ground → Slots
 left_behind x slots (Some command) (task actor outcome) = left_by (said x slots command actor) outcome slots
@@ -109,7 +160,7 @@ left_behind x slots command basis = slots
 
 -- the call is replied as the rows and the slots say
 abbrev pub IsFolded : Fixed → Slots → Call → Type 0
-IsFolded x slots call = IsSaidTo x slots (command_of call) call.ground call.shown
+IsFolded x slots call = IsSaidTo x slots call.asked call.request.body call.ground call.shown
 
 -- the slots after it
 abbrev pub slots_after : Fixed → Slots → Call → Slots

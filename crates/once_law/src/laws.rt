@@ -17,13 +17,13 @@ ghost use Rattle.once_law.specs.Runs.{AreAlone, AreClocks, AreAt, AreOfMaps};
 pub fn calls_fold_over_the_maps()
     ensures maps { (settings : SettingsView) (zone : ℕ) (asker : AskerOf) (pass : ℕ)
         → (before more : List EventOf) (next : ℕ) (calls : List Call) (last : ℕ) (clocks : ℕ → ℕ)
-        → Legal settings (before ++ more) → length (before ++ more) ≤ 2 ^ 62
+        → Legal settings (before ++ more) → IsSettings settings → length (before ++ more) ≤ 2 ^ 62
         → AreAlone settings zone asker pass before more next calls last
         → AreClocks settings pass (before ++ more) next clocks
         → AreOfMaps settings zone asker before more calls clocks }
     ensures moment { (settings : SettingsView) (zone : ℕ) (asker : AskerOf) (pass : ℕ)
         → (before more : List EventOf) (next : ℕ) (calls : List Call) (last moment : ℕ)
-        → Legal settings (before ++ more) → length (before ++ more) ≤ 2 ^ 62
+        → Legal settings (before ++ more) → IsSettings settings → length (before ++ more) ≤ 2 ^ 62
         → AreAlone settings zone asker pass before more next calls last
         → (state_of settings before).clock ≤ counted_moment moment → AreAt moment more
         → AreOfMaps settings zone asker before more calls (λ count. counted_moment moment) }

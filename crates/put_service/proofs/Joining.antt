@@ -1,7 +1,6 @@
 -- The parts of the service of a PUT, one behind the other.
 use Rattle.std.proofs.Common.{◌≡◌, ℕ, ◌+◌, ◌-◌, ◌≤◌, Bool, List, [], ◌++◌, take, drop, length, refl, sym, ap, ◌∙◌, subst, append_assoc, length-append, length-drop, take-append-drop, arith}
-use Rattle.std.proofs.lemmas.List.{take_all}
-use Rattle.std.proofs.lemmas.List.{append-nil}
+use Rattle.std.proofs.lemmas.List.{take_all, append-nil}
 use Rattle.realm_model.specs.Settings.{SettingsView}
 use Rattle.realm_model.specs.declared.event.Event.{Event}
 use Rattle.task_put.specs.declared.task.PutTask.{PutTask}
@@ -12,11 +11,12 @@ use Rattle.task_put.specs.Tasks.{request_of, fed}
 use Rattle.call_service.specs.Bodies.{HasGiven}
 use Rattle.call_service.specs.declared.fault.ServeFault.{ServeFault}
 use Rattle.call_service.specs.declared.fault.ServeFault.TheVariants as faults
-use Rattle.put_service.specs.Parts.{StopsStep, Place, AsksAt, StopsBody}
+use Rattle.call_service.specs.Replying.{StopsEvent}
+use Rattle.put_service.specs.Parts.{Place, AsksAt, StopsBody}
 
 module _ (tells alone : Type 0) (settings : SettingsView) (found : List Event) where
   -- a step was refused behind so much of the body
-  pub step_stops : (fault : ServeFault) (x y : Place) (given : List ℕ) (more : Bool) → StopsStep tells found fault
+  pub step_stops : (fault : ServeFault) (x y : Place) (given : List ℕ) (more : Bool) → StopsEvent tells found fault
       → HasGiven x.intake y.intake x.left y.left given → AsksAt tells alone settings more x y → StopsBody tells alone settings found x y fault
   step_stops faults.OutOfMemory x y given more stops has asks = (given, has, more, asks)
   step_stops faults.Worn x y given more stops has asks = (stops, (given, has, more, asks))

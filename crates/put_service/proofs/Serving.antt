@@ -19,11 +19,11 @@ use Rattle.task_put.specs.declared.stage.Stage.TheVariants.{Looking, Ended}
 use Rattle.task_put.specs.declared.task.PutTask.{PutTask}
 use Rattle.call_words.specs.Texts.{outcome_reply, text_if}
 use Rattle.call_service.specs.Bodies.{HasGiven}
-use Rattle.call_service.specs.Serving.{Site, Side, side, Asks, is_by_end, AppendsFront, IsReplied, IsCutOff, IsLeft, IsStopped}
+use Rattle.call_service.specs.Serving.{Site, Side, side, Asks, is_by_end, AppendsFront, IsReplied, IsCutOff, IsLeft, IsStopped, LeavesText}
 use Rattle.call_service.specs.declared.fault.ServeFault.{ServeFault}
 use Rattle.call_service.specs.declared.fault.ServeFault.TheVariants as faults
 use Rattle.put_service.specs.Standing.{IsSteady, IsSteadyAt}
-use Rattle.put_service.specs.Parts.{place, StopsBody, HasEnded, RunsTask, LeavesReply}
+use Rattle.put_service.specs.Parts.{place, StopsBody, HasEnded, RunsTask}
 use Rattle.put_service.proofs.Replying.{end_has_reply}
 
 abbrev outcome_in : Stage → Outcome
@@ -89,7 +89,7 @@ module _ (tells alone : Type 0) (site : Site) (form : ReplyForm) (c : PutCommand
   }
 
   -- or not, or a front of it
-  pub stops_reply : (found : List Event) (t : PutTask) (outcome : Outcome) (fault : ServeFault) → Ran t → stage_of t ≡ Ended outcome → LeavesReply old.taken new.taken (text_if form (outcome_reply None outcome) []) fault
+  pub stops_reply : (found : List Event) (t : PutTask) (outcome : Outcome) (fault : ServeFault) → Ran t → stage_of t ≡ Ended outcome → LeavesText old.taken new.taken (text_if form (outcome_reply None outcome) []) fault
       → IsStopped tells alone site form (Put c) found from to fault
   stops_reply found t outcome faults.OutOfMemory ran ended leaves = unwritten ran.body (is_by_end ran.outcome) leaves ran.given.has_given ran.asks
   stops_reply found t outcome faults.WriteFault ran ended leaves = (

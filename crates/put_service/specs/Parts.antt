@@ -1,6 +1,5 @@
 -- What each part of the service of a PUT comes to, before its reply is written.
 use Rattle.std.specs.Prelude.{◌≡◌, ℕ, ◌^◌, Bool, true, false, List, [], length, Option, None}
-use Rattle.std.specs.Io.KnownBytes.{Appends}
 use Rattle.realm_model.specs.Settings.{SettingsView}
 use Rattle.realm_model.specs.Doors.{DoorView, actor_at}
 use Rattle.realm_model.specs.Histories.{account_of}
@@ -18,20 +17,12 @@ use Rattle.task_put.specs.Stages.{IsOver}
 use Rattle.task_put.specs.Taking.{WantsBytes, fed_request}
 use Rattle.task_put.specs.Tasks.{request_of, stage_of, fault_of}
 use Rattle.call_service.specs.Bodies.{HasGiven, HasGivenAll, IsCutIn, FailsIn}
-use Rattle.call_service.specs.Serving.{Asks, AppendsFront, is_by_end}
+use Rattle.call_service.specs.Serving.{Asks, is_by_end}
 use Rattle.call_service.specs.declared.fault.ServeFault.{ServeFault}
 use Rattle.call_service.specs.declared.fault.ServeFault.TheVariants as faults
 use Rattle.put_service.specs.declared.feeding.Taken.{Taken}
 use Rattle.put_service.specs.declared.feeding.Taken.TheVariants as takens
 use Rattle.put_service.specs.Standing.{IsEnd, IsSteady}
-
--- ---- steps
-
--- a step of the task stops for want of memory, or because the realm has as many events as it may have
-abbrev pub StopsStep : Type 0 → List Event → ServeFault → Type 0
-StopsStep tells found faults.OutOfMemory = Unit {0}
-StopsStep tells found faults.Worn = tells → length found ≡ 2 ^ 62
-StopsStep tells found fault = ⊥
 
 -- ---- the body
 
@@ -104,11 +95,3 @@ abbrev pub RunsTask : Type 0 → Type 0 → SettingsView → PutRequest → PutT
 RunsTask tells alone settings r task x y true = HasEnded tells alone settings r task x y
 RunsTask tells alone settings r task x y false =
     ((given : List ℕ) × IsCutIn x.intake x.left y.left given) × AsksAt tells alone settings false x y
-
--- ---- the reply
-
--- what a fault leaves of a text: nothing for want of memory, a front where a write failed
-abbrev pub LeavesReply : Option (List ℕ) → Option (List ℕ) → List ℕ → ServeFault → Type 0
-LeavesReply old new text faults.OutOfMemory = Appends old new []
-LeavesReply old new text faults.WriteFault = AppendsFront old new text
-LeavesReply old new text fault = ⊥

@@ -7,7 +7,8 @@ ghost use Rattle.task_put.specs.Tasks.{request_of, stage_of, fault_of};
 ghost use Rattle.call_service.specs.Bodies.{ReadsAtFault};
 ghost use Rattle.call_service.specs.Serving.{Asks};
 ghost use Rattle.put_service.specs.Standing.{IsUp, IsSteady};
-ghost use Rattle.put_service.specs.Parts.{StopsStep, TakesBytes, TakesBody, StopsBody, place};
+ghost use Rattle.call_service.specs.Replying.{StopsEvent};
+ghost use Rattle.put_service.specs.Parts.{TakesBytes, TakesBody, StopsBody, place};
 
 use crate::stepping::{Pause, advance};
 use call_service::{Piece, ServeFault, next_piece};
@@ -48,7 +49,7 @@ fn feed_all<D: Door, C: Clock>(
     ensures asks { OnOk result (Asks D.tells D.alone (D.settings door.old) false (D.told door.old) (D.told door.new) (C.told clock.old) (C.told clock.new)) }
     ensures stopped { OnErr result ((more : Bool) × Asks D.tells D.alone (D.settings door.old) more (D.told door.old) (D.told door.new) (C.told clock.old) (C.told clock.new)) }
     ensures sound { OnOk result (fault_of task.new ≡ None) }
-    ensures fault { IfErr result (StopsStep D.tells (D.found door.new)) }
+    ensures fault { IfErr result (StopsEvent D.tells (D.found door.new)) }
     ensures settings { D.settings door.new ≡ D.settings door.old }
     ensures home { D.home door.new ≡ D.home door.old }
     ensures plan { C.plan clock.new ≡ C.plan clock.old }

@@ -8,9 +8,10 @@ ghost use Rattle.task_put.specs.Tasks.{request_of, stage_of, fault_of};
 ghost use Rattle.task_words.specs.declared.command.BodyEnd.TheVariants.{Whole};
 ghost use Rattle.call_words.specs.Texts.{outcome_reply, text_if};
 ghost use Rattle.call_service.specs.Bodies.{ReadsAtFault};
-ghost use Rattle.call_service.specs.Serving.{Asks, WritesAtFault, IsNew, IsServed, IsStopped, HasServeCause, side};
+ghost use Rattle.call_service.specs.Serving.{Asks, WritesAtFault, IsNew, IsServed, IsStopped, HasServeCause, side, LeavesText};
 ghost use Rattle.put_service.specs.Standing.{IsUp, IsSteady, IsEnd};
-ghost use Rattle.put_service.specs.Parts.{StopsStep, StopsBody, EndsSo, RunsTask, LeavesReply, place};
+ghost use Rattle.call_service.specs.Replying.{StopsEvent};
+ghost use Rattle.put_service.specs.Parts.{StopsBody, EndsSo, RunsTask, place};
 
 use crate::feeding::{Taken, take_body};
 use crate::stepping::{Pause, advance};
@@ -41,7 +42,7 @@ fn conclude<D: Door, C: Clock>(
     ensures stopped { OnErr result (Asks D.tells D.alone (D.settings door.old) true (D.told door.old) (D.told door.new) (C.told clock.old) (C.told clock.new)) }
     ensures request { request_of task.new ≡ ended_request (request_of task.old) Whole }
     ensures sound { OnOk result (fault_of task.new ≡ None) }
-    ensures fault { IfErr result (StopsStep D.tells (D.found door.new)) }
+    ensures fault { IfErr result (StopsEvent D.tells (D.found door.new)) }
     ensures settings { D.settings door.new ≡ D.settings door.old }
     ensures home { D.home door.new ≡ D.home door.old }
     ensures plan { C.plan clock.new ≡ C.plan clock.old }
@@ -106,7 +107,7 @@ fn send_reply<K: Sink>(
 ) -> Result<(), ServeFault>
     requires { IsEnd outcome.now }
     ensures ok { OnOk result (Appends (K.taken sink.old) (K.taken sink.new) (text_if form (outcome_reply None outcome.now) [])) }
-    ensures stopped { IfErr result (LeavesReply (K.taken sink.old) (K.taken sink.new) (text_if form (outcome_reply None outcome.now) [])) }
+    ensures stopped { IfErr result (LeavesText (K.taken sink.old) (K.taken sink.new) (text_if form (outcome_reply None outcome.now) [])) }
     ensures cause { WritesAtFault (K.faults sink.old) (K.faults sink.new) result }
 {
     out.clear();

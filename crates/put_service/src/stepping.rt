@@ -4,7 +4,7 @@ ghost use Rattle.task_put.specs.Tasks.{request_of, stage_of, fault_of};
 ghost use Rattle.task_put.specs.Stages.{IsReady};
 ghost use Rattle.call_service.specs.Serving.{Asks};
 ghost use Rattle.put_service.specs.Standing.{IsUp, IsSteady, PausesAt, StandsAfter, is_untold, is_untold_at};
-ghost use Rattle.put_service.specs.Parts.{StopsStep};
+ghost use Rattle.call_service.specs.Replying.{StopsEvent};
 
 use call_service::{ServeFault, fault_of};
 use gw_io::Clock;
@@ -41,7 +41,7 @@ fn make_event<D: Door, C: Clock>(
     ensures steady { OnOk result (IsSteady task.new) }
     ensures request { request_of task.new ≡ request_of task.old }
     ensures sound { OnOk result (fault_of task.new ≡ None) }
-    ensures fault { IfErr result (StopsStep D.tells (D.found door.new)) }
+    ensures fault { IfErr result (StopsEvent D.tells (D.found door.new)) }
     ensures settings { D.settings door.new ≡ D.settings door.old }
     ensures home { D.home door.new ≡ D.home door.old }
     ensures plan { C.plan clock.new ≡ C.plan clock.old }
@@ -71,7 +71,7 @@ fn take_step<D: Door, C: Clock>(
     ensures stands { IfOk result (λ step. StandsAfter step task.new) }
     ensures request { request_of task.new ≡ request_of task.old }
     ensures sound { OnOk result (fault_of task.new ≡ None) }
-    ensures fault { IfErr result (StopsStep D.tells (D.found door.new)) }
+    ensures fault { IfErr result (StopsEvent D.tells (D.found door.new)) }
     ensures settings { D.settings door.new ≡ D.settings door.old }
     ensures home { D.home door.new ≡ D.home door.old }
     ensures plan { C.plan clock.new ≡ C.plan clock.old }
@@ -108,7 +108,7 @@ pub(crate) fn advance<D: Door, C: Clock>(
     ensures pauses { IfOk result (λ pause. PausesAt pause task.new) }
     ensures request { request_of task.new ≡ request_of task.old }
     ensures sound { OnOk result (fault_of task.new ≡ None) }
-    ensures fault { IfErr result (StopsStep D.tells (D.found door.new)) }
+    ensures fault { IfErr result (StopsEvent D.tells (D.found door.new)) }
     ensures settings { D.settings door.new ≡ D.settings door.old }
     ensures home { D.home door.new ≡ D.home door.old }
     ensures plan { C.plan clock.new ≡ C.plan clock.old }

@@ -29,7 +29,25 @@ const TASKS: u32 = 100_000;
 const OBJECTS: u32 = 5;
 
 fn show<R: Clock + Print>(rt: &R, alloc: Global) -> anyhow::Result<()> {
+    show_small(rt, alloc)?;
+    show_large(rt, alloc)
+}
+
+fn show_small<R: Clock + Print>(rt: &R, alloc: Global) -> anyhow::Result<()> {
     let mut bench = Bench::new(alloc, 10, 16, 64)?;
+    show_rounds(rt, alloc, &mut bench)
+}
+
+fn show_large<R: Clock + Print>(rt: &R, alloc: Global) -> anyhow::Result<()> {
+    let mut bench = Bench::new(alloc, 1, 4096, 64)?;
+    show_object(rt, alloc, &mut bench)
+}
+
+fn show_rounds<R: Clock + Print>(
+    rt: &R,
+    alloc: Global,
+    bench: &mut Bench,
+) -> anyhow::Result<()> {
     for kind in Kind::ALL {
         let round = bench.run(rt, alloc, kind, 10)?;
         let (name, events, refused) = (kind.name(), round.events, round.refused);
@@ -38,7 +56,14 @@ fn show<R: Clock + Print>(rt: &R, alloc: Global) -> anyhow::Result<()> {
     let puts = bench.run_puts(rt, alloc, 100)?.events;
     let gets = bench.run_gets(rt, alloc, 100)?.events;
     println!(rt; "100 puts: {puts} turns, 100 gets: {gets}")?;
-    let mut bench = Bench::new(alloc, 1, 4096, 64)?;
+    Ok(())
+}
+
+fn show_object<R: Clock + Print>(
+    rt: &R,
+    alloc: Global,
+    bench: &mut Bench,
+) -> anyhow::Result<()> {
     bench.put_large(rt, alloc, 200_000)?;
     let given = bench.get_large(rt, alloc)?.bytes;
     println!(rt; "of 200000 bytes {given} are given")?;
@@ -48,6 +73,15 @@ fn show<R: Clock + Print>(rt: &R, alloc: Global) -> anyhow::Result<()> {
 fn measure<R: Clock + Print>(rt: &R, alloc: Global, heads: u32) -> anyhow::Result<()> {
     let heads = heads.clamp(1, 4_000_000);
     let mut bench = Bench::new(alloc, heads, 16, heads.saturating_add(64))?;
+    measure_rounds(rt, alloc, &mut bench)
+}
+
+fn measure_rounds<R: Clock + Print>(
+    rt: &R,
+    alloc: Global,
+    bench: &mut Bench,
+) -> anyhow::Result<()> {
+    let heads = bench.heads;
     println!(rt; "nanoseconds of an event, with {heads} heads")?;
     println!(rt; "   least   median  refused")?;
     for kind in Kind::ALL {
@@ -73,10 +107,18 @@ fn tell<R: Print>(rt: &R, name: &str, round: &Round) -> anyhow::Result<()> {
     Ok(())
 }
 
-// Each of the objects is stored under one name, and its tails stay.
 fn measure_large<R: Clock + Print>(rt: &R, alloc: Global) -> anyhow::Result<()> {
-    println!(rt; "MiB a second, objects of 64 MiB in stripes of 4 MiB")?;
     let mut bench = Bench::new(alloc, 1, 4096, 98_304)?;
+    measure_objects(rt, alloc, &mut bench)
+}
+
+// Each of the objects is stored under one name, and its tails stay.
+fn measure_objects<R: Clock + Print>(
+    rt: &R,
+    alloc: Global,
+    bench: &mut Bench,
+) -> anyhow::Result<()> {
+    println!(rt; "MiB a second, objects of 64 MiB in stripes of 4 MiB")?;
     let (mut put, mut get) = (Duration::MAX, Duration::MAX);
     for _ in 0..OBJECTS {
         put = put.min(bench.put_large(rt, alloc, SIZE)?);

@@ -55,29 +55,28 @@ impl Bench {
 
     fn time_puts<R: Clock>(&mut self, rt: &R, alloc: Global, from: u32) -> anyhow::Result<Timed> {
         let mut tasks = self.puts(alloc, from)?;
-        let start = Instant::now(rt)?;
-        let turns = take_puts(alloc, &mut self.stage, &mut tasks)?;
-        let time = start.elapsed(rt)?;
-        Ok(Timed { turns, time })
+        time_all_puts(rt, alloc, &mut self.stage, &mut tasks)
     }
 
     fn time_gets<R: Clock>(&mut self, rt: &R, alloc: Global, from: u32) -> anyhow::Result<Timed> {
         let mut tasks = self.gets(alloc, from)?;
-        let start = Instant::now(rt)?;
-        let turns = take_gets(alloc, &mut self.stage, &mut tasks)?;
-        let time = start.elapsed(rt)?;
-        Ok(Timed { turns, time })
+        time_all_gets(rt, alloc, &mut self.stage, &mut tasks)
     }
 
     // A chunk of PUTs from this number on.
     fn puts(&self, alloc: Global, from: u32) -> anyhow::Result<Vec<PutTask>> {
         let mut tasks = Vec::new(alloc);
+        self.add_puts(alloc, from, &mut tasks)?;
+        Ok(tasks)
+    }
+
+    fn add_puts(&self, alloc: Global, from: u32, tasks: &mut Vec<PutTask>) -> anyhow::Result<()> {
         for more in 0..CHUNK {
             let index = u64::from(from).saturating_add(u64::from(more));
             let task = self.put(alloc, name_read(index, self.heads))?;
             tasks.push(task)?;
         }
-        Ok(tasks)
+        Ok(())
     }
 
     // A PUT of the name of this number.
@@ -91,12 +90,17 @@ impl Bench {
     // A chunk of GETs from this number on.
     fn gets(&self, alloc: Global, from: u32) -> anyhow::Result<Vec<GetTask>> {
         let mut tasks = Vec::new(alloc);
+        self.add_gets(alloc, from, &mut tasks)?;
+        Ok(tasks)
+    }
+
+    fn add_gets(&self, alloc: Global, from: u32, tasks: &mut Vec<GetTask>) -> anyhow::Result<()> {
         for more in 0..CHUNK {
             let index = u64::from(from).saturating_add(u64::from(more));
             let task = get(alloc, name_read(index, self.heads))?;
             tasks.push(task)?;
         }
-        Ok(tasks)
+        Ok(())
     }
 }
 
@@ -107,6 +111,30 @@ pub(crate) fn get(alloc: Global, name: u64) -> anyhow::Result<GetTask> {
         asker: asker(alloc)?,
         get: get_of(alloc, name)?,
     }))
+}
+
+fn time_all_puts<R: Clock>(
+    rt: &R,
+    alloc: Global,
+    stage: &mut RealmStage,
+    tasks: &mut [PutTask],
+) -> anyhow::Result<Timed> {
+    let start = Instant::now(rt)?;
+    let turns = take_puts(alloc, stage, tasks)?;
+    let time = start.elapsed(rt)?;
+    Ok(Timed { turns, time })
+}
+
+fn time_all_gets<R: Clock>(
+    rt: &R,
+    alloc: Global,
+    stage: &mut RealmStage,
+    tasks: &mut [GetTask],
+) -> anyhow::Result<Timed> {
+    let start = Instant::now(rt)?;
+    let turns = take_gets(alloc, stage, tasks)?;
+    let time = start.elapsed(rt)?;
+    Ok(Timed { turns, time })
 }
 
 // How many turns make an event.

@@ -102,7 +102,7 @@ module _ (bucket : List ℕ) (moment : ℕ) (e : DoorView) (calls : List Call) (
       let low = made_clock bucket moment in
       let unused = made_by_first bucket moment in
       let clocks = clocks_at standard_settings 1 before c.events 1 moment low at unused in
-      let of_maps = fold standard_settings 1 standard_asker 1 (λ count. counted_moment moment) before c.events 1 calls last [] legal few unused right c.made tt clocks in
+      let of_maps = fold standard_settings standard_is 1 standard_asker 1 (λ count. counted_moment moment) before c.events 1 calls last [] legal few unused right c.made tt clocks in
       let x_is : record { zone = 1; asker = standard_asker; rows = rows_in standard_settings before 1; clocks = λ count. counted_moment moment } ≡ fixed_at bucket moment =
       λ i. record { zone = 1; asker = standard_asker; rows = row_is bucket moment i; clocks = λ count. counted_moment moment } in
       record {
@@ -147,6 +147,7 @@ module _ (site : Site) (form : ReplyForm) where
   asked_grew (Asks.Refused why) plan found z y fault left = idle_grew z y left.1
   asked_grew (Asks.Put c) plan found z y fault (d, begun, left) = stopped_grew (Asks.Put c) found (side d z.intake z.ends) y fault left
   asked_grew (Asks.Get c) plan found z y fault (d, begun, left) = stopped_grew (Asks.Get c) found (side d z.intake z.ends) y fault left
+  asked_grew (Asks.Listing c l) plan found z y fault (d, begun, left) = stopped_grew (Asks.Listing c l) found (side d z.intake z.ends) y fault left
 
   request_grew : (asked : Asked) (plan : BodyUse) (found : List Event) (z y : Side) (fault : ServeFault) → LeavesRequest (Unit {0}) (Unit {0}) site form asked plan found z y fault → Grew z.ends.told y.ends.told
   unfolding Grew

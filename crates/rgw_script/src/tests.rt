@@ -21,6 +21,13 @@ const EXPIRED_TAG: &[u8] =
 
 const EXPIRED_TAG_PRINTS: &[u8] = b"w 3\nw 201 5d41402abc4b2a76b9719d911017c592\n200 5 hello\n";
 
+/// A listing while a name is written: before its head, and between head and completion.
+const LISTED: &[u8] =
+    b"do 1 put box/a/1 -\ndo 1 put box/b -\nstart w 1 put box/c hello\nstep w 3\ndo 1 list box\nstep w 1\ndo 1 list box\n";
+
+const LISTED_PRINTS: &[u8] =
+    b"201 d41d8cd98f00b204e9800998ecf8427e\n201 d41d8cd98f00b204e9800998ecf8427e\nw 3\n200 a/1 b\nw 1\n200 a/1 b c\n";
+
 /// What a script prints that is read and written in pieces, and how it ends.
 fn printed_by(alloc: Global, script: &[u8]) -> Result<(Vec<u8>, Result<(), ScriptFault>), Fail> {
     let settings = Settings::new(
@@ -59,6 +66,14 @@ fn a_lost_race_and_a_bad_line(rt: HostRuntime) -> Result<(), Fail> {
 fn a_tag_expires(rt: HostRuntime) -> Result<(), Fail> {
     let (printed, end) = printed_by(rt.alloc(), EXPIRED_TAG)?;
     assert!(rt; printed.as_slice() == EXPIRED_TAG_PRINTS);
+    assert_eq!(rt; end, Ok(()));
+    Ok(())
+}
+
+#[test]
+fn names_with_slashes_are_listed(rt: HostRuntime) -> Result<(), Fail> {
+    let (printed, end) = printed_by(rt.alloc(), LISTED)?;
+    assert!(rt; printed.as_slice() == LISTED_PRINTS);
     assert_eq!(rt; end, Ok(()));
     Ok(())
 }

@@ -15,7 +15,7 @@ use Rattle.task_words.specs.declared.command.GetCommand.{GetCommand}
 use Rattle.task_words.specs.declared.outcome.Outcome.{Outcome}
 use Rattle.task_words.specs.declared.outcome.Outcome.TheVariants.{Done, LateRead}
 use Rattle.task_words.specs.declared.reply.MapReply.{MapReply}
-use Rattle.task_words.specs.declared.reply.MapReply.TheVariants.{Stored, Shown, Same, Counted, Refused}
+use Rattle.task_words.specs.declared.reply.MapReply.TheVariants.{Stored, Shown, Same, Counted, Listed, Refused}
 use Rattle.task_words.specs.declared.reply.Refusal.{Refusal}
 use Rattle.task_words.specs.declared.reply.Refusal.TheVariants.{Unauthorized, Denied, NoContainer, NoObject, NotMet, NoRange, OtherEtag}
 use Rattle.task_words.specs.declared.span.ByteRange.{ByteRange}
@@ -109,6 +109,7 @@ module _ (settings : SettingsView) (t : GetTask) (d : DoorView) (fits : Fits t s
   no_bytes (Stored etag stamp) hidden m = m.1.1 m.0.0.event m.0.0.is_last ∙ answer_hides r.get m.0.0.event.before (sym (ap where_shown m.0.0.answers))
   no_bytes (Same etag stamp) hidden m = m.1.1 m.0.0.event m.0.0.is_last ∙ answer_hides r.get m.0.0.event.before (sym (ap where_shown m.0.0.answers))
   no_bytes (Counted row objects bytes) hidden m = m.1.1 m.0.0.event m.0.0.is_last ∙ answer_hides r.get m.0.0.event.before (sym (ap where_shown m.0.0.answers))
+  no_bytes (Listed rows) hidden m = m.1.1 m.0.0.event m.0.0.is_last ∙ answer_hides r.get m.0.0.event.before (sym (ap where_shown m.0.0.answers))
   no_bytes (Shown kind meta etag stamp size start count) hidden m = cc
 
   bytes_shown : (outcome : Outcome) (shown : List ℕ) → shown ≡ brought r.get events → GetMeans r outcome (account_at settings d) events → AreBytesOf r outcome shown (account_at settings d)
@@ -118,6 +119,7 @@ module _ (settings : SettingsView) (t : GetTask) (d : DoorView) (fits : Fits t s
   bytes_shown (Done (Stored etag stamp)) shown is m = is ∙ no_bytes (Stored etag stamp) refl m
   bytes_shown (Done (Same etag stamp)) shown is m = is ∙ no_bytes (Same etag stamp) refl m
   bytes_shown (Done (Counted row objects bytes)) shown is m = is ∙ no_bytes (Counted row objects bytes) refl m
+  bytes_shown (Done (Listed rows)) shown is m = is ∙ no_bytes (Listed rows) refl m
   bytes_shown (LateRead read_at clock) shown is m =
       let last = m.0.by_map.is_last in
       let front = m.2 m.0.by_map.event last in

@@ -25,12 +25,17 @@ use Rattle.task_get.specs.declared.task.GetTask.{GetTask}
 use Rattle.task_container.specs.Counts.{IsContainerOutcome}
 use Rattle.task_container.specs.Stages as stat
 use Rattle.task_container.specs.declared.task.ContainerTask.{ContainerTask}
+use Rattle.task_list.specs.Listed.{IsListOutcome}
+use Rattle.task_list.specs.Tasks as list
+use Rattle.task_list.specs.declared.task.ListTask.{ListTask}
 use Rattle.task_turns.proofs.Containers.{container_waits}
+use Rattle.task_turns.proofs.Lists.{list_waits}
 use Rattle.script_words.specs.Bodies.{body_bytes}
 use Rattle.script_words.specs.declared.line.Verb.{Verb}
 use Rattle.script_words.specs.declared.line.Verb.TheVariants.{Put, Get, Stat}
+use Rattle.script_words.specs.declared.line.Verb.TheVariants as verbs
 use Rattle.script_player.specs.Meanings.{AreBytesOf, Means}
-use Rattle.script_player.specs.Requests.{put_request, get_request, stat_request}
+use Rattle.script_player.specs.Requests.{put_request, get_request, stat_request, list_request}
 use Rattle.script_player.specs.Plays.{FitsBy, fits}
 use Rattle.script_player.specs.declared.player.Acting.{Acting}
 use Rattle.script_player.specs.declared.player.Acting.TheVariants as actings
@@ -64,6 +69,8 @@ module _ (settings : SettingsView) (d e : DoorView) (pass : e.pass ≡ d.pass) (
       (at_both (GetMeans r outcome) m.0, subst (AreBytesOf r outcome shown) (sym account_same) m.1)
   means_stay zone (Stat container) outcome shown m =
       (at_both (IsContainerOutcome (stat_request zone container) outcome) m.0, m.1)
+  means_stay zone (verbs.List container) outcome shown m =
+      (at_both (IsListOutcome (list_request zone container) outcome) m.0, m.1)
 
   module _ (front : IsSeen d.seen e.seen) (legal : Legal settings e.seen) where
     longer : length d.seen ≤ length e.seen
@@ -112,6 +119,11 @@ module _ (settings : SettingsView) (d e : DoorView) (pass : e.pass ≡ d.pass) (
         container_waits t settings d (record { pass = e.pass; count = e.count; used = d.used; seen = e.seen })
         (record { pass = pass; count = count; used = refl; front = front; same = same })
 
+    list_stays : (t : ListTask) → list.fits t settings d → list.fits t settings e
+    list_stays t =
+        list_waits t settings d (record { pass = e.pass; count = e.count; used = d.used; seen = e.seen })
+        (record { pass = pass; count = count; used = refl; front = front; same = same })
+
     stays_by : (acting : Acting) → FitsBy acting settings d → FitsBy acting settings e
     stays_by (actings.Put x) f = record { is_put = f.is_put; task = put_stays x.task f.task }
     stays_by (actings.Get x) f = record {
@@ -120,6 +132,7 @@ module _ (settings : SettingsView) (d e : DoorView) (pass : e.pass ≡ d.pass) (
       shown = subst (λ es. x.shown.items ≡ brought (get.request_of x.task).get es) (sym events_same) f.shown;
     }
     stays_by (actings.Stat t) f = record { is_stat = f.is_stat; task = stat_stays t f.task }
+    stays_by (actings.List t) f = record { is_list = f.is_list; task = list_stays t f.task }
 
     pub player_stays : (p : Player) → fits p settings d → fits p settings e
     player_stays p f = stays_by p.acting f

@@ -14,10 +14,12 @@ use Rattle.task_get.specs.declared.request.GetRequest.{GetRequest}
 use Rattle.task_get.specs.Gets.{IsFront, shown_at}
 use Rattle.task_get.specs.Tasks.{account_at, means}
 use Rattle.task_container.specs.Counts.{IsContainerOutcome}
+use Rattle.task_list.specs.Listed.{IsListOutcome}
 use Rattle.script_words.specs.Bodies.{body_bytes}
 use Rattle.script_words.specs.declared.line.Verb.{Verb}
 use Rattle.script_words.specs.declared.line.Verb.TheVariants.{Put, Get, Stat}
-use Rattle.script_player.specs.Requests.{put_request, get_request, stat_request}
+use Rattle.script_words.specs.declared.line.Verb.TheVariants as verbs
+use Rattle.script_player.specs.Requests.{put_request, get_request, stat_request, list_request}
 
 -- a front of the bytes that the bucket map shows at the event that decides
 pub record AreFront (r : GetRequest) (shown : List ℕ) (last : Option Decided) : Type 0 where
@@ -40,4 +42,7 @@ Means zone (Get container name) outcome shown settings d =
     × AreBytesOf (get_request zone container name) outcome shown (account_at settings d)
 Means zone (Stat container) outcome shown settings d =
     IsContainerOutcome (stat_request zone container) outcome (account_of settings d.seen (actor_at d)) (own_events d.seen (actor_at d))
+    × (shown ≡ [])
+Means zone (verbs.List container) outcome shown settings d =
+    IsListOutcome (list_request zone container) outcome (account_of settings d.seen (actor_at d)) (own_events d.seen (actor_at d))
     × (shown ≡ [])

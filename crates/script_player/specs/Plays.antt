@@ -15,11 +15,13 @@ use Rattle.task_get.specs.Tasks as get
 use Rattle.task_container.specs.Counts.{name_of}
 use Rattle.task_container.specs.Stages as stat
 use Rattle.task_container.specs.declared.task.ContainerTask.{ContainerTask}
+use Rattle.task_list.specs.Tasks as list
+use Rattle.task_list.specs.declared.task.ListTask.{ListTask}
 use Rattle.put_service.specs.Standing.{IsSteady}
 use Rattle.script_words.specs.Bodies.{body_bytes}
 use Rattle.script_words.specs.declared.line.Verb.{Verb}
 use Rattle.script_words.specs.declared.line.Verb.TheVariants as verbs
-use Rattle.script_player.specs.Requests.{put_request, get_request, stat_request}
+use Rattle.script_player.specs.Requests.{put_request, get_request, stat_request, list_request}
 use Rattle.script_player.specs.declared.get.GetPlay.{GetPlay}
 use Rattle.script_player.specs.declared.player.Acting.{Acting}
 use Rattle.script_player.specs.declared.player.Acting.TheVariants as actings
@@ -50,10 +52,14 @@ asked_get x = record {
 abbrev pub asked_stat : ContainerTask → Asked
 asked_stat t = record { zone = (stat.request_of t).zone; verb = verbs.Stat (name_of (stat.request_of t).command) }
 
+abbrev pub asked_list : ListTask → Asked
+asked_list t = record { zone = (list.request_of t).zone; verb = verbs.List ((list.request_of t).command).container }
+
 abbrev pub asked_by : Acting → Asked
 asked_by (actings.Put x) = asked_put x
 asked_by (actings.Get x) = asked_get x
 asked_by (actings.Stat t) = asked_stat t
+asked_by (actings.List t) = asked_list t
 
 abbrev pub asked : Player → Asked
 asked p = asked_by p.acting
@@ -81,6 +87,9 @@ IsGet x = get.request_of x.task ≡ get_request (asked_get x).zone (get.request_
 abbrev pub IsStat : ContainerTask → Type 0
 IsStat t = stat.request_of t ≡ stat_request (asked_stat t).zone (name_of (stat.request_of t).command)
 
+abbrev pub IsList : ListTask → Type 0
+IsList t = list.request_of t ≡ list_request (asked_list t).zone ((list.request_of t).command).container
+
 -- no step stopped with a fault; a PUT is at the body that it was fed, as long as it goes on
 pub record PutStands (x : PutPlay) : Type 0 where
   pub is_put : IsPut x
@@ -95,10 +104,15 @@ pub record StatStands (t : ContainerTask) : Type 0 where
   pub is_stat : IsStat t
   pub sound : stat.fault_of t ≡ None
 
+pub record ListStands (t : ListTask) : Type 0 where
+  pub is_list : IsList t
+  pub sound : list.fault_of t ≡ None
+
 abbrev pub StandsBy : Acting → Type 0
 StandsBy (actings.Put x) = PutStands x
 StandsBy (actings.Get x) = GetStands x
 StandsBy (actings.Stat t) = StatStands t
+StandsBy (actings.List t) = ListStands t
 
 -- so many bytes behind the first were taken: some, if there was room
 pub record TakesNext (bytes : List ℕ) (at : ℕ) (old new : PutTask) (count : ℕ) : Type 0 where
@@ -127,10 +141,14 @@ GetEnded x = get_stages.IsOver (get.stage_of x.task) × (get.fault_of x.task ≡
 abbrev pub StatEnded : ContainerTask → Type 0
 StatEnded t = stat.IsOver (stat.stage_of t) × (stat.fault_of t ≡ None)
 
+abbrev pub ListEnded : ListTask → Type 0
+ListEnded t = list.IsOver (list.stage_of t) × (list.fault_of t ≡ None)
+
 abbrev pub EndedBy : Acting → Type 0
 EndedBy (actings.Put x) = PutEnded x
 EndedBy (actings.Get x) = GetEnded x
 EndedBy (actings.Stat t) = StatEnded t
+EndedBy (actings.List t) = ListEnded t
 
 -- the outcome is there
 abbrev pub IsEnded : Player → Type 0
@@ -151,6 +169,7 @@ abbrev pub shown_by : Acting → List ℕ
 shown_by (actings.Put x) = []
 shown_by (actings.Get x) = x.shown.items
 shown_by (actings.Stat t) = []
+shown_by (actings.List t) = []
 
 abbrev pub shown_of : Player → List ℕ
 shown_of p = shown_by p.acting
@@ -172,10 +191,15 @@ pub record FitsStat (t : ContainerTask) (settings : SettingsView) (d : DoorView)
   pub is_stat : IsStat t
   pub task : stat.fits t settings d
 
+pub record FitsList (t : ListTask) (settings : SettingsView) (d : DoorView) : Type 0 where
+  pub is_list : IsList t
+  pub task : list.fits t settings d
+
 abbrev pub FitsBy : Acting → SettingsView → DoorView → Type 0
 FitsBy (actings.Put x) settings d = FitsPut x settings d
 FitsBy (actings.Get x) settings d = FitsGet x settings d
 FitsBy (actings.Stat t) settings d = FitsStat t settings d
+FitsBy (actings.List t) settings d = FitsList t settings d
 
 -- the player stands where the own events of the door's actor bring it
 abbrev pub fits : Player → SettingsView → DoorView → Type 0

@@ -11,6 +11,9 @@ use Rattle.task_put.specs.declared.stage.PutRequest.{PutRequest}
 use Rattle.task_get.specs.declared.request.GetRequest.{GetRequest}
 use Rattle.task_container.specs.declared.request.ContainerCommand.TheVariants.{Head}
 use Rattle.task_container.specs.declared.request.ContainerRequest.{ContainerRequest}
+use Rattle.list_words.specs.declared.command.ListCommand.{ListCommand}
+use Rattle.list_words.specs.Listings.{row_limit}
+use Rattle.task_list.specs.declared.request.ListRequest.{ListRequest}
 use Rattle.script_words.specs.Bodies.{body_bytes}
 use Rattle.script_words.specs.declared.line.Verb.{Verb}
 use Rattle.script_words.specs.declared.line.Verb.TheVariants.{Put}
@@ -49,3 +52,11 @@ get_request zone container name = record { zone = zone; asker = standard_asker; 
 
 abbrev pub stat_request : ℕ → List ℕ → ContainerRequest
 stat_request zone container = record { zone = zone; asker = standard_asker; command = Head container }
+
+-- for all names of a container, up to the most rows
+abbrev pub all_names : List ℕ → ListCommand
+all_names container =
+    record { container = container; limit = row_limit; marker = []; end_marker = []; prefix = []; delimiter = [] }
+
+abbrev pub list_request : ℕ → List ℕ → ListRequest
+list_request zone container = record { zone = zone; asker = standard_asker; command = all_names container }

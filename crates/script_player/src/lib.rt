@@ -4,6 +4,7 @@
 mod asker;
 mod get;
 mod laws;
+mod list;
 mod player;
 mod put;
 mod stat;

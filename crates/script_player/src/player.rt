@@ -11,6 +11,7 @@ ghost use Rattle.script_player.specs.Plays.{asked, StandsBy, IsPlaying, IsEnded,
 ghost use Rattle.script_player.specs.Requests.{HasFewBytes};
 
 use crate::get::GetPlay;
+use crate::list::{list, listed, new_list};
 use crate::put::PutPlay;
 use crate::stat::{count, counted, new_stat};
 use realm_door::Door;
@@ -18,6 +19,7 @@ use realm_model::Settings;
 use script_words::Verb;
 use std::alloc::{AllocError, Global};
 use task_container::ContainerTask;
+use task_list::ListTask;
 use task_words::Outcome;
 use turn_cell::DoorFault;
 
@@ -36,6 +38,7 @@ pub(crate) enum Acting {
     Put(PutPlay),
     Get(GetPlay),
     Stat(ContainerTask),
+    List(ListTask),
 }
 
 /// One actor of a script: a request of the one user, in one zone, which goes on event by event. It keeps
@@ -69,6 +72,7 @@ impl Player {
                 Acting::Get(GetPlay::new(alloc, zone, container, name)?)
             }
             Verb::Stat { container } => Acting::Stat(new_stat(alloc, zone, container)?),
+            Verb::List { container } => Acting::List(new_list(alloc, zone, container)?),
         };
         Ok(Player { acting })
     }
@@ -91,6 +95,7 @@ impl Player {
             Acting::Put(play) => play.event(alloc, door, moment),
             Acting::Get(play) => play.event(alloc, door, moment),
             Acting::Stat(task) => count(alloc, task, door, moment),
+            Acting::List(task) => list(alloc, task, door, moment),
         }
     }
 
@@ -138,6 +143,7 @@ impl Player {
             Acting::Put(play) => play.outcome(),
             Acting::Get(play) => play.outcome(),
             Acting::Stat(task) => counted(task),
+            Acting::List(task) => listed(task),
         }
     }
 

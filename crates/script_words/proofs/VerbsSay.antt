@@ -5,11 +5,12 @@ use Rattle.std.specs.Option.{option_map, option_and_then}
 use Rattle.std.proofs.lemmas.Bool.{eqb-true, le-leb, leb-true, false_from_ne_true}
 use Rattle.std.proofs.lemmas.Option.{none-some, same_Some, cond_some}
 use Rattle.script_words.specs.Lines.{is_container, most_letters, IsPlain, IsBody, IsVerb}
-use Rattle.script_words.specs.Reading.{number_in, container_in, path_in, times_in, body_in, put_in, get_in, stat_in, verb_in}
+use Rattle.script_words.specs.Reading.{number_in, container_in, path_in, times_in, body_in, put_in, get_in, stat_in, list_in, verb_in}
 use Rattle.script_words.specs.declared.line.ScriptBody.{ScriptBody}
 use Rattle.script_words.specs.declared.line.ScriptBody.TheVariants.{Word, Times}
 use Rattle.script_words.specs.declared.line.Verb.{Verb}
 use Rattle.script_words.specs.declared.line.Verb.TheVariants.{Put, Get, Stat}
+use Rattle.script_words.specs.declared.line.Verb.TheVariants as verbs
 use Rattle.script_words.specs.declared.verbs.Path.{Path}
 use Rattle.script_words.proofs.Options.{map_some, then_some, either_some, same_word}
 use Rattle.script_words.proofs.WordsSay.{number_says, number_means, path_says, path_means, kept}
@@ -82,6 +83,8 @@ verb_says words (Get container name) is =
     ap verb_in is.1 ∙ ap (option_map (λ (p : Path). Get p.container p.name)) (path_says is.0 container name is.2)
 verb_says words (Stat container) is =
     ap verb_in is.0 ∙ ap (option_map (λ c. Stat c)) (kept (is_container container) container container is.1 refl)
+verb_says words (verbs.List container) is =
+    ap verb_in is.0 ∙ ap (option_map (λ c. verbs.List c)) (kept (is_container container) container container is.1 refl)
 
 put_means : (command : List ℕ) (words : List (List ℕ)) (verb : Verb) → command ≡ codes "put" → put_in words ≡ Some verb → IsVerb (command ∷ words) verb
 put_means command [] verb is read = absurd (none-some verb read)
@@ -109,17 +112,29 @@ stat_means command (word ∷ []) verb is read =
     let name = cond_some (is_container word) word first.0 first.1 in
     subst (IsVerb (command ∷ word ∷ [])) (ap (λ c. Stat c) name.1 ∙ first.2) (ap (λ c. c ∷ word ∷ []) is, name.0)
 
+list_means : (command : List ℕ) (words : List (List ℕ)) (verb : Verb) → command ≡ codes "list" → list_in words ≡ Some verb → IsVerb (command ∷ words) verb
+list_means command [] verb is read = absurd (none-some verb read)
+list_means command (word ∷ more ∷ words) verb is read = absurd (none-some verb read)
+list_means command (word ∷ []) verb is read =
+    let first = map_some (λ c. verbs.List c) (container_in word) verb read in
+    let name = cond_some (is_container word) word first.0 first.1 in
+    subst (IsVerb (command ∷ word ∷ [])) (ap (λ c. verbs.List c) name.1 ∙ first.2) (ap (λ c. c ∷ word ∷ []) is, name.0)
+
 pub verb_means : (words : List (List ℕ)) (verb : Verb) → verb_in words ≡ Some verb → IsVerb words verb
 verb_means [] verb read = absurd (none-some verb read)
 verb_means (command ∷ words) verb read =
-    let stat = cond (bytes_eq command (codes "stat")) (stat_in words) None in
+    let list = cond (bytes_eq command (codes "list")) (list_in words) None in
+    let stat = cond (bytes_eq command (codes "stat")) (stat_in words) list in
     let get = cond (bytes_eq command (codes "get")) (get_in words) stat in ⊎_elim
     (λ (p : (bytes_eq command (codes "put") ≡ true) × (put_in words ≡ Some verb)). put_means command words verb (same_word _ _ p.0) p.1)
     (λ (q : (bytes_eq command (codes "put") ≡ false) × (get ≡ Some verb)). ⊎_elim
     (λ (p : (bytes_eq command (codes "get") ≡ true) × (get_in words ≡ Some verb)). get_means command words verb (same_word _ _ p.0) p.1)
     (λ (r : (bytes_eq command (codes "get") ≡ false) × (stat ≡ Some verb)). ⊎_elim
     (λ (p : (bytes_eq command (codes "stat") ≡ true) × (stat_in words ≡ Some verb)). stat_means command words verb (same_word _ _ p.0) p.1)
-    (λ (s : (bytes_eq command (codes "stat") ≡ false) × (None ≡ Some verb)). absurd (none-some verb s.1))
-    (either_some _ (stat_in words) None verb r.1))
+    (λ (s : (bytes_eq command (codes "stat") ≡ false) × (list ≡ Some verb)). ⊎_elim
+    (λ (p : (bytes_eq command (codes "list") ≡ true) × (list_in words ≡ Some verb)). list_means command words verb (same_word _ _ p.0) p.1)
+    (λ (t : (bytes_eq command (codes "list") ≡ false) × (None ≡ Some verb)). absurd (none-some verb t.1))
+    (either_some _ (list_in words) None verb s.1))
+    (either_some _ (stat_in words) list verb r.1))
     (either_some _ (get_in words) stat verb q.1))
     (either_some _ (put_in words) get verb read)

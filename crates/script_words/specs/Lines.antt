@@ -13,6 +13,7 @@ use Rattle.script_words.specs.declared.line.ScriptBody.{ScriptBody}
 use Rattle.script_words.specs.declared.line.ScriptBody.TheVariants.{Word, Times}
 use Rattle.script_words.specs.declared.line.Verb.{Verb}
 use Rattle.script_words.specs.declared.line.Verb.TheVariants.{Put, Get, Stat}
+use Rattle.script_words.specs.declared.line.Verb.TheVariants as verbs
 
 -- ---- words
 
@@ -86,6 +87,7 @@ IsVerb words (Put container name body) =
     (path : List ℕ) × (word : List ℕ) × (words ≡ codes "put" ∷ path ∷ word ∷ []) × IsPath path container name × IsBody word body
 IsVerb words (Get container name) = (path : List ℕ) × (words ≡ codes "get" ∷ path ∷ []) × IsPath path container name
 IsVerb words (Stat container) = (words ≡ codes "stat" ∷ container ∷ []) × (is_container container ≡ true)
+IsVerb words (verbs.List container) = (words ≡ codes "list" ∷ container ∷ []) × (is_container container ≡ true)
 
 -- the words are an actor behind this command, and nothing more
 pub record IsOfActor (command : List ℕ) (words : List (List ℕ)) (actor : List ℕ) : Type 0 where

@@ -11,6 +11,7 @@ use Rattle.script_words.specs.declared.line.ScriptBody.{ScriptBody}
 use Rattle.script_words.specs.declared.line.ScriptBody.TheVariants.{Word, Times}
 use Rattle.script_words.specs.declared.line.Verb.{Verb}
 use Rattle.script_words.specs.declared.line.Verb.TheVariants.{Put, Get, Stat}
+use Rattle.script_words.specs.declared.line.Verb.TheVariants as verbs
 use Rattle.script_words.specs.declared.no_line.NoLine.{NoLine}
 use Rattle.script_words.specs.declared.no_line.NoLine.TheVariants.{Bad, OutOfMemory}
 use Rattle.script_words.specs.declared.verbs.Path.{Path}
@@ -77,12 +78,17 @@ abbrev pub stat_in : List (List ℕ) → Option Verb
 stat_in (word ∷ []) = option_map (λ container. Stat container) (container_in word)
 stat_in words = None
 
+abbrev pub list_in : List (List ℕ) → Option Verb
+list_in (word ∷ []) = option_map (λ container. verbs.List container) (container_in word)
+list_in words = None
+
 abbrev pub verb_in : List (List ℕ) → Option Verb
 verb_in [] = None
 verb_in (verb ∷ words) =
     if bytes_eq verb (codes "put") then put_in words else
     (if bytes_eq verb (codes "get") then get_in words else
-    (if bytes_eq verb (codes "stat") then stat_in words else None))
+    (if bytes_eq verb (codes "stat") then stat_in words else
+    (if bytes_eq verb (codes "list") then list_in words else None)))
 
 -- ---- lines
 

@@ -1,13 +1,15 @@
 -- The texts of the replies to a script (own), with the codes and lines of the Swift API's refusals.
-use Rattle.std.specs.Prelude.{ℕ, List, [], ◌∷◌, ◌++◌, Option, Some, None, codes, decimal}
+use Rattle.std.specs.Prelude.{ℕ, List, [], ◌∷◌, ◌++◌, flat_map, Option, Some, None, codes, decimal}
 use Rattle.hex.specs.Hex.{encode_lower}
 use Rattle.call_words.specs.Texts.{refusal_in, refusal_by}
+use Rattle.list_words.specs.declared.row.ListedRow.{ListedRow}
+use Rattle.list_words.specs.Listings.{row_key}
 use Rattle.swift_reply.specs.declared.reply.SwiftRefusal.{SwiftRefusal}
 use Rattle.swift_reply.specs.Replies.{refusal_code, refusal_line}
 use Rattle.task_words.specs.declared.outcome.Outcome.{Outcome}
 use Rattle.task_words.specs.declared.outcome.Outcome.TheVariants.{Done, LateRead}
 use Rattle.task_words.specs.declared.reply.MapReply.{MapReply}
-use Rattle.task_words.specs.declared.reply.MapReply.TheVariants.{Stored, Shown, Same, Counted, Refused}
+use Rattle.task_words.specs.declared.reply.MapReply.TheVariants.{Stored, Shown, Same, Counted, Listed, Refused}
 
 -- the code and the line of a refusal
 abbrev pub refusal_text : SwiftRefusal → List ℕ
@@ -18,12 +20,22 @@ abbrev pub behind_blank : List ℕ → List ℕ
 behind_blank [] = []
 behind_blank (b ∷ bytes) = 32 ∷ b ∷ bytes
 
+-- the keys of rows, each behind a blank
+abbrev pub keys_text : List ListedRow → List ℕ
+keys_text rows = flat_map (λ row. 32 ∷ row_key row) rows
+
+-- the keys of a listing, if it has a row
+abbrev pub listed_text : List ListedRow → List ℕ
+listed_text [] = codes "204"
+listed_text (row ∷ rows) = codes "200" ++ keys_text (row ∷ rows)
+
 -- what is replied of an object or a container, with the bytes that are shown
 abbrev pub map_text : MapReply → List ℕ → List ℕ
 map_text (Stored etag stamp) shown = codes "201 " ++ encode_lower etag
 map_text (Shown kind meta etag stamp size start count) shown = codes "200 " ++ decimal size ++ behind_blank shown
 map_text (Same etag stamp) shown = codes "304 " ++ encode_lower etag
 map_text (Counted row objects bytes) shown = codes "200 objects=" ++ decimal objects ++ codes " bytes=" ++ decimal bytes
+map_text (Listed rows) shown = listed_text rows
 map_text (Refused refusal) shown = refusal_text (refusal_in refusal)
 
 -- a refusal, if it is one

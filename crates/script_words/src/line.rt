@@ -29,6 +29,10 @@ pub enum Verb {
     Stat {
         container: BucketName,
     },
+    /// Lists the objects of a container: `list C`.
+    List {
+        container: BucketName,
+    },
 }
 
 /// A line of a script.

@@ -2,9 +2,10 @@
 ghost use Rattle.std.specs.Prelude.{◌≡◌, ◌++◌, ◌∷◌, [], OnOk, codes, decimal};
 ghost use Rattle.call_words.specs.Texts.{refusal_in};
 ghost use Rattle.task_words.specs.declared.reply.Refusal.TheVariants.{Denied};
-ghost use Rattle.script_words.specs.Replies.{refusal_text, behind_blank, map_text, outcome_text, reply_line, named_line, count_line, bad_line};
+ghost use Rattle.script_words.specs.Replies.{refusal_text, behind_blank, listed_text, keys_text, map_text, outcome_text, reply_line, named_line, count_line, bad_line};
 
 use crate::ActorName;
+use list_words::ListedRow;
 use object_words::etag_digits;
 use std::alloc::AllocError;
 use swift_auth::Rule;
@@ -71,6 +72,28 @@ fn push_shown(out: &mut Vec<u8>, shown: &[u8]) -> Result<(), AllocError>
     out.extend_from_slice(shown)
 }
 
+/// Adds the keys of rows, each behind a blank.
+fn push_keys(out: &mut Vec<u8>, rows: &[ListedRow]) -> Result<(), AllocError>
+    ensures { OnOk result (out.new.items ≡ out.old.items ++ keys_text rows.now) }
+{
+    for row in rows {
+        out.push(b' ')?;
+        out.extend_from_slice(row.key().as_bytes())?;
+    }
+    Ok(())
+}
+
+/// Adds the keys of a listing; `204` where it has no row.
+fn push_listed(out: &mut Vec<u8>, rows: &[ListedRow]) -> Result<(), AllocError>
+    ensures { OnOk result (out.new.items ≡ out.old.items ++ listed_text rows.now) }
+{
+    if rows.is_empty() {
+        return out.extend_from_slice(b"204");
+    }
+    out.extend_from_slice(b"200")?;
+    push_keys(out, rows)
+}
+
 /// Adds what is replied of an object or a container, with the bytes that are shown.
 fn push_map_reply(out: &mut Vec<u8>, reply: &MapReply, shown: &[u8]) -> Result<(), AllocError>
     ensures { OnOk result (out.new.items ≡ out.old.items ++ map_text reply.now shown.now) }
@@ -92,13 +115,14 @@ fn push_map_reply(out: &mut Vec<u8>, reply: &MapReply, shown: &[u8]) -> Result<(
             push_counted(out, "200 objects=", *objects)?;
             push_counted(out, " bytes=", *bytes)
         }
+        MapReply::Listed(rows) => push_listed(out, rows.as_slice()),
         MapReply::Refused(refusal) => out.extend_from_slice(refusal_text(*refusal).as_bytes()),
     }
 }
 
 /// Adds what is replied where a task ended so, with the bytes that it shows: `201 {etag}`,
-/// `200 {size} {bytes}`, `200 objects={n} bytes={n}`, `late {read_at} {clock}`, or the code and the line of the
-/// Swift API's refusal.
+/// `200 {size} {bytes}`, `200 objects={n} bytes={n}`, `200 {key} {key}` or `204` for a listing,
+/// `late {read_at} {clock}`, or the code and the line of the Swift API's refusal.
 pub fn push_outcome(out: &mut Vec<u8>, outcome: &Outcome, shown: &[u8]) -> Result<(), AllocError>
     ensures { OnOk result (out.new.items ≡ out.old.items ++ outcome_text outcome.now shown.now) }
 {

@@ -2,7 +2,7 @@
 ghost use Rattle.std.specs.Prelude.{◌≡◌, map};
 ghost use Rattle.std.specs.List.{position};
 ghost use Rattle.script_words.specs.Lines.{is_slash};
-ghost use Rattle.script_words.specs.Reading.{Reads, path_in, times_in, body_in, put_in, get_in, stat_in, verb_in};
+ghost use Rattle.script_words.specs.Reading.{Reads, path_in, times_in, body_in, put_in, get_in, stat_in, list_in, verb_in};
 
 use crate::no_line::NoLine;
 use crate::words::{container_in, is, name_in, number_in};
@@ -97,6 +97,17 @@ fn stat_in(alloc: Global, words: &[&[u8]]) -> Result<Verb, NoLine>
     })
 }
 
+fn list_in(alloc: Global, words: &[&[u8]]) -> Result<Verb, NoLine>
+    ensures { Reads result (list_in (map (λ word. word.now) words.now)) }
+{
+    let [container] = words else {
+        return Err(NoLine::Bad);
+    };
+    Ok(Verb::List {
+        container: container_in(alloc, container)?,
+    })
+}
+
 /// The verb with its arguments that the words are.
 pub(crate) fn verb_in(alloc: Global, words: &[&[u8]]) -> Result<Verb, NoLine>
     ensures { Reads result (verb_in (map (λ word. word.now) words.now)) }
@@ -110,6 +121,8 @@ pub(crate) fn verb_in(alloc: Global, words: &[&[u8]]) -> Result<Verb, NoLine>
         get_in(alloc, arguments)
     } else if is(verb, "stat") {
         stat_in(alloc, arguments)
+    } else if is(verb, "list") {
+        list_in(alloc, arguments)
     } else {
         Err(NoLine::Bad)
     }

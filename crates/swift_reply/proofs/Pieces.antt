@@ -80,3 +80,9 @@ nothing false none e = e
 -- no body is written as none
 pub written_nothing : (form : ReplyForm) → written_body form [] ≡ []
 written_nothing form = nothing form.bodiless [] refl
+
+-- a status line, one group of fields and the empty line
+pub bare : (o o₁ o₂ o₃ s k e : List ℕ)
+    → o₁ ≡ o ++ s → o₂ ≡ o₁ ++ k → o₃ ≡ o₂ ++ e
+    → o₃ ≡ o ++ (s ++ k ++ e)
+bare o o₁ o₂ o₃ s k e e₁ e₂ e₃ = more o₂ o₃ o (s ++ k) e e₃ (more o₁ o₂ o s k e₂ e₁) ∙ simp append_assoc

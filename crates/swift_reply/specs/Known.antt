@@ -5,8 +5,8 @@ use Rattle.rgw_types.specs.declared.stamp.Stamp.{Stamp}
 use Rattle.swift_reply.specs.declared.reply.ContainerCounts.{ContainerCounts}
 use Rattle.swift_reply.specs.declared.reply.ShownObject.{ShownObject}
 use Rattle.swift_reply.specs.declared.row.AccountRow.{AccountRow}
-use Rattle.swift_reply.specs.declared.row.Row.{Row}
-use Rattle.swift_reply.specs.declared.row.Row.TheVariants.{Thing}
+use Rattle.list_words.specs.declared.row.ListedRow.{ListedRow}
+use Rattle.list_words.specs.declared.row.ListedRow.TheVariants.{Thing}
 
 -- the connection goes on
 abbrev pub open_form : ReplyForm
@@ -44,9 +44,8 @@ object_of size meta expires = record {
 }
 
 -- the row of an object that was stored then
-abbrev pub row_of : List ℕ → ℕ → List ℕ → Row
+abbrev pub row_of : List ℕ → ℕ → List ℕ → ListedRow
 row_of name size etag = Thing name (record {
-  exists = true;
   size = size;
   stamp = november;
   etag = etag;

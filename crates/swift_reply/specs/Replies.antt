@@ -250,6 +250,11 @@ reply_body reply shown = rows_text reply
 unfoldable pub reply_text : ReplyForm → SwiftReply → List ℕ → List ℕ
 reply_text form reply shown = text_of form (reply_head form reply) (reply_body reply shown)
 
+-- the text of the reply with this text of a listing
+abbrev pub listing_text : ReplyForm → ListingForm → List ℕ → List ℕ
+listing_text form listing text =
+    text_of form (record { code = listing_code text; fields = fields_of (record (listing_says listing text) { close = form.close }) }) text
+
 -- what stands before a reply to a request that waits for it with its body (RFC 9110, section 15.2.1)
 unfoldable pub continue_text : List ℕ
 continue_text = status_line 100 ++ crlf

@@ -2,7 +2,7 @@
 ghost use Rattle.std.specs.Prelude.{◌≡◌, ◌∷◌, [], Some, None, codes, true, false};
 ghost use Rattle.swift_reply.specs.declared.reply.ListingForm.TheVariants as Form;
 ghost use Rattle.swift_reply.specs.declared.reply.SwiftReply.TheVariants.{Stored, Shown, Same, Created, Accepted, Done, Listed, Counted, AccountListed, AccountCounted, LetIn};
-ghost use Rattle.swift_reply.specs.declared.row.Row.TheVariants.{Thing, Subdir};
+ghost use Rattle.list_words.specs.declared.row.ListedRow.TheVariants.{Thing, Subdir};
 ghost use Rattle.swift_reply.specs.Known.{open_form, closing_form, bodiless_form, november, hello_etag, empty_etag, object_of, row_of, docs_row, front_row, own_counts, foreign_counts, odd_name};
 ghost use Rattle.swift_reply.specs.Listings.{json_text, json_account_text, plain_account_text};
 ghost use Rattle.swift_reply.specs.Moments.{moment_text};

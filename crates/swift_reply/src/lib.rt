@@ -7,6 +7,7 @@ mod fields;
 mod head;
 mod known;
 mod known_refusals;
+mod listed;
 mod listing;
 mod moment;
 mod object;
@@ -23,6 +24,7 @@ pub use known::{
     objects_are_replied_so, rows_are_written_so,
 };
 pub use known_refusals::{first_refusals_are_replied_so, later_refusals_are_replied_so};
+pub use listed::push_listed;
 pub use listing::json_rows;
 pub use object::{push_same, push_shown_head, push_span_head, push_stored};
 pub use plain::{plain_accounts, plain_rows};
@@ -31,7 +33,7 @@ pub use reply::{
     ContainerCounts, Denial, Invalid, ListingForm, ShownObject, ShownSpan, SwiftRefusal,
     SwiftReply, TargetKind,
 };
-pub use row::{AccountRow, AccountRows, Row, Rows};
+pub use row::{AccountRow, AccountRows};
 pub use std::alloc::AllocError as OutOfMemory;
 
 #[cfg(test)]

@@ -8,9 +8,8 @@ ghost use Rattle.serde_json.specs.Written.{outline};
 ghost use Rattle.swift_reply.specs.Listings.{thing_data, subdir_data, row_data, json_text};
 
 use crate::moment::moment_digits;
-use crate::{Row, Rows};
 use json::Writer;
-use object_words::EntryRow;
+use list_words::{ListedRow, ListedRows, ListedThing};
 use rgw_types::Bytes;
 use std::alloc::{AllocError, Global};
 
@@ -57,16 +56,16 @@ fn hash_digits(etag: &[u8; 16]) -> [u8; 32]
 }
 
 /// Adds the row of an object. The members come by rising name.
-fn push_thing(out: &mut Writer, name: &str, entry: &EntryRow) -> Result<(), AllocError>
+fn push_thing(out: &mut Writer, name: &str, thing: &ListedThing) -> Result<(), AllocError>
     ensures ok { OnOk result (out.new.tokens
-        ≡ out.old.tokens ++ json_tokens (outline (thing_data name.now entry.now))) }
+        ≡ out.old.tokens ++ json_tokens (outline (thing_data name.now thing.now))) }
     ensures before { out.new.before ≡ out.old.before }
 {
-    let hash = hash_digits(&entry.etag);
-    let moment = moment_digits(entry.stamp.micros);
+    let hash = hash_digits(&thing.etag);
+    let moment = moment_digits(thing.stamp.micros);
     out.begin_object()?;
-    push_number(out, "bytes", entry.size)?;
-    push_text(out, "content_type", entry.kind.as_text().as_str())?;
+    push_number(out, "bytes", thing.size)?;
+    push_text(out, "content_type", thing.kind.as_text().as_str())?;
     push_text(out, "hash", text_of(&hash))?;
     push_text(out, "last_modified", text_of(&moment))?;
     push_text(out, "name", name)?;
@@ -84,19 +83,19 @@ pub(crate) fn push_subdir(out: &mut Writer, key: &str) -> Result<(), AllocError>
     out.end_object()
 }
 
-fn push_row(out: &mut Writer, row: &Row) -> Result<(), AllocError>
+fn push_row(out: &mut Writer, row: &ListedRow) -> Result<(), AllocError>
     ensures ok { OnOk result (out.new.tokens
         ≡ out.old.tokens ++ json_tokens (outline (row_data row.now))) }
     ensures before { out.new.before ≡ out.old.before }
 {
     match row {
-        Row::Thing(name, entry) => push_thing(out, name.as_str(), entry),
-        Row::Subdir(key) => push_subdir(out, key.as_str()),
+        ListedRow::Thing(name, thing) => push_thing(out, name.as_text().as_str(), thing),
+        ListedRow::Subdir(key) => push_subdir(out, key.as_str()),
     }
 }
 
 /// A container's listing as JSON: one array, an object for each row.
-pub fn json_rows(alloc: Global, rows: &Rows) -> Result<Bytes, AllocError>
+pub fn json_rows(alloc: Global, rows: &ListedRows) -> Result<Bytes, AllocError>
     ensures { IfOk result (λ text. text ≡ json_text rows.now) }
 {
     let mut out = Writer::new(Vec::new(alloc));

@@ -1,28 +1,19 @@
 //! Plain listings: each key with a line feed after it.
 ghost use Rattle.std.specs.Prelude.{◌≡◌, IfOk};
-ghost use Rattle.swift_reply.specs.Listings.{key_of, plain_text, plain_account_text};
+ghost use Rattle.swift_reply.specs.Listings.{plain_text, plain_account_text};
 
-use crate::{AccountRows, Row, Rows};
+use crate::AccountRows;
+use list_words::ListedRows;
 use rgw_types::Bytes;
 use std::alloc::{AllocError, Global};
 
-/// The name of an object, or the front that names have in common.
-fn key_of(row: &Row) -> &[u8]
-    ensures { result.now ≡ key_of row.now }
-{
-    match row {
-        Row::Thing(name, _) => name.as_bytes(),
-        Row::Subdir(key) => key.as_bytes(),
-    }
-}
-
 /// A container's plain listing. No rows have no bytes.
-pub fn plain_rows(alloc: Global, rows: &Rows) -> Result<Bytes, AllocError>
+pub fn plain_rows(alloc: Global, rows: &ListedRows) -> Result<Bytes, AllocError>
     ensures { IfOk result (λ text. text ≡ plain_text rows.now) }
 {
     let mut text = Vec::new(alloc);
     for row in rows.as_slice() {
-        text.extend_from_slice(key_of(row))?;
+        text.extend_from_slice(row.key().as_bytes())?;
         text.push(b'\n')?;
     }
     Ok(Bytes::from_vec(text))

@@ -1,5 +1,6 @@
 //! What a reply of the Swift API says. The definitions of `specs` give each its bytes.
-use crate::{AccountRows, Rows};
+use crate::AccountRows;
+use list_words::ListedRows;
 use object_words::ObjectName;
 use rgw_types::{Bytes, Pairs, Stamp, Text};
 
@@ -150,7 +151,7 @@ pub enum SwiftReply {
     Done,
     /// The rows of a container.
     Listed {
-        rows: Rows,
+        rows: ListedRows,
         form: ListingForm,
     },
     Counted(ContainerCounts),

@@ -1,14 +1,4 @@
-use object_words::EntryRow;
 use rgw_types::{Items, Text};
-
-/// A row of a container's listing.
-#[derive(Debug, Drop)]
-pub enum Row {
-    /// An object: its name, and what the index says of it.
-    Thing(Text, EntryRow),
-    /// The names that have this front in common.
-    Subdir(Text),
-}
 
 /// A row of an account's listing: a container with the number of its objects and their bytes, or, as
 /// `subdir`, the names that have this front in common, with 0 for both.
@@ -19,9 +9,6 @@ pub struct AccountRow {
     pub bytes: u64,
     pub subdir: bool,
 }
-
-/// Rows of a container's listing, in the order in which they are shown.
-pub type Rows = Items<Row>;
 
 /// Rows of an account's listing, in the order in which they are shown.
 pub type AccountRows = Items<AccountRow>;

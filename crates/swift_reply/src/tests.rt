@@ -1,10 +1,11 @@
 use super::{
-    AccountRow, AccountRows, Row, Rows, SwiftRefusal, TargetKind, json_accounts, json_rows,
+    AccountRow, AccountRows, SwiftRefusal, TargetKind, json_accounts, json_rows,
     plain_accounts, plain_rows, push_bad_request, push_refusal, push_shown_head, push_stored,
     write_head,
 };
 use http_model::{BadRequest, Field, Fields, ReplyForm, ReplyHead};
-use object_words::{EntryRow, MediaType, ObjectName};
+use list_words::{ListedRow, ListedRows, ListedThing};
+use object_words::{MediaType, ObjectName};
 use rgw_types::{Bytes, Pairs, Stamp, Text};
 use std::alloc::{AllocError, Global};
 use std::test::Fail;
@@ -17,22 +18,24 @@ const HELLO: [u8; 16] = [
 ];
 
 /// An object of five bytes of plain text, stored at this moment.
-fn thing(alloc: Global, name: &str, micros: u64) -> Result<Row, AllocError> {
+fn thing(alloc: Global, name: &str, micros: u64) -> Result<ListedRow, Fail> {
     let kind = MediaType::new(Text::from_str(alloc, "text/plain")?).unwrap_or(MediaType::absent(
         alloc,
     ));
-    let entry = EntryRow {
-        exists: true,
+    let thing = ListedThing {
         size: 5,
         stamp: Stamp { micros, zone: 1 },
         etag: HELLO,
         kind,
     };
-    Ok(Row::Thing(Text::from_str(alloc, name)?, entry))
+    let name = ObjectName::new(Text::from_str(alloc, name)?)
+        .ok()
+        .ok_or("no name")?;
+    Ok(ListedRow::Thing(name, thing))
 }
 
-fn subdir(alloc: Global, key: &str) -> Result<Row, AllocError> {
-    Ok(Row::Subdir(Text::from_str(alloc, key)?))
+fn subdir(alloc: Global, key: &str) -> Result<ListedRow, AllocError> {
+    Ok(ListedRow::Subdir(Text::from_str(alloc, key)?))
 }
 
 fn account_row(alloc: Global, name: &str, subdir: bool) -> Result<AccountRow, AllocError> {
@@ -59,7 +62,7 @@ fn field(alloc: Global, name: &str, value: &str) -> Result<Field, AllocError> {
 #[test]
 fn rows_of_a_container(rt: HostRuntime) -> Result<(), Fail> {
     let alloc = rt.alloc();
-    let mut rows = Rows::new(alloc);
+    let mut rows = ListedRows::new(alloc);
     assert!(rt; plain_rows(alloc, &rows)?.is_empty());
     assert!(rt; is(&json_rows(alloc, &rows)?, b"[]"));
     rows.push(subdir(alloc, "a\"\\\u{1}\n\u{7f}é/")?)?;

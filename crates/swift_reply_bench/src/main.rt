@@ -9,7 +9,8 @@ use std::alloc::{AllocError, Global};
 use std::env;
 use std::rt::{Clock, Env};
 use std::time::Instant;
-use swift_reply::{AccountRows, Rows, json_accounts, json_rows, plain_accounts, plain_rows};
+use list_words::ListedRows;
+use swift_reply::{AccountRows, json_accounts, json_rows, plain_accounts, plain_rows};
 
 // How often each is measured. The best round counts.
 const ROUNDS: u32 = 60;
@@ -17,8 +18,8 @@ const ROUNDS: u32 = 60;
 // What is written.
 #[derive(Drop)]
 enum Listing {
-    Json(Rows),
-    Plain(Rows),
+    Json(ListedRows),
+    Plain(ListedRows),
     JsonAccounts(AccountRows),
     PlainAccounts(AccountRows),
 }

@@ -1,5 +1,5 @@
-pub mod Ascii
 pub mod Texts
+pub mod PairLemmas
 pub mod Numbers
 pub mod Refusals
 pub mod OnLiterals

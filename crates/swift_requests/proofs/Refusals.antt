@@ -1,44 +1,98 @@
 -- What is known of a request that is not refused.
-use Rattle.std.proofs.Common.{◌≡◌, ℕ, Bool, true, false, not, ◌||◌, ◌==◌, cond, Option, Some, None, refl, codes}
-use Rattle.std.specs.Prelude.{is_some}
-use Rattle.std.specs.List.{list_all, list_any}
-use Rattle.std.proofs.lemmas.Bool.{and_parts}
+use Rattle.std.proofs.Common.{◌≡◌, ◌≤◌, ℕ, Bool, true, false, not, ◌&&◌, cond, nat_le, List, length, Option, Some, None, refl, ap, ◌∙◌, codes}
+use Rattle.std.proofs.lemmas.Bool.{and_parts, leb-true}
+use Rattle.object_words.specs.Limits.{media_type_limit, is_name}
+use Rattle.swift_words.specs.declared.target.Target.TheVariants.{Thing, Container}
+use Rattle.swift_words.specs.Parts.{is_name as word_name}
+use Rattle.swift_words.specs.Targets.{has_names}
 use Rattle.swift_reply.specs.declared.reply.SwiftRefusal.{SwiftRefusal}
-use Rattle.swift_reply.specs.declared.reply.SwiftRefusal.TheVariants.{NotBuilt, Unauthorized, Invalid}
-use Rattle.swift_reply.specs.declared.reply.Invalid.TheVariants.{Value}
+use Rattle.swift_reply.specs.declared.reply.SwiftRefusal.TheVariants.{Unauthorized, Invalid, NoLength, TooLarge}
+use Rattle.swift_reply.specs.declared.reply.Invalid.TheVariants as word
 use Rattle.http_model.specs.declared.head.Head.{Head}
-use Rattle.http_model.specs.Framings.{values_of}
-use Rattle.http_model.specs.Forms.{is_put, is_kind, place_of}
-use Rattle.swift_requests.specs.Asks.{has_taken_method, asks_more, is_taken, is_user, is_text_field, has_texts, refusal_of}
+use Rattle.http_model.specs.Framings.{value_of}
+use Rattle.swift_requests.specs.Asks.{is_user, is_text_field, has_texts, has_put_texts, is_kind_if_any, has_put_sizes, is_without_length, is_above, put_refusal, get_refusal, list_refusal}
+use Rattle.swift_requests.specs.Metadata.{meta_of, are_texts, are_within}
 
-three : (taken user texts : Bool) (a b c : SwiftRefusal) (rest : Option SwiftRefusal)
-    → cond (not taken) (Some a) (cond (not user) (Some b) (cond (not texts) (Some c) rest)) ≡ None
-    → (taken ≡ true) × (texts ≡ true)
-three true true true a b c rest none = (refl, refl)
-three true true false a b c rest none = absurd (cc)
-three true false texts a b c rest none = absurd (cc)
-three false user texts a b c rest none = absurd (cc)
+-- ---- PUTs
 
--- it has a form that is taken, and its ETags are text
-pub not_refused : (largest : ℕ) (head : Head) → refusal_of largest head ≡ None → (is_taken head ≡ true) × (has_texts head ≡ true)
-unfolding refusal_of
-not_refused largest head none =
-    three (is_taken head) (is_user head) (has_texts head) NotBuilt Unauthorized (Invalid Value) _ none
+put_tests : (user texts put_texts sizes short above : Bool) (a b c d e : SwiftRefusal)
+    → cond (not user) (Some a) (cond (not (texts && put_texts)) (Some b) (cond (not sizes) (Some c) (cond short (Some d) (cond above (Some e) None)))) ≡ None
+    → (texts ≡ true) × (put_texts ≡ true) × (sizes ≡ true) × (short ≡ false) × (above ≡ false)
+put_tests true true true true false false a b c d e none = (refl, refl, refl, refl, refl)
+put_tests true true true true false true a b c d e none = absurd (cc)
+put_tests true true true true true above a b c d e none = absurd (cc)
+put_tests true true true false short above a b c d e none = absurd (cc)
+put_tests true true false sizes short above a b c d e none = absurd (cc)
+put_tests true false put_texts sizes short above a b c d e none = absurd (cc)
+put_tests false texts put_texts sizes short above a b c d e none = absurd (cc)
 
--- its Content-Types are media types
-pub taken_kinds : (head : Head) → is_taken head ≡ true → list_all is_kind (values_of (codes "content-type") head.fields) ≡ true
-unfolding is_taken
-taken_kinds head is =
-    (and_parts (not (list_any asks_more head.fields)) _
-    (and_parts (is_some (place_of head.target)) _ (and_parts (head.minor == 1) _ (and_parts (has_taken_method head) _ is).1).1).1).1
+-- its fields are text and within their limits, and its length is told and not above the largest
+pub put_passed : (largest : ℕ) (head : Head) → put_refusal largest head ≡ None
+    → (has_texts head ≡ true) × (has_put_texts head ≡ true) × (has_put_sizes head ≡ true)
+    × (is_without_length head.framing ≡ false) × (is_above largest head.framing ≡ false)
+unfolding put_refusal
+put_passed largest head none =
+    put_tests (is_user head) (has_texts head) (has_put_texts head) (has_put_sizes head) (is_without_length head.framing) (is_above largest head.framing)
+    Unauthorized (Invalid word.Value) (Invalid word.Meta) NoLength TooLarge none
 
-on_put : (put etag : Bool) → (not put || etag) ≡ true → put ≡ true → etag ≡ true
-on_put true etag is put = is
-on_put false etag is put = absurd (cc)
+pub etag_text : (head : Head) → has_put_texts head ≡ true → is_text_field (codes "etag") head ≡ true
+unfolding has_put_texts
+etag_text head is = (and_parts (is_text_field (codes "etag") head) _ is).0
 
--- the ETag of a PUT is text
-pub put_text : (head : Head) → has_texts head ≡ true → is_put head ≡ true → is_text_field (codes "etag") head ≡ true
-unfolding has_texts
-put_text head is put =
-    on_put (is_put head) (is_text_field (codes "etag") head)
-    (and_parts (is_text_field (codes "if-none-match") head) _ (and_parts (is_text_field (codes "if-match") head) _ is).1).1 put
+pub kind_text : (head : Head) → has_put_texts head ≡ true → is_text_field (codes "content-type") head ≡ true
+unfolding has_put_texts
+kind_text head is = (and_parts (is_text_field (codes "content-type") head) _ (and_parts (is_text_field (codes "etag") head) _ is).1).0
+
+pub meta_texts : (head : Head) → has_put_texts head ≡ true → are_texts (meta_of head.fields) ≡ true
+unfolding has_put_texts
+meta_texts head is = (and_parts (is_text_field (codes "content-type") head) _ (and_parts (is_text_field (codes "etag") head) _ is).1).1
+
+short_value : (sent : Option (List ℕ)) (value : List ℕ) → Some value ≡ sent → is_kind_if_any sent ≡ true → length value ≤ media_type_limit
+short_value None value is h = absurd (cc)
+short_value (Some other) value is h = let same : value ≡ other = cc in leb-true (length value) media_type_limit (ap (λ v. nat_le (length v) media_type_limit) same ∙ h)
+
+pub short_kind : (head : Head) (value : List ℕ) → has_put_sizes head ≡ true → Some value ≡ value_of (codes "content-type") head.fields → length value ≤ media_type_limit
+unfolding has_put_sizes
+short_kind head value is sent =
+    short_value (value_of (codes "content-type") head.fields) value sent
+    (and_parts (is_kind_if_any (value_of (codes "content-type") head.fields)) (are_within (meta_of head.fields)) is).0
+
+-- ---- GETs
+
+get_tests : (user texts above : Bool) (a b c : SwiftRefusal)
+    → cond (not user) (Some a) (cond (not texts) (Some b) (cond above (Some c) None)) ≡ None
+    → (texts ≡ true) × (above ≡ false)
+get_tests true true false a b c none = (refl, refl)
+get_tests true true true a b c none = absurd (cc)
+get_tests true false above a b c none = absurd (cc)
+get_tests false texts above a b c none = absurd (cc)
+
+-- its conditions are text, and its length is not above the largest
+pub get_passed : (largest : ℕ) (head : Head) → get_refusal largest head ≡ None → (has_texts head ≡ true) × (is_above largest head.framing ≡ false)
+unfolding get_refusal
+get_passed largest head none =
+    get_tests (is_user head) (has_texts head) (is_above largest head.framing) Unauthorized (Invalid word.Value) TooLarge none
+
+-- ---- targets
+
+-- what a target names has the sizes of names
+pub thing_names : (account container name : List ℕ) → has_names (Thing account container name) ≡ true
+    → (is_name 256 container ≡ true) × (is_name 1024 name ≡ true)
+unfolding word_name
+thing_names account container name is = let both = and_parts (word_name 256 container) (word_name 1024 name) is in (both.0, both.1)
+
+pub container_name : (account container : List ℕ) → has_names (Container account container) ≡ true → is_name 256 container ≡ true
+unfolding word_name
+container_name account container is = is
+
+-- ---- listings
+
+list_tests : (user above : Bool) (a b : SwiftRefusal) → cond (not user) (Some a) (cond above (Some b) None) ≡ None → above ≡ false
+list_tests true false a b none = refl
+list_tests true true a b none = absurd (cc)
+list_tests false above a b none = absurd (cc)
+
+-- its length is not above the largest
+pub list_passed : (largest : ℕ) (head : Head) → list_refusal largest head ≡ None → is_above largest head.framing ≡ false
+unfolding list_refusal
+list_passed largest head none = list_tests (is_user head) (is_above largest head.framing) Unauthorized TooLarge none

@@ -7,7 +7,12 @@ use Rattle.task_words.specs.declared.command.PutCommand.{PutCommand}
 use Rattle.http_model.specs.declared.head.Head.{Head}
 use Rattle.http_model.specs.Framings.{value_of}
 use Rattle.http_model.specs.Forms.{is_get, is_put}
+use Rattle.list_words.specs.declared.command.ListCommand.{ListCommand}
+use Rattle.swift_reply.specs.declared.reply.ListingForm.{ListingForm}
+use Rattle.swift_reply.specs.declared.reply.ListingForm.TheVariants.{Plain, Json}
+use Rattle.swift_words.specs.declared.query.Query.{Query}
 use Rattle.swift_requests.specs.Etags.{rule_of, sent_etag}
+use Rattle.swift_requests.specs.Metadata.{meta_of}
 use Rattle.swift_requests.specs.Ranges.{span_of}
 
 -- the second of the last field of this name; a date that is not one is dropped
@@ -33,13 +38,13 @@ if_not_empty (Some (b ∷ text)) = Some (b ∷ text)
 unfoldable pub kind_of : Head → Option (List ℕ)
 kind_of head = if_not_empty (value_of (codes "content-type") head.fields)
 
--- the PUT of an object; metadata is not taken yet
+-- the PUT of an object
 abbrev pub put_command : List ℕ → List ℕ → Head → PutCommand
 put_command container name head = record {
   container = container;
   name = name;
   kind = kind_of head;
-  meta = [];
+  meta = meta_of head.fields;
   etag = sent_etag head;
   when = conditions_of head;
 }
@@ -53,3 +58,17 @@ get_command container name head = record {
   span = span_of head;
   body = is_get head;
 }
+
+-- the listing of a container, by the query of the target
+abbrev pub list_command : List ℕ → Query → ListCommand
+list_command container query = record {
+  container = container;
+  limit = query.limit;
+  marker = query.marker;
+  end_marker = query.end_marker;
+  prefix = query.prefix;
+  delimiter = query.delimiter;
+}
+
+abbrev pub listing_form : Query → ListingForm
+listing_form query = if query.json then Json else Plain

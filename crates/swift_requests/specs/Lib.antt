@@ -1,5 +1,6 @@
 pub mod Etags
 pub mod Ranges
+pub mod Metadata
 pub mod Commands
 pub mod Asks
 pub mod Bodies

@@ -102,7 +102,9 @@ pub fn body_use(largest: u64, head: &Head, asked: &Asked) -> BodyUse
     match asked {
         Asked::Put(_) => BodyUse::Fed(body_len(head.framing)),
         Asked::Refused(SwiftRefusal::NotBuilt | SwiftRefusal::TooLarge) => BodyUse::Unread,
-        Asked::BadHost | Asked::Refused(_) | Asked::Get(_) => unwanted(largest, head),
+        Asked::BadHost | Asked::Refused(_) | Asked::Get(_) | Asked::Listing(_, _) => {
+            unwanted(largest, head)
+        }
     }
 }
 

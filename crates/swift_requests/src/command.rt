@@ -1,6 +1,6 @@
 //! What the fields of a request say of its command.
 ghost use Rattle.std.specs.Prelude.{◌≡◌, IfOk, true};
-ghost use Rattle.swift_requests.specs.Asks.{is_taken, has_texts};
+ghost use Rattle.swift_requests.specs.Asks.{has_texts, has_put_texts, has_put_sizes};
 ghost use Rattle.swift_requests.specs.Commands.{second_of, conditions_of, kind_of};
 ghost use Rattle.swift_requests.specs.Ranges.{span_of};
 
@@ -24,7 +24,7 @@ fn second_of(head: &Head, name: &[u8]) -> Option<u64>
 /// The conditions of a request (RFC 9110, section 13.1): If-Match and If-None-Match, and, unless it is a
 /// PUT, If-Modified-Since and If-Unmodified-Since. Of a repeated name the last value counts.
 #[tactic(auto, unfolding(crate::specs::Asks::has_texts, crate::specs::Commands::conditions_of))]
-pub fn conditions(alloc: Global, head: &Head) -> Result<Conditions, AllocError>
+pub(crate) fn conditions(alloc: Global, head: &Head) -> Result<Conditions, AllocError>
     requires { has_texts head.now ≡ true }
     ensures { IfOk result (λ when. when ≡ conditions_of head.now) }
 {
@@ -46,10 +46,11 @@ pub fn conditions(alloc: Global, head: &Head) -> Result<Conditions, AllocError>
     })
 }
 
-/// The media type that was sent with a request of a form that is taken. An empty one counts as none.
+/// The media type that was sent with a PUT. An empty one counts as none.
 #[tactic(auto, unfolding(crate::specs::Commands::kind_of))]
-pub fn kind(alloc: Global, head: &Head) -> Result<Option<MediaType>, AllocError>
-    requires { is_taken head.now ≡ true }
+pub(crate) fn kind(alloc: Global, head: &Head) -> Result<Option<MediaType>, AllocError>
+    requires texts { has_put_texts head.now ≡ true }
+    requires sizes { has_put_sizes head.now ≡ true }
     ensures { IfOk result (λ kind. kind ≡ kind_of head.now) }
 {
     match field_value(head.fields.as_slice(), b"content-type") {
@@ -64,7 +65,7 @@ pub fn kind(alloc: Global, head: &Head) -> Result<Option<MediaType>, AllocError>
 /// The range that a request asks for (RFC 9110, section 14.2): none unless it is a GET without If-Range,
 /// nor where the last Range is not one range of bytes.
 #[tactic(auto, unfolding(crate::specs::Ranges::span_of))]
-pub fn span(head: &Head) -> Option<Span>
+pub(crate) fn span(head: &Head) -> Option<Span>
     ensures { result ≡ span_of head.now }
 {
     let fields = head.fields.as_slice();

@@ -1,12 +1,13 @@
 //! What fields and heads are read as, by the examples of the standard and by hand: each function here does
 //! nothing and is such answers.
-ghost use Rattle.std.specs.Prelude.{◌≡◌, ◌∷◌, ◌^◌, ◌-◌, [], Some, None, codes, true, false};
+ghost use Rattle.std.specs.Prelude.{◌≡◌, ◌∷◌, ◌^◌, ◌-◌, [], Some, None, codes, replicate, true, false};
 ghost use Rattle.object_words.specs.declared.head.EtagRule.TheVariants.{Any, OneOf};
 ghost use Rattle.task_words.specs.declared.span.Span.TheVariants.{Between, From, Last};
-ghost use Rattle.swift_reply.specs.declared.reply.SwiftRefusal.TheVariants.{NotBuilt, Unauthorized, Invalid, NoLength, TooLarge};
-ghost use Rattle.swift_reply.specs.declared.reply.Invalid.TheVariants.{Value};
+ghost use Rattle.swift_reply.specs.declared.reply.SwiftRefusal.TheVariants.{NotBuilt, Unauthorized, Invalid, NoPath, NoLength, TooLarge};
+ghost use Rattle.swift_reply.specs.declared.reply.Invalid.TheVariants.{Target, Escape, Utf8, Name, Limit, Format, Value, Meta};
 ghost use Rattle.http_model.specs.declared.head.Framing.TheVariants.{Empty, Length, Chunked};
-ghost use Rattle.swift_requests.specs.declared.asked.Asked.TheVariants.{BadHost, Refused, Put, Get};
+ghost use Rattle.swift_requests.specs.declared.asked.Asked.TheVariants.{BadHost, Refused, Put, Get, Listing};
+ghost use Rattle.swift_reply.specs.declared.reply.ListingForm.TheVariants.{Plain, Json};
 ghost use Rattle.swift_requests.specs.declared.body.BodyUse.TheVariants.{Fed, Dropped, Unread};
 ghost use Rattle.swift_requests.specs.Etags.{rule_in, sent_etag};
 ghost use Rattle.swift_requests.specs.Ranges.{span_in};
@@ -123,24 +124,71 @@ pub fn gets_ask_so()
 /// Which heads are refused, and by which refusal first.
 pub fn heads_are_refused_so()
     ensures host { asked_of known.largest (known.bare (codes "POST") [] Empty) ≡ BadHost }
+    ensures two_hosts { asked_of known.largest (known.get_with (known.host ∷ [])) ≡ BadHost }
+    ensures star { asked_of known.largest (known.to (codes "*")) ≡ Refused (Invalid Target) }
+    ensures escape { asked_of known.largest (known.to (codes "/swift/v1/AUTH_acme/box/%4")) ≡ Refused (Invalid Escape) }
+    ensures utf8 { asked_of known.largest (known.to (codes "/swift/v1/AUTH_acme/box/%ff")) ≡ Refused (Invalid Utf8) }
+    ensures name { asked_of known.largest (known.to (codes "/swift/v1/AUTH_acme/box/%00")) ≡ Refused (Invalid Name) }
+    ensures limit { asked_of known.largest (known.to (codes "/swift/v1/AUTH_acme/box/k?limit=x")) ≡ Refused (Invalid Limit) }
+    ensures format { asked_of known.largest (known.to (codes "/auth?format=xml")) ≡ Refused (Invalid Format) }
+    ensures path { asked_of known.largest (known.bare_to (codes "/swift/v2/AUTH_acme/box/k")) ≡ Refused NoPath }
+    ensures auth { asked_of known.largest (known.to (codes "/auth/v1.0")) ≡ Refused NotBuilt }
+    ensures account { asked_of known.largest (known.to (codes "/swift/v1/AUTH_acme")) ≡ Refused NotBuilt }
+    ensures container { asked_of known.largest (record (known.head_with []) { target = codes "/swift/v1/AUTH_acme/box" }) ≡ Refused NotBuilt }
+    ensures other_account { asked_of known.largest (known.to (codes "/swift/v1/AUTH_other/box/k")) ≡ Refused NotBuilt }
     ensures method { asked_of known.largest (known.bare (codes "POST") (known.host ∷ []) Empty) ≡ Refused NotBuilt }
     ensures lower { asked_of known.largest (known.request (codes "get") [] Empty) ≡ Refused NotBuilt }
-    ensures version { asked_of known.largest (record (known.get_with []) { minor = 0 }) ≡ Refused NotBuilt }
-    ensures target { asked_of known.largest (record (known.get_with []) { target = codes "/swift/v1/AUTH_acme/box/a%20b" }) ≡ Refused NotBuilt }
-    ensures container { asked_of known.largest (record (known.get_with []) { target = codes "/swift/v1/AUTH_acme/box" }) ≡ Refused NotBuilt }
     ensures coding { asked_of known.largest (known.request (codes "PUT") (record { name = codes "transfer-encoding"; value = codes "chunked" } ∷ []) Chunked) ≡ Refused NotBuilt }
     ensures expect { asked_of known.largest (known.put_of 5 (record { name = codes "Expect"; value = codes "100-continue" } ∷ [])) ≡ Refused NotBuilt }
     ensures copy { asked_of known.largest (known.put_of 0 (record { name = codes "x-copy-from"; value = codes "box/k" } ∷ [])) ≡ Refused NotBuilt }
-    ensures meta { asked_of known.largest (known.get_with (record { name = codes "X-OBJECT-Meta-"; value = codes "red" } ∷ [])) ≡ Refused NotBuilt }
-    ensures kind { asked_of known.largest (known.put_of 0
-        (record { name = codes "Content-Type"; value = 127 ∷ [] } ∷ record { name = codes "Content-Type"; value = codes "a/b" } ∷ [])) ≡ Refused NotBuilt }
     ensures nobody { asked_of known.largest (known.bare (codes "PUT") (known.host ∷ record { name = codes "If-Match"; value = 255 ∷ [] } ∷ []) Empty) ≡ Refused Unauthorized }
     ensures other_token { asked_of known.largest (known.get_with (record { name = codes "X-Auth-Token"; value = codes "AUTH_tk" } ∷ [])) ≡ Refused Unauthorized }
     ensures text { asked_of known.largest (known.request (codes "PUT") (record { name = codes "If-None-Match"; value = 255 ∷ [] } ∷ []) Empty) ≡ Refused (Invalid Value) }
     ensures etag { asked_of known.largest (known.put_of 5368709121 (record { name = codes "ETag"; value = 128 ∷ [] } ∷ [])) ≡ Refused (Invalid Value) }
+    ensures kind_text { asked_of known.largest (known.put_of 0 (record { name = codes "Content-Type"; value = 255 ∷ [] } ∷ [])) ≡ Refused (Invalid Value) }
     ensures last_text { asked_of known.largest (known.get_with
         (record { name = codes "If-Match"; value = 255 ∷ [] } ∷ record { name = codes "If-Match"; value = codes "*" } ∷ []))
         ≡ Get (record known.plain_get { when = record known.always { matches = Some Any } }) }
+{}
+
+/// Targets of objects, and the version of the protocol.
+pub fn objects_are_named_so()
+    ensures slashes { asked_of known.largest (known.to (codes "/swift/v1/AUTH_acme/box/a//b/")) ≡ Get (known.get_of (codes "box") (codes "a//b/")) }
+    ensures escaped { asked_of known.largest (known.to (codes "/swift/v1/AUTH_acme/c%20d/a%2Fb%25")) ≡ Get (known.get_of (codes "c d") (codes "a/b%")) }
+    ensures plus { asked_of known.largest (known.to (codes "/swift/v1/AUTH_acme/box/a+b?limit=1&x=%20")) ≡ Get (known.get_of (codes "box") (codes "a+b")) }
+    ensures older { asked_of known.largest (record (known.bare (codes "GET") (known.token ∷ []) Empty) { minor = 0 }) ≡ Get known.plain_get }
+    ensures copies_nothing { asked_of known.largest (known.get_with (record { name = codes "X-Copy-From"; value = codes "box/k" } ∷ [])) ≡ Get known.plain_get }
+{}
+
+/// Listings of containers.
+pub fn listings_ask_so()
+    ensures all { asked_of known.largest (known.to (codes "/swift/v1/AUTH_acme/box")) ≡ Listing (known.all_of (codes "box")) Plain }
+    ensures slash { asked_of known.largest (known.to (codes "/swift/v1/AUTH_acme/box/")) ≡ Listing (known.all_of (codes "box")) Plain }
+    ensures some { asked_of known.largest (known.to (codes "/swift/v1/AUTH_acme/c%20d?limit=2&marker=a%2F1&end_marker=z&prefix=a&delimiter=%2F&format=json&x=1"))
+        ≡ Listing (record (known.all_of (codes "c d")) { limit = 2; marker = codes "a/1"; end_marker = codes "z"; prefix = codes "a"; delimiter = codes "/" }) Json }
+    ensures nobody { asked_of known.largest (known.bare_to (codes "/swift/v1/AUTH_acme/box")) ≡ Refused Unauthorized }
+    ensures other { asked_of known.largest (known.to (codes "/swift/v1/AUTH_other/box")) ≡ Refused NotBuilt }
+{}
+
+/// The metadata of PUTs.
+pub fn metadata_is_read_so()
+    ensures pairs { asked_of known.largest (known.put_of 5
+        (record { name = codes "X-Object-Meta-Color"; value = codes "red" }
+        ∷ record { name = codes "x-object-meta-A"; value = codes "1" }
+        ∷ record { name = codes "X-OBJECT-META-COLOR"; value = [] }
+        ∷ record { name = codes "X-Object-Met"; value = codes "x" } ∷ []))
+        ≡ Put (record known.plain_put { meta = (codes "a", codes "1") ∷ (codes "color", []) ∷ [] }) }
+    ensures of_get { asked_of known.largest (known.get_with (record { name = codes "X-Object-Meta-"; value = 255 ∷ [] } ∷ [])) ≡ Get known.plain_get }
+    ensures text { asked_of known.largest (known.put_of 5 (record { name = codes "X-Object-Meta-"; value = 255 ∷ [] } ∷ [])) ≡ Refused (Invalid Value) }
+    ensures last_text { asked_of known.largest (known.put_of 5
+        (record { name = codes "X-Object-Meta-A"; value = 255 ∷ [] } ∷ record { name = codes "X-Object-Meta-a"; value = codes "1" } ∷ []))
+        ≡ Put (record known.plain_put { meta = (codes "a", codes "1") ∷ [] }) }
+    ensures long_name { asked_of known.largest (known.put_of 5 (known.meta_named (replicate 129 97) [] ∷ [])) ≡ Refused (Invalid Meta) }
+    ensures long_value { asked_of known.largest (known.put_of 5 (known.meta_named (codes "a") (replicate 257 97) ∷ [])) ≡ Refused (Invalid Meta) }
+    ensures longest { asked_of known.largest (known.put_of 5 (known.meta_named (replicate 128 97) (replicate 256 98) ∷ []))
+        ≡ Put (record known.plain_put { meta = (replicate 128 97, replicate 256 98) ∷ [] }) }
+    ensures long_kind { asked_of known.largest (known.put_of 5 (record { name = codes "Content-Type"; value = replicate 257 97 } ∷ [])) ≡ Refused (Invalid Meta) }
+    ensures no_name { asked_of known.largest (known.request (codes "PUT") (record { name = codes "X-Object-Meta-"; value = codes "red" } ∷ []) Empty) ≡ Refused (Invalid Meta) }
 {}
 
 /// What becomes of bodies, and which replies close the connection.

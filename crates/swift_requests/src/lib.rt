@@ -9,16 +9,14 @@ mod etag;
 mod form;
 mod known;
 mod laws;
+mod metadata;
 mod range;
 
 pub use asked::{Asked, read_asked};
 pub use body::{BodyUse, body_use, closes};
-pub use command::{conditions, kind, span};
-pub use etag::{etag_rule, sent_etag};
-pub use form::{has_texts, is_taken, is_text_field, is_user};
 pub use known::{
     bodies_are_used_so, dates_are_read_so, etags_are_read_so, gets_ask_so, heads_are_refused_so,
-    puts_ask_so, ranges_are_read_so,
+    listings_ask_so, metadata_is_read_so, objects_are_named_so, puts_ask_so, ranges_are_read_so,
 };
 pub use laws::lists_are_those_of_the_standard;
 

@@ -72,21 +72,18 @@ fn a_get_is_read(rt: HostRuntime) -> Result<(), Fail> {
 }
 
 #[test]
-fn the_parts_of_a_get_are_read(rt: HostRuntime) -> Result<(), Fail> {
+fn an_object_with_metadata(rt: HostRuntime) -> Result<(), Fail> {
     let head = head_of(
         rt.alloc(),
-        b"GET /swift/v1/AUTH_acme/box/k HTTP/1.1\r\nHost: h\r\nX-Auth-Token: AUTH_tk1\r\nRange: bytes=-500\r\nETag: x\r\n\r\n",
+        b"PUT /swift/v1/AUTH_acme/c%20d/a/%C3%A9?x=1 HTTP/1.0\r\nX-Auth-Token: AUTH_tk1\r\nX-Object-Meta-Z: 1\r\nx-object-meta-Color: red\r\nX-Object-Meta-z: \xC3\xA9\r\nContent-Length: 0\r\n\r\n",
     )?;
-    assert!(rt; is_user(&head));
-    assert_eq!(rt; span(&head), Some(Span::Last(500)));
-    assert!(rt; is_taken(&head));
-    assert!(rt; kind(rt.alloc(), &head)?.is_none());
-    assert!(rt; has_texts(&head));
-    assert!(rt; conditions(rt.alloc(), &head)?.matches.is_none());
-    assert!(rt; is_text_field(&head, b"if-match"));
-    assert!(rt; etag_rule(rt.alloc(), &head, b"if-match")?.is_none());
-    assert!(rt; is_text_field(&head, b"etag"));
-    let etag = sent_etag(rt.alloc(), &head)?.ok_or("no ETag")?;
-    assert!(rt; etag.is("x"));
+    let put = put_of(read_asked(rt.alloc(), LARGEST, &head)?).ok_or("no PUT")?;
+    assert!(rt; put.container.as_text().is("c d"));
+    assert!(rt; put.name.as_text().is("a/é"));
+    assert_eq!(rt; put.meta.len(), 2);
+    let color = put.meta.get("color").ok_or("no color")?;
+    assert!(rt; color.is("red"));
+    let last = put.meta.get("z").ok_or("no z")?;
+    assert!(rt; last.is("é"));
     Ok(())
 }

@@ -20,7 +20,7 @@ use Rattle.swift_auth.specs.declared.policy.Rule.{Rule}
 use Rattle.swift_auth.specs.Policies.{found_under, verdict_of}
 use Rattle.task_words.specs.declared.span.ByteRange.{ByteRange}
 use Rattle.task_words.specs.declared.reply.MapReply.{MapReply}
-use Rattle.task_words.specs.declared.reply.MapReply.TheVariants.{Stored, Shown, Same, Counted, Refused}
+use Rattle.task_words.specs.declared.reply.MapReply.TheVariants.{Stored, Shown, Same, Counted, Listed, Refused}
 use Rattle.task_words.specs.declared.reply.Refusal.{Refusal}
 use Rattle.task_words.specs.declared.reply.Refusal.TheVariants.{Unauthorized, Denied, NoContainer}
 use Rattle.task_words.specs.declared.outcome.Outcome.TheVariants.{Done}
@@ -142,6 +142,8 @@ shows_bytes true (Same etag stamp) range is = cc
 shows_bytes false (Same etag stamp) range is = cc
 shows_bytes true (Counted row objects bytes) range is = cc
 shows_bytes false (Counted row objects bytes) range is = cc
+shows_bytes true (Listed rows) range is = cc
+shows_bytes false (Listed rows) range is = cc
 shows_bytes true (Refused refusal) range is = cc
 shows_bytes false (Refused refusal) range is = cc
 

@@ -26,7 +26,7 @@ use Rattle.task_words.specs.declared.span.ByteRange.{ByteRange}
 use Rattle.task_words.specs.declared.outcome.Outcome.{Outcome}
 use Rattle.task_words.specs.declared.outcome.Outcome.TheVariants.{Done, LateRead}
 use Rattle.task_words.specs.declared.reply.MapReply.{MapReply}
-use Rattle.task_words.specs.declared.reply.MapReply.TheVariants.{Stored, Shown, Same, Counted, Refused}
+use Rattle.task_words.specs.declared.reply.MapReply.TheVariants.{Stored, Shown, Same, Counted, Listed, Refused}
 use Rattle.task_words.specs.declared.reply.Refusal.TheVariants.{Unauthorized, Denied, NoContainer, NoObject, NotMet, NoRange, OtherEtag}
 use Rattle.task_words.specs.Spans.{bytes_taken}
 use Rattle.task_words.specs.Answers.{is_unmet, is_had, span_of, get, get_answer}
@@ -73,6 +73,7 @@ by_either r (Stored etag stamp) y events m = inr (record { by_map = m.0.0; reads
 by_either r (Shown kind meta etag stamp size start count) y events m = inr (record { by_map = m.0.0; reads = m.1.0; brings = m.1.1 })
 by_either r (Same etag stamp) y events m = inr (record { by_map = m.0.0; reads = m.1.0; brings = m.1.1 })
 by_either r (Counted row objects bytes) y events m = inr (record { by_map = m.0.0; reads = m.1.0; brings = m.1.1 })
+by_either r (Listed rows) y events m = inr (record { by_map = m.0.0; reads = m.1.0; brings = m.1.1 })
 
 -- the reply is that of the bucket map at the event that decides
 mapped_reply : (r : GetRequest) (reply : MapReply) (y : Account) (event : Decided) → ByMap r.zone r.asker (get r.get) reply y.decided → y.decided ≡ Some event → reply ≡ (get_answer r.get event.before).reply
@@ -126,6 +127,7 @@ shown_reply (Shown kind meta etag stamp size start count) shown is = let same : 
 shown_reply (Stored etag stamp) shown is = cc
 shown_reply (Same etag stamp) shown is = cc
 shown_reply (Counted row objects bytes) shown is = cc
+shown_reply (Listed rows) shown is = cc
 shown_reply (Refused refusal) shown is = cc
 
 map_rests : (r : GetRequest) (reply : MapReply) (y : Account) → IsShown reply → ByMap r.zone r.asker (get r.get) reply y.decided → y.changes ≡ 0 → IsGetOutcome r.zone r.asker r.get (Done reply) y
@@ -145,6 +147,7 @@ unchanged_meant r (Done (Stored etag stamp)) y events m = m.0.1
 unchanged_meant r (Done (Shown kind meta etag stamp size start count)) y events m = m.0.1
 unchanged_meant r (Done (Same etag stamp)) y events m = m.0.1
 unchanged_meant r (Done (Counted row objects bytes)) y events m = m.0.1
+unchanged_meant r (Done (Listed rows)) y events m = m.0.1
 unchanged_meant r outcome y events m = absurd m
 
 ended_rests : (r : GetRequest) (reply shown : MapReply) (y : Account) (events : List OwnEvent) → (reply ≡ shown) × IsShown shown → Means r (Done reply) y events → IsGetOutcome r.zone r.asker r.get (Done shown) y × IsShown shown

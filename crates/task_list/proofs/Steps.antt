@@ -34,15 +34,16 @@ use Rattle.task_words.specs.declared.reply.Refusal.{Refusal}
 use Rattle.task_words.specs.Outcomes.{most_moved}
 use Rattle.task_words.specs.Rows.{refusal_by, row_refusal}
 use Rattle.list_words.specs.declared.command.ListCommand.{ListCommand}
+use Rattle.task_words.specs.declared.outcome.Outcome.TheVariants.{Done, BodyFailed, Busy, MovedOften, RacedOften, LateTag, LateRead, NoSpace}
+use Rattle.task_words.specs.declared.reply.MapReply.TheVariants.{Stored, Shown, Same, Counted, Listed, Refused}
 use Rattle.task_list.specs.declared.merging.NextPage.{NextPage}
 use Rattle.task_list.specs.declared.merging.Merging.{Merging}
 use Rattle.task_list.specs.declared.request.ListRequest.{ListRequest}
-use Rattle.task_list.specs.declared.request.ListOutcome.TheVariants.{Listed, Refused, MovedOften}
 use Rattle.task_list.specs.declared.stage.Known.{Known}
 use Rattle.task_list.specs.declared.stage.Stage.{Stage}
 use Rattle.task_list.specs.declared.stage.Stage.TheVariants.{Look, Page, Head, Broken, Ended}
 use Rattle.task_list.specs.Progresses.{settled_of, rows_in}
-use Rattle.task_list.specs.Listed.{page_limit, asks_row, asks_page, asks_head, IsUnsettled, AreUnsettled, IsRefusal}
+use Rattle.task_list.specs.Listed.{page_limit, asks_row, asks_page, asks_head, is_of_listing, AreOfListing, IsUnsettled, AreUnsettled, IsRefusal}
 use Rattle.task_list.specs.Stages.{MergingFits, HeadFits, IsLater, IsPageAbove, IsPageEvent, IsHeadEvent}
 use Rattle.task_list.specs.Tasks.{IsGoing, op_of, one_moved, after_left, KnownFits, WentOn, AfterRow, Takes, Going, Looking, FitsAt}
 use Rattle.task_list.proofs.Growing.{grow_settled, grow_unsettled}
@@ -93,18 +94,32 @@ named_since looked k m zone n row is in_zone showed later less =
 went_on : (r : ListRequest) (row : Bucket) (stage : Stage) (moved : ℕ) (y : Account) (events : List OwnEvent) (last : ℕ) → WentOn r.zone r.command row stage events → Going r moved y events last → Looking r row y last → FitsAt r stage moved y events last
 went_on r row (Page m next) moved y events last w going looking = (going, subst (λ b. Looking r b y last) (sym w.0) looking, w.1, w.2)
 went_on r row (Head m name) moved y events last w going looking = (going, subst (λ b. Looking r b y last) (sym w.0) looking, w.1)
-went_on r row (Ended (Listed rows)) moved y events last w going looking = (
+went_on r row (Ended (Done (Listed rows))) moved y events last w going looking = (
   record { look = looking.look; is_last = looking.is_last; in_zone = looking.in_zone; under_name = looking.under_name; row = row; showed = looking.showed; granted = looking.granted; shown = w },
-  record { untried = going.untried; unchanged = going.unchanged; heads = going.heads },
+  record { untried = going.untried; unchanged = going.unchanged; heads = going.heads; reads = going.reads },
 )
-went_on r row (Ended (Refused refusal)) moved y events last w going looking = absurd w
+went_on r row (Ended (Done (Refused refusal))) moved y events last w going looking = absurd w
+went_on r row (Ended (Done (Stored etag stamp))) moved y events last w going looking = absurd w
+went_on r row (Ended (Done (Shown kind meta etag stamp size start count))) moved y events last w going looking = absurd w
+went_on r row (Ended (Done (Same etag stamp))) moved y events last w going looking = absurd w
+went_on r row (Ended (Done (Counted counted objects bytes))) moved y events last w going looking = absurd w
+went_on r row (Ended BodyFailed) moved y events last w going looking = absurd w
+went_on r row (Ended (Busy id)) moved y events last w going looking = absurd w
 went_on r row (Ended MovedOften) moved y events last w going looking = absurd w
+went_on r row (Ended RacedOften) moved y events last w going looking = absurd w
+went_on r row (Ended LateTag) moved y events last w going looking = absurd w
+went_on r row (Ended (LateRead read_at clock)) moved y events last w going looking = absurd w
+went_on r row (Ended (NoSpace free needed)) moved y events last w going looking = absurd w
 went_on r row (Look known) moved y events last w going looking = absurd w
 went_on r row Broken moved y events last w going looking = absurd w
 
 grow_known : (zone : ℕ) (c : ListCommand) (events : List OwnEvent) (own : OwnEvent) (known : Option Known) → KnownFits zone c known events → KnownFits zone c known (events ++ own ∷ [])
 grow_known zone c events own None fits = tt
 grow_known zone c events own (Some k) fits = grow_settled zone c events own k.container (settled_of k.progress) (rows_in k.progress) fits
+
+reads_push : (events : List OwnEvent) (own : OwnEvent) → AreOfListing events → is_of_listing own.op ≡ true → AreOfListing (events ++ own ∷ [])
+reads_push [] own reads is = (is, tt)
+reads_push (e ∷ es) own reads is = (reads.0, reads_push es own reads.1 is)
 
 module _ (r : ListRequest) (moved : ℕ) (y : Account) (events : List OwnEvent) (last number clock : ℕ) (maps : Maps) (made : Made) (before : last < number) where
   abbrev after : Op → Reply → Account
@@ -134,8 +149,8 @@ module _ (r : ListRequest) (moved : ℕ) (y : Account) (events : List OwnEvent) 
       ]
 
   -- an event that changes no head and was answered neither Moved nor Closed
-  going_on : (op : Op) (reply : Reply) → Going r moved y events last → AreUnsettled r.zone r.command (more op reply) → (after op reply).target ≡ y.target → (after op reply).changes ≡ y.changes → (after op reply).moved ≡ y.moved → Going r moved (after op reply) (more op reply) number
-  going_on op reply going heads target changes same = record {
+  going_on : (op : Op) (reply : Reply) → is_of_listing op ≡ true → Going r moved y events last → AreUnsettled r.zone r.command (more op reply) → (after op reply).target ≡ y.target → (after op reply).changes ≡ y.changes → (after op reply).moved ≡ y.moved → Going r moved (after op reply) (more op reply) number
+  going_on op reply kind going heads target changes same = record {
     untried = target ∙ going.untried;
     unchanged = changes ∙ going.unchanged;
     heads = heads;
@@ -143,6 +158,7 @@ module _ (r : ListRequest) (moved : ℕ) (y : Account) (events : List OwnEvent) 
     few = going.few;
     moved_before = (let low = going.moved_before in let lasts = ap (λ (m : MovedCount). m.last) same in omega (arith, low, lasts, before));
     numbered = numbered op reply going.numbered;
+    reads = reads_push events (own op reply) going.reads kind;
   }
 
   looking_on : (op : Op) (reply : Reply) (row : Bucket) → Looking r row y last → (after op reply).looked ≡ y.looked → (after op reply).moved ≡ y.moved → Looking r row (after op reply) number
@@ -167,16 +183,18 @@ module _ (r : ListRequest) (moved : ℕ) (y : Account) (events : List OwnEvent) 
 
   module _ (reply : Reply) (row : Option Bucket) (going : Going r moved (after row_op reply) (more row_op reply) number)
       (looked : (after row_op reply).looked ≡ Some (record { zone = r.zone; name = (r.command).container; row = row; number = number })) where
-    refused : (refusal : Refusal) → row_refusal r.asker row ListContainer ≡ Some refusal → FitsAt r (Ended (Refused refusal)) moved (after row_op reply) (more row_op reply) number
+    refused : (refusal : Refusal) → row_refusal r.asker row ListContainer ≡ Some refusal → FitsAt r (Ended (Done (Refused refusal))) moved (after row_op reply) (more row_op reply) number
     refused refusal is = (
-      is_refusal (verdict_of r.asker.user r.asker.account row ListContainer) (found_under r.asker.account row) refusal is,
-      record { look = record { zone = r.zone; name = (r.command).container; row = row; number = number }; is_last = looked; in_zone = refl; under_name = refl; refuses = is },
-      record { untried = going.untried; unchanged = going.unchanged; heads = going.heads },
+      (
+        is_refusal (verdict_of r.asker.user r.asker.account row ListContainer) (found_under r.asker.account row) refusal is,
+        record { look = record { zone = r.zone; name = (r.command).container; row = row; number = number }; is_last = looked; in_zone = refl; under_name = refl; refuses = is },
+      ),
+      record { untried = going.untried; unchanged = going.unchanged; heads = going.heads; reads = going.reads },
     )
 
   some_row : (known : Option Known) (row : Bucket) (stage : Stage) → Going r moved y events last → KnownFits r.zone r.command known events → AfterRow r.command known (row_refusal r.asker (Some row) ListContainer) (Some row) stage → FitsAt r stage moved (after row_op (Row row)) (more row_op (Row row)) number
   some_row known row stage going fits came =
-      let on = going_on row_op (Row row) going (no_head row_op (Row row) not_head going.heads) refl refl refl in
+      let on = going_on row_op (Row row) refl going (no_head row_op (Row row) not_head going.heads) refl refl refl in
       elim (row_refusal r.asker (Some row) ListContainer) as (λ o. row_refusal r.asker (Some row) ListContainer ≡ o → AfterRow r.command known o (Some row) stage → FitsAt r stage moved (after row_op (Row row)) (more row_op (Row row)) number) [
         | Some refusal ↦ λ is at. subst (λ s. FitsAt r s moved (after row_op (Row row)) (more row_op (Row row)) number) (sym at) (refused (Row row) (Some row) on refl refusal is)
         | None ↦ λ is at.
@@ -189,7 +207,7 @@ module _ (r : ListRequest) (moved : ℕ) (y : Account) (events : List OwnEvent) 
 
   no_row : (known : Option Known) (stage : Stage) → Going r moved y events last → AfterRow r.command known (row_refusal r.asker None ListContainer) None stage → FitsAt r stage moved (after row_op (No Absent)) (more row_op (No Absent)) number
   no_row known stage going came =
-      let on = going_on row_op (No Absent) going (no_head row_op (No Absent) not_head going.heads) refl refl refl in
+      let on = going_on row_op (No Absent) refl going (no_head row_op (No Absent) not_head going.heads) refl refl refl in
       elim (row_refusal r.asker None ListContainer) as (λ o. row_refusal r.asker None ListContainer ≡ o → AfterRow r.command known o None stage → FitsAt r stage moved (after row_op (No Absent)) (more row_op (No Absent)) number) [
         | Some refusal ↦ λ is at. subst (λ s. FitsAt r s moved (after row_op (No Absent)) (more row_op (No Absent)) number) (sym at) (refused (No Absent) None on refl refusal is)
         | None ↦ λ is at. absurd at
@@ -210,7 +228,7 @@ module _ (r : ListRequest) (moved : ℕ) (y : Account) (events : List OwnEvent) 
     some_page page stage rows came =
         went_on r m.row stage moved (after asks (Entries page)) (more asks (Entries page)) number
         (came r.zone events (own asks (Entries page)) fits none (record { asks = refl; told = refl; later = all_earlier going.numbered; rows = rows }))
-        (going_on asks (Entries page) going (no_head asks (Entries page) no_head_asked going.heads) refl refl refl)
+        (going_on asks (Entries page) refl going (no_head asks (Entries page) no_head_asked going.heads) refl refl refl)
         (looking_on asks (Entries page) m.row looking refl refl)
 
     left : (reply : Reply) → (after asks reply).moved ≡ record { count = cond (looked_since y.looked y.moved.last r.zone (shard_key (m.row).id (m.row).instance next.shard)) (y.moved.count + 1) y.moved.count; last = number }
@@ -227,7 +245,7 @@ module _ (r : ListRequest) (moved : ℕ) (y : Account) (events : List OwnEvent) 
           | true ↦ λ less.
               let below : one_moved moved < most_moved = grind (arith, nat_tests, less) in
               let lasts = ap (λ (k : MovedCount). k.last) moves in (
-                record { untried = target ∙ going.untried; unchanged = changes ∙ going.unchanged; heads = heads; moved_is = one; few = below; moved_before = omega (arith, lasts); numbered = numbered asks reply going.numbered },
+                record { untried = target ∙ going.untried; unchanged = changes ∙ going.unchanged; heads = heads; moved_is = one; few = below; moved_before = omega (arith, lasts); numbered = numbered asks reply going.numbered; reads = reads_push events (own asks reply) going.reads refl },
                 grow_settled r.zone r.command events (own asks reply) (m.row).id (settled_of m.progress) (rows_in m.progress) fits.settled,
               )
           | false ↦ λ all.
@@ -235,7 +253,7 @@ module _ (r : ListRequest) (moved : ℕ) (y : Account) (events : List OwnEvent) 
               let granted = subst (λ o. row_refusal r.asker o ListContainer ≡ None) (sym looking.showed) looking.granted in (
                 record { look = looking.look; is_last = looks ∙ looking.is_last; in_zone = looking.in_zone; under_name = looking.under_name; refuses = granted },
                 omega (arith, one, often, few),
-                record { untried = target ∙ going.untried; unchanged = changes ∙ going.unchanged; heads = heads },
+                record { untried = target ∙ going.untried; unchanged = changes ∙ going.unchanged; heads = heads; reads = reads_push events (own asks reply) going.reads refl },
               )
         ] refl
 
@@ -269,7 +287,7 @@ module _ (r : ListRequest) (moved : ℕ) (y : Account) (events : List OwnEvent) 
     some_head seen shown_at stage came =
         went_on r m.row stage moved (after asks_it (head_reply seen shown_at)) (more asks_it (head_reply seen shown_at)) number
         (came r.zone events (own asks_it (head_reply seen shown_at)) fits (record { asks = refl; seen = seen; clock = shown_at; told = refl; slot_is = refl; later = all_earlier going.numbered }))
-        (going_on asks_it (head_reply seen shown_at) going (one_head (head_reply seen shown_at)) refl refl refl)
+        (going_on asks_it (head_reply seen shown_at) refl going (one_head (head_reply seen shown_at)) refl refl refl)
         (looking_on asks_it (head_reply seen shown_at) m.row looking refl refl)
 
   -- ---- all of it

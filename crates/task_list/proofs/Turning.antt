@@ -18,7 +18,7 @@ use Rattle.realm_model.specs.declared.op.Op.{Op}
 use Rattle.realm_model.specs.declared.event.Event.{Event}
 use Rattle.realm_door.specs.declared.door.Answered.{Answered as AnsweredOf}
 use Rattle.realm_door.specs.Steps.{Extends, event_at, own_event}
-use Rattle.task_list.specs.declared.request.ListOutcome.{ListOutcome}
+use Rattle.task_words.specs.declared.outcome.Outcome.{Outcome}
 use Rattle.task_list.specs.declared.request.ListRequest.{ListRequest}
 use Rattle.task_list.specs.declared.task.ListTask.{ListTask}
 use Rattle.task_list.specs.declared.stage.Stage.{Stage}
@@ -39,6 +39,7 @@ fits_first r y events last no_account no_events =
       few = omega arith;
       moved_before = omega arith;
       numbered = All-nil (λ (e : OwnEvent). e.number ≤ last);
+      reads = tt;
     }))
 
 pub fits_next : (settings : SettingsView) (d e : DoorView) (t u : ListTask) (op : Op) (moment : ℕ) (a : AnsweredOf) → IsGoing t.stage → op ≡ op_of t.request t.stage → Suits (op_of t.request t.stage) a.reply
@@ -90,14 +91,7 @@ may_step settings p r (Head m name) op is low high = subst (λ o. allowed settin
 may_step settings p r Broken op is low high = subst (λ o. allowed settings p o ≡ true) (sym is) (rw (between 1 settings.zones r.zone low high) refl)
 may_step settings p r (Ended outcome) op is low high = subst (λ o. allowed settings p o ≡ true) (sym is) (rw (between 1 settings.zones r.zone low high) refl)
 
-pub not_over : (stage : Stage) → IsGoing stage → IsOver stage → ⊥
-not_over (Ended outcome) going ended = going
-not_over stage going ended = ended
-
--- neither ended nor broken
-pub is_going_of : (stage : Stage) → ((outcome : ListOutcome) → stage ≡ Ended outcome → ⊥) → (stage ≡ Broken → ⊥) → IsGoing stage
-is_going_of (Look known) ended broken = tt
-is_going_of (Page m next) ended broken = tt
-is_going_of (Head m name) ended broken = tt
-is_going_of Broken ended broken = broken refl
-is_going_of (Ended outcome) ended broken = ended outcome refl
+-- the outcome is not there
+pub is_open : (stage : Stage) → ((outcome : Outcome) → stage ≡ Ended outcome → ⊥) → IsOver stage → ⊥
+is_open (Ended outcome) other over = other outcome refl
+is_open stage other over = over

@@ -1,6 +1,6 @@
 -- What the end of a listing means: which of the actor's own events, and which answers to them, its rows rest on.
-use Rattle.std.specs.Prelude.{◌≡◌, ◌⊎◌, ℕ, ◌<◌, ◌==◌, ◌||◌, not, Bool, true, T, List, [], ◌∷◌, length, Option, Some, None, if◌then◌else◌}
-use Rattle.std.specs.List.{All, Contains}
+use Rattle.std.specs.Prelude.{◌≡◌, ◌⊎◌, ℕ, ◌<◌, ◌==◌, ◌||◌, not, Bool, true, false, T, List, [], ◌∷◌, length, Option, Some, None, if◌then◌else◌}
+use Rattle.std.specs.List.{All, AllByRecursion, Contains}
 use Rattle.std.specs.FinMap.Entries.{find, is_sorted}
 use Rattle.object_words.specs.declared.bucket.Bucket.{Bucket}
 use Rattle.object_words.specs.declared.entry.EntryPage.{EntryPage}
@@ -9,7 +9,7 @@ use Rattle.object_words.specs.declared.head.SeenSlot.{SeenSlot}
 use Rattle.object_words.specs.Entries.{EntryView}
 use Rattle.object_words.specs.Hashes.{shard_of}
 use Rattle.object_words.specs.Heads.{is_live, row_of}
-use Rattle.object_words.specs.Keys.{shard_key}
+use Rattle.object_words.specs.Keys.{is_shard_key, shard_key}
 use Rattle.object_words.specs.Names.{name_cmp}
 use Rattle.object_words.specs.Rows.{RowView}
 use Rattle.realm_model.specs.Accounts.{Looked, Account}
@@ -18,6 +18,10 @@ use Rattle.realm_model.specs.declared.op.Op.{Op}
 use Rattle.realm_model.specs.declared.op.Op.TheVariants.{BucketRead, Page, HeadRead}
 use Rattle.realm_model.specs.declared.event.Reply.TheVariants.{Row, Entries, Head as head_reply}
 use Rattle.swift_auth.specs.declared.policy.Deed.TheVariants.{ListContainer}
+use Rattle.task_words.specs.declared.outcome.Outcome.{Outcome}
+use Rattle.task_words.specs.declared.outcome.Outcome.TheVariants.{Done, MovedOften}
+use Rattle.task_words.specs.declared.reply.MapReply.{MapReply}
+use Rattle.task_words.specs.declared.reply.MapReply.TheVariants.{Listed, Refused}
 use Rattle.task_words.specs.declared.reply.Refusal.{Refusal}
 use Rattle.task_words.specs.declared.reply.Refusal.TheVariants.{Unauthorized, Denied, NoContainer}
 use Rattle.task_words.specs.Outcomes.{most_moved, LookedUp}
@@ -26,8 +30,6 @@ use Rattle.list_words.specs.declared.command.ListCommand.{ListCommand}
 use Rattle.list_words.specs.declared.row.ListedRow.{ListedRow}
 use Rattle.list_words.specs.Listings.{is_before, in_scope, subdir_of, most_rows, rows_of}
 use Rattle.task_list.specs.declared.request.ListRequest.{ListRequest}
-use Rattle.task_list.specs.declared.request.ListOutcome.{ListOutcome}
-use Rattle.task_list.specs.declared.request.ListOutcome.TheVariants.{Listed, Refused, MovedOften}
 
 -- ---- operations
 
@@ -46,6 +48,16 @@ asks_page zone row shard after = Page zone (shard_key row.id row.instance shard)
 -- to read the head of a name
 abbrev pub asks_head : ℕ → ℕ → List ℕ → Op
 asks_head zone container name = HeadRead zone container name
+
+-- it is one of these three, which read; a page is one of a shard
+abbrev pub is_of_listing : Op → Bool
+is_of_listing (BucketRead zone name) = true
+is_of_listing (Page zone key after limit) = is_shard_key key
+is_of_listing (HeadRead zone container name) = true
+is_of_listing op = false
+
+abbrev pub AreOfListing : List OwnEvent → Type 0
+AreOfListing events = AllByRecursion (λ (e : OwnEvent). is_of_listing e.op ≡ true) events
 
 -- ---- what pages and heads show
 
@@ -189,11 +201,12 @@ pub record ListedBy (r : ListRequest) (rows : List ListedRow) (y : Account) (eve
   pub granted : row_refusal r.asker (Some row) ListContainer ≡ None
   pub shown : AreShown r.zone r.command row.id rows events
 
--- no own change of a head was tried, and heads were read where a change was under way
+-- no own change of a head was tried, each own event reads, and heads were read where a change was under way
 pub record OnlyReads (r : ListRequest) (y : Account) (events : List OwnEvent) : Type 0 where
   pub untried : y.target ≡ None
   pub unchanged : y.changes ≡ 0
   pub heads : AreUnsettled r.zone r.command events
+  pub reads : AreOfListing events
 
 -- the last own bucket read refuses it
 abbrev pub RefusedBy : ListRequest → Refusal → Account → Type 0
@@ -210,8 +223,14 @@ IsRefusal (Denied rule) = Unit {0}
 IsRefusal NoContainer = Unit {0}
 IsRefusal refusal = ⊥
 
+-- what a reply to it rests on
+abbrev pub IsListReply : ListRequest → MapReply → Account → List OwnEvent → Type 0
+IsListReply r (Listed rows) y events = ListedBy r rows y events
+IsListReply r (Refused refusal) y events = IsRefusal refusal × RefusedBy r refusal y
+IsListReply r reply y events = ⊥
+
 -- the end of the task
-abbrev pub IsListOutcome : ListRequest → ListOutcome → Account → List OwnEvent → Type 0
-IsListOutcome r (Listed rows) y events = ListedBy r rows y events × OnlyReads r y events
-IsListOutcome r (Refused refusal) y events = IsRefusal refusal × RefusedBy r refusal y × OnlyReads r y events
+abbrev pub IsListOutcome : ListRequest → Outcome → Account → List OwnEvent → Type 0
+IsListOutcome r (Done reply) y events = IsListReply r reply y events × OnlyReads r y events
 IsListOutcome r MovedOften y events = GrantedBy r y × (y.moved.count ≡ most_moved) × OnlyReads r y events
+IsListOutcome r outcome y events = ⊥

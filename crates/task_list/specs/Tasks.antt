@@ -15,6 +15,10 @@ use Rattle.realm_model.specs.declared.op.Op.{Op}
 use Rattle.realm_model.specs.declared.event.Reply.{Reply}
 use Rattle.realm_model.specs.declared.event.Reply.TheVariants.{Row, Entries, Head as head_reply}
 use Rattle.swift_auth.specs.declared.policy.Deed.TheVariants.{ListContainer}
+use Rattle.task_words.specs.declared.outcome.Outcome.{Outcome}
+use Rattle.task_words.specs.declared.outcome.Outcome.TheVariants.{Done, MovedOften}
+use Rattle.task_words.specs.declared.reply.MapReply.{MapReply}
+use Rattle.task_words.specs.declared.reply.MapReply.TheVariants.{Listed, Refused}
 use Rattle.task_words.specs.declared.reply.Refusal.{Refusal}
 use Rattle.task_words.specs.Outcomes.{most_moved}
 use Rattle.task_words.specs.Rows.{row_refusal}
@@ -22,13 +26,12 @@ use Rattle.list_words.specs.declared.command.ListCommand.{ListCommand}
 use Rattle.task_list.specs.declared.merging.NextPage.{NextPage}
 use Rattle.task_list.specs.declared.merging.Merging.{Merging}
 use Rattle.task_list.specs.declared.request.ListRequest.{ListRequest}
-use Rattle.task_list.specs.declared.request.ListOutcome.TheVariants.{Listed, Refused, MovedOften}
 use Rattle.task_list.specs.declared.stage.Known.{Known}
 use Rattle.task_list.specs.declared.stage.Stage.{Stage}
 use Rattle.task_list.specs.declared.stage.Stage.TheVariants.{Look, Page, Head, Broken, Ended}
 use Rattle.task_list.specs.declared.task.ListTask.{ListTask}
 use Rattle.task_list.specs.Progresses.{settled_of, rows_in}
-use Rattle.task_list.specs.Listed.{asks_row, asks_page, asks_head, AreShown, AreUnsettled, IsListOutcome}
+use Rattle.task_list.specs.Listed.{asks_row, asks_page, asks_head, AreOfListing, AreShown, AreUnsettled, IsListOutcome}
 use Rattle.task_list.specs.Stages.{IsSettledTo, IsRowShown, MergingFits, HeadFits, IsPageEvent, IsHeadEvent}
 
 -- ---- stages
@@ -82,16 +85,21 @@ abbrev pub KnownFits : ℕ → ListCommand → Option Known → List OwnEvent �
 KnownFits zone c None events = Unit {0}
 KnownFits zone c (Some k) events = IsSettledTo zone c k.container (settled_of k.progress) (rows_in k.progress) events
 
--- the listing goes on, or has its rows
+-- the listing has its rows
+abbrev pub HasRows : ℕ → ListCommand → Bucket → Outcome → List OwnEvent → Type 0
+HasRows zone c row (Done (Listed rows)) events = AreShown zone c row.id rows events
+HasRows zone c row outcome events = ⊥
+
+-- it goes on, or has its rows
 abbrev pub WentOn : ℕ → ListCommand → Bucket → Stage → List OwnEvent → Type 0
 WentOn zone c row (Page m next) events = (m.row ≡ row) × MergingFits zone c m (Some next) events × (m.used_up ≡ None)
 WentOn zone c row (Head m name) events = (m.row ≡ row) × HeadFits zone c m name events
-WentOn zone c row (Ended (Listed rows)) events = AreShown zone c row.id rows events
+WentOn zone c row (Ended outcome) events = HasRows zone c row outcome events
 WentOn zone c row stage events = ⊥
 
 -- the row is refused, or its shards are read
 abbrev pub AfterRow : ListCommand → Option Known → Option Refusal → Option Bucket → Stage → Type 0
-AfterRow c known (Some refusal) row stage = stage ≡ Ended (Refused refusal)
+AfterRow c known (Some refusal) row stage = stage ≡ Ended (Done (Refused refusal))
 AfterRow c known None None stage = ⊥
 AfterRow c known None (Some row) stage =
     (zone : ℕ) (events : List OwnEvent) → KnownFits zone c known events → IsRowShown zone c row events → WentOn zone c row stage events
@@ -130,6 +138,7 @@ pub record Going (r : ListRequest) (moved : ℕ) (y : Account) (events : List Ow
   pub few : moved < most_moved
   pub moved_before : y.moved.last ≤ last
   pub numbered : All (λ e. e.number ≤ last) events
+  pub reads : AreOfListing events
 
 -- the last own read of a row showed this one, after the last answer Moved or Closed, and lets the asker list
 pub record Looking (r : ListRequest) (row : Bucket) (y : Account) (last : ℕ) : Type 0 where

@@ -9,5 +9,5 @@ mod request;
 mod stage;
 mod task;
 
-pub use request::{ListOutcome, ListRequest};
+pub use request::ListRequest;
 pub use task::ListTask;

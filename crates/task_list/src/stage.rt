@@ -9,12 +9,13 @@ ghost use Rattle.swift_auth.specs.declared.policy.Deed.TheVariants.{ListContaine
 
 use crate::merging::{Merging, Next, NextPage};
 use crate::progress::Progress;
-use crate::request::{ListOutcome, ListRequest};
+use crate::request::ListRequest;
 use list_words::ListCommand;
 use object_words::{Bucket, EntryPage, ObjectName, SeenSlot};
 use realm_model::Reply;
 use std::alloc::{AllocError, Global};
 use swift_auth::Deed;
+use task_words::{MapReply, Outcome};
 
 /// So many answers Moved or Closed end a task.
 const MOST_MOVED: u32 = 16;
@@ -37,7 +38,7 @@ pub enum Stage {
     Head(Merging, ObjectName),
     /// There was no memory to go on.
     Broken,
-    Ended(ListOutcome),
+    Ended(Outcome),
 }
 
 /// The stage after an answer, and how many were Moved or Closed.
@@ -114,7 +115,7 @@ fn stage_by_row(
         AfterRow request.now.command known (row_refusal request.now.asker row to_list) row stage) }
 {
     match request.asker.refusal(row.as_ref(), Deed::ListContainer) {
-        Some(refusal) => Ok(Stage::Ended(ListOutcome::Refused(refusal))),
+        Some(refusal) => Ok(Stage::Ended(Outcome::Done(MapReply::Refused(refusal)))),
         None => match row {
             Some(row) => stage_in(alloc, &request.command, known, row),
             None => unreachable!(),
@@ -186,7 +187,7 @@ fn stage_when_moved(merging: Merging, moved: u32) -> Stage
             progress,
         }))
     } else {
-        Stage::Ended(ListOutcome::MovedOften)
+        Stage::Ended(Outcome::MovedOften)
     }
 }
 
@@ -227,6 +228,6 @@ fn went_on(alloc: Global, command: &ListCommand, mut merging: Merging) -> Result
     match merging.go_on(alloc, command)? {
         Next::Page(next) => Ok(Stage::Page(merging, next)),
         Next::Head(name) => Ok(Stage::Head(merging, name)),
-        Next::Done => Ok(Stage::Ended(ListOutcome::Listed(merging.into_rows()))),
+        Next::Done => Ok(Stage::Ended(Outcome::Done(MapReply::Listed(merging.into_rows())))),
     }
 }

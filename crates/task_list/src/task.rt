@@ -1,4 +1,4 @@
-ghost use Rattle.std.specs.Prelude.{◌≡◌, ◌≤◌, ◌⊎◌, IfOk, None};
+ghost use Rattle.std.specs.Prelude.{◌≡◌, ◌≤◌, ◌⊎◌, IfOk, OnOk, None};
 ghost use Rattle.realm_model.specs.Settings.{SettingsView};
 ghost use Rattle.realm_model.specs.Doors.{DoorView, actor_at};
 ghost use Rattle.realm_model.specs.Accounts.{blank};
@@ -6,9 +6,9 @@ ghost use Rattle.realm_model.specs.Histories.{account_of};
 ghost use Rattle.realm_model.specs.Owns.{own_events};
 ghost use Rattle.std.specs.Prelude.{[]};
 ghost use Rattle.task_list.specs.declared.stage.Stage.TheVariants.{Broken as broken};
-ghost use Rattle.task_list.specs.Tasks.{IsGoing, Takes, op_of, request_of, fault_of, fits};
+ghost use Rattle.task_list.specs.Tasks.{IsOver, IsGoing, Takes, op_of, request_of, stage_of, fault_of, fits};
 
-use crate::request::{ListOutcome, ListRequest};
+use crate::request::ListRequest;
 use crate::stage::{Stage, next_stage};
 use object_words::ShardKey;
 use realm_door::{Door, Task, TaskTurn};
@@ -16,6 +16,7 @@ use realm_model::{Op, Reply};
 use rgw_types::Text;
 use std::alloc::{AllocError, Global};
 use std::mem::replace;
+use task_words::Outcome;
 use turn_cell::DoorFault;
 
 /// The most entries of a page.
@@ -42,6 +43,7 @@ impl ListTask {
             → account_of settings d.seen (actor_at d) ≡ blank → own_events d.seen (actor_at d) ≡ []
             → fits result settings d }
         ensures sound { fault_of result ≡ None }
+        ensures open { IsOver (stage_of result) → ⊥ }
     {
         ListTask {
             request,
@@ -51,10 +53,11 @@ impl ListTask {
         }
     }
 
-    /// The operation that comes next.
+    /// The operation that comes next; none where there was no memory to go on.
     fn next_op(&self) -> Result<Op, AllocError>
-        requires { IsGoing self.now.stage }
-        ensures { IfOk result (λ op. op ≡ op_of self.now.request self.now.stage) }
+        requires { IsOver self.now.stage → ⊥ }
+        ensures op { IfOk result (λ op. op ≡ op_of self.now.request self.now.stage) }
+        ensures going { OnOk result (IsGoing self.now.stage) }
     {
         let zone = self.request.zone;
         match &self.stage {
@@ -73,10 +76,12 @@ impl ListTask {
                 container: merging.row.id,
                 name: name.clone()?,
             }),
-            _ => Ok(Op::BucketRead {
+            Stage::Look(_) => Ok(Op::BucketRead {
                 zone,
                 name: self.request.command.container.clone()?,
             }),
+            Stage::Broken => Err(AllocError),
+            Stage::Ended(_) => unreachable!(),
         }
     }
 
@@ -100,12 +105,17 @@ impl ListTask {
     ghost use Rattle.turn_cell.specs.declared.machine.DoorFault.TheVariants.{Worn};
     ghost use Rattle.realm_model.specs.Histories.{Legal};
     ghost use Rattle.realm_door.specs.Turns.{MakesEvent, IsOneMore};
-    ghost use Rattle.task_list.specs.Tasks.{IsGoing, stage_of, request_of, fault_of, fits};
+    ghost use Rattle.task_list.specs.Tasks.{IsOver, stage_of, request_of, fault_of, fits};
 
     /// Makes the event that comes next.
     #[tactic(auto, using(crate::proofs::Turning::fits_next, crate::proofs::Turning::may_step))]
-    fn event<D: Door>(&mut self, alloc: Global, door: &mut D, moment: u64) -> Result<(), DoorFault>
-        requires going { IsGoing (stage_of self.old) }
+    pub fn event<D: Door>(
+        &mut self,
+        alloc: Global,
+        door: &mut D,
+        moment: u64,
+    ) -> Result<(), DoorFault>
+        requires open { IsOver (stage_of self.old) → ⊥ }
         requires sound { fault_of self.old ≡ None }
         requires fits { D.tells →
             Legal (D.settings door.old) (D.told door.old).seen
@@ -151,7 +161,7 @@ impl Task for ListTask {
 
     type Command = ListRequest;
 
-    type Outcome = ListOutcome;
+    type Outcome = Outcome;
 
     ghost command = { request_of };
 
@@ -170,7 +180,7 @@ impl Task for ListTask {
 
     ghost wants = { λ t. ⊥ };
 
-    #[tactic(auto, using(crate::proofs::Turning::is_going_of, crate::proofs::Turning::not_over))]
+    #[tactic(auto, using(crate::proofs::Turning::is_open))]
     fn turn<D: Door>(
         &mut self,
         alloc: Global,
@@ -180,19 +190,14 @@ impl Task for ListTask {
         if let Some(fault) = self.fault {
             return Err(fault);
         }
-        match &self.stage {
-            Stage::Ended(_) => return Ok(TaskTurn::Done),
-            Stage::Broken => {
-                self.fault = Some(DoorFault::OutOfMemory);
-                return Err(DoorFault::OutOfMemory);
-            }
-            _ => {}
+        if let Stage::Ended(_) = &self.stage {
+            return Ok(TaskTurn::Done);
         }
         self.event(alloc, door, moment)?;
         Ok(TaskTurn::More)
     }
 
-    fn outcome(&self) -> Option<&ListOutcome> {
+    fn outcome(&self) -> Option<&Outcome> {
         match (&self.stage, self.fault) {
             (Stage::Ended(outcome), None) => Some(outcome),
             _ => None,

@@ -29,6 +29,10 @@ fn tell_reply<R: Print>(rt: &R, actor: u64, reply: &MapReply) -> anyhow::Result<
             println!(rt; "actor {actor}: 200 objects={objects} bytes={bytes}")?;
         }
         MapReply::Same { .. } => println!(rt; "actor {actor}: 304")?,
+        MapReply::Listed(rows) => {
+            let count = rows.len();
+            println!(rt; "actor {actor}: 200 rows={count}")?;
+        }
         MapReply::Refused(_) => println!(rt; "actor {actor}: refused")?,
     }
     Ok(())

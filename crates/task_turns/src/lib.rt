@@ -4,4 +4,4 @@
 
 mod waiting;
 
-pub use waiting::{container_tasks_wait, others_wait, waits_add_up};
+pub use waiting::{container_tasks_wait, list_tasks_wait, others_wait, waits_add_up};

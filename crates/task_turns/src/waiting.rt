@@ -4,6 +4,8 @@ ghost use Rattle.realm_model.specs.Doors.{DoorView};
 ghost use Rattle.realm_model.specs.Settings.{SettingsView};
 ghost use Rattle.task_container.specs.Stages.{fits};
 ghost use Rattle.task_container.specs.declared.task.ContainerTask.{ContainerTask};
+ghost use Rattle.task_list.specs.Tasks as list;
+ghost use Rattle.task_list.specs.declared.task.ListTask.{ListTask};
 ghost use Rattle.task_turns.specs.Waiting.{Waited, waiting_at};
 
 /// While an actor acts through a door, the other actors of its pass wait: each is told a longer history,
@@ -26,4 +28,10 @@ pub fn waits_add_up()
 pub fn container_tasks_wait()
     ensures { (task : ContainerTask) (settings : SettingsView) (d e : DoorView)
         → Waited settings d e → fits task settings d → fits task settings e }
+{}
+
+/// A task of a listing stands where it stood when its actor has waited.
+pub fn list_tasks_wait()
+    ensures { (task : ListTask) (settings : SettingsView) (d e : DoorView)
+        → Waited settings d e → list.fits task settings d → list.fits task settings e }
 {}

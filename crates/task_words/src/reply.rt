@@ -1,3 +1,4 @@
+use list_words::ListedRows;
 use object_words::{Bucket, MediaType};
 use rgw_types::{Pairs, Stamp};
 use swift_auth::Rule;
@@ -19,8 +20,8 @@ pub enum Refusal {
     OtherEtag,
 }
 
-/// The reply of the bucket map to a request on an object, and the reply to a request for the counts of a
-/// container.
+/// The reply of the bucket map to a request on an object, and the replies to requests for the counts and for
+/// the listing of a container.
 #[derive(Debug, Drop)]
 pub enum MapReply {
     /// The object was stored.
@@ -49,5 +50,7 @@ pub enum MapReply {
         objects: u64,
         bytes: u64,
     },
+    /// The rows of a container.
+    Listed(ListedRows),
     Refused(Refusal),
 }

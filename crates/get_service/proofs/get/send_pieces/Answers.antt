@@ -9,7 +9,8 @@ use Rattle.task_get.specs.declared.request.GetRequest.{GetRequest}
 use Rattle.task_get.specs.Tasks.{request_of, stage_of, bytes_of, shown_of}
 use Rattle.call_service.proofs.Asking.{none_asks, both_ask}
 use Rattle.get_service.specs.Texts.{StopsPiece, piece_text}
-use Rattle.get_service.specs.Getting.{IsUpTo, brought_at, piece_in, stand, HasWritten, StopsReply}
+use Rattle.call_service.specs.Replying.{stand}
+use Rattle.get_service.specs.Getting.{IsUpTo, brought_at, piece_in, HasWritten, StopsReply}
 use Rattle.std.specs.Io.KnownBytes.{Appends}
 use Rattle.get_service.proofs.Acting.{nothing_else, still_open}
 use Rattle.get_service.proofs.Getting.{still_written, piece_written}

@@ -5,7 +5,8 @@ use Rattle.task_words.specs.Answers.{span_of}
 use Rattle.task_get.specs.declared.request.GetRequest.{GetRequest}
 use Rattle.task_get.specs.Tasks.{request_of, means}
 use Rattle.get_service.specs.Texts.{end_text, StopsEnd}
-use Rattle.get_service.specs.Getting.{Replies, stand, StopsReply}
+use Rattle.call_service.specs.Replying.{stand}
+use Rattle.get_service.specs.Getting.{Replies, StopsReply}
 use Rattle.get_service.proofs.Getting.{ended}
 use Rattle.get_service.proofs.Stopping.{end_stops}
 use Rattle.get_service.proofs.get.send_reply.Goals as goal

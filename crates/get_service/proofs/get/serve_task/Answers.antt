@@ -7,8 +7,10 @@ use Rattle.task_get.specs.Tasks.{request_of}
 use Rattle.call_service.specs.Bodies.{DropsBody}
 use Rattle.call_service.specs.Serving.{Asks, side}
 use Rattle.call_service.proofs.Passing.{none_given}
-use Rattle.get_service.specs.Getting.{Replies, stand, StopsReply}
-use Rattle.get_service.proofs.Serving.{row_stops, body_stops, reply_stops, replied}
+use Rattle.call_service.specs.Replying.{stand}
+use Rattle.get_service.specs.Getting.{Replies, StopsReply, site_of}
+use Rattle.swift_requests.specs.declared.asked.Asked.TheVariants.{Get}
+use Rattle.call_service.proofs.Replying.{row_stops, body_stops, reply_stops, replied}
 use Rattle.get_service.proofs.get.serve_task.Goals as goal
 
 pub act-requires-clause-up : goal.act-requires-clause-up
@@ -23,7 +25,7 @@ returns-in_err-act-clause-stopped g c =
     let later : EndsState = record { left = left; taken = taken; told = g.C.Clock.told c.act.new.clock; plan = g.C.Clock.plan c.act.new.clock; read_faults = g.S.Source.faults c.args.source.now; write_faults = g.K.Sink.faults c.args.sink.now } in
     let p = err_from_is_err_and c.from_residual.result c.from_residual.ensures.1 in
     rw (p.1, p.2)
-    (row_stops g.D.Door.tells g.D.Door.alone (g.D.Door.settings c.args.door.now) c.args.form (request_of c.args.task.now) (g.D.Door.found c.act.new.door)
+    (row_stops g.D.Door.tells g.D.Door.alone (site_of (g.D.Door.settings c.args.door.now) (request_of c.args.task.now)) c.args.form (Get (request_of c.args.task.now).get) (g.D.Door.found c.act.new.door)
     (side (g.D.Door.told c.args.door.now) c.args.intake.now ends) (side (g.D.Door.told c.act.new.door) c.args.intake.now later) c.in_err-act.field-0.0 now.fault
     (none_given c.args.intake.now left c.requires.intake c.requires.plain)
     (record { unwritten = Appends-nil taken; asks = now.unasked }))
@@ -35,7 +37,7 @@ returns-in_err-whole-clause-stopped g c =
     let later : EndsState = record { left = g.S.Source.left c.drop_body.new.source; taken = taken; told = g.C.Clock.told c.act.new.clock; plan = g.C.Clock.plan c.act.new.clock; read_faults = g.S.Source.faults c.drop_body.new.source; write_faults = g.K.Sink.faults c.args.sink.now } in
     let p = err_from_is_err_and c.from_residual-in_err-whole.result c.from_residual-in_err-whole.ensures.1 in
     rw (p.1, p.2)
-    (body_stops g.D.Door.tells g.D.Door.alone (g.D.Door.settings c.args.door.now) c.args.form (request_of c.args.task.now) (g.D.Door.found c.act.new.door)
+    (body_stops g.D.Door.tells g.D.Door.alone (site_of (g.D.Door.settings c.args.door.now) (request_of c.args.task.now)) c.args.form (Get (request_of c.args.task.now).get) (g.D.Door.found c.act.new.door)
     (side (g.D.Door.told c.args.door.now) c.args.intake.now ends) (side (g.D.Door.told c.act.new.door) c.drop_body.new.intake later) c.in_err-whole.field-0.0 c.in_err-whole.ensures.err
     (record { unwritten = Appends-nil taken; asks = c.in_ok-act.ensures.asks }))
 
@@ -64,7 +66,7 @@ returns-in_err-send_reply-clause-stopped g c =
     (subst (λ q. StopsReply tells alone (g.D.Door.settings c.act.new.door) c.args.form q found (stand d taken mid) (stand e now told) fault) before.request c.in_err-send_reply.ensures.stopped) in
     let p = err_from_is_err_and c.from_residual-in_err-send_reply.result c.from_residual-in_err-send_reply.ensures.1 in
     rw (p.1, p.2)
-    (reply_stops tells alone settings c.args.form r found x y body.0 body.1 d mid before.asks fault stops)
+    (reply_stops tells alone (site_of settings r) c.args.form (Get r.get) found x y body.0 body.1 d mid before.asks fault stops)
 
 pub returns-clause-served : goal.returns-clause-served
 returns-clause-served g c =
@@ -88,4 +90,4 @@ returns-clause-served g c =
     let reply = subst (λ s. Replies tells s c.args.form r e (Appends taken now)) before.settings
     (subst (λ q. Replies tells (g.D.Door.settings c.act.new.door) c.args.form q e (Appends taken now)) before.request c.in_ok-send_reply.ensures.written) in
     let asks = subst (λ s. Asks tells alone s false d e mid told) before.settings c.in_ok-send_reply.ensures.asks in
-    replied tells alone settings c.args.form r (g.D.Door.found c.send_reply.new.door) x y body.0 body.1 d mid before.asks asks reply
+    replied tells alone (site_of settings r) c.args.form (Get r.get) (g.D.Door.found c.send_reply.new.door) x y body.0 body.1 d mid before.asks asks reply

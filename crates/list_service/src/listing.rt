@@ -1,0 +1,201 @@
+ghost use Rattle.std.specs.Prelude.{◌≡◌, ◌≤◌, ◌<◌, ◌^◌, true, false, OnOk, OnErr, IfOk, IfErr, length, None};
+ghost use Rattle.std.specs.Io.KnownBytes.{Appends};
+ghost use Rattle.http_intake.specs.Intake.{IsUnchunked};
+ghost use Rattle.swift_requests.specs.declared.asked.Asked.TheVariants.{Listing};
+ghost use Rattle.task_list.specs.Tasks.{IsOver, request_of, stage_of, fault_of, fits};
+ghost use Rattle.call_service.specs.Serving.{IsNew, IsServed, IsStopped, HasServeCause, Asks, WritesAtFault, side};
+ghost use Rattle.call_service.specs.Replying.{StopsEvent, Replies, StopsReply, stand};
+ghost use Rattle.list_service.specs.Listing.{IsUpTo, site_of, asked_by};
+
+use crate::write::send_end;
+use call_service::{ServeFault, Served, drop_body, fault_of};
+use gw_io::{Clock, Ends, Sink, Source};
+use http_intake::Intake;
+use http_model::ReplyForm;
+use realm_door::{Door, Task};
+use std::alloc::Global;
+use swift_reply::ListingForm;
+use task_list::{ListRequest, ListTask};
+
+/// Makes the event that comes next, at the moment now.
+fn act<D: Door, C: Clock>(
+    alloc: Global,
+    task: &mut ListTask,
+    door: &mut D,
+    clock: &mut C,
+) -> Result<(), ServeFault>
+    requires open { IsOver (stage_of task.old) → ⊥ }
+    requires sound { fault_of task.old ≡ None }
+    requires up { IsUpTo D.tells (D.settings door.old) task.old (D.told door.old) }
+    ensures up { IsUpTo D.tells (D.settings door.old) task.new (D.told door.new) }
+    ensures sound { OnOk result (fault_of task.new ≡ None) }
+    ensures asks { OnOk result (Asks D.tells D.alone (D.settings door.old) false
+        (D.told door.old) (D.told door.new) (C.told clock.old) (C.told clock.new)) }
+    ensures unasked { OnErr result (Asks D.tells D.alone (D.settings door.old) true
+        (D.told door.old) (D.told door.new) (C.told clock.old) (C.told clock.new)) }
+    ensures request { request_of task.new ≡ request_of task.old }
+    ensures counts { OnOk result ((D.last door.old < D.last door.new) × (D.last door.new ≤ 2 ^ 62)) }
+    ensures fault { IfErr result (StopsEvent D.tells (D.found door.new)) }
+    ensures settings { D.settings door.new ≡ D.settings door.old }
+    ensures home { D.home door.new ≡ D.home door.old }
+    ensures plan { C.plan clock.new ≡ C.plan clock.old }
+{
+    let moment = clock.now();
+    match task.event(alloc, door, moment) {
+        Ok(()) => Ok(()),
+        Err(fault) => Err(fault_of(fault)),
+    }
+}
+
+/// Goes on to the outcome.
+fn run<D: Door, C: Clock>(
+    alloc: Global,
+    task: &mut ListTask,
+    door: &mut D,
+    clock: &mut C,
+) -> Result<(), ServeFault>
+    requires sound { fault_of task.old ≡ None }
+    requires up { IsUpTo D.tells (D.settings door.old) task.old (D.told door.old) }
+    ensures up { IsUpTo D.tells (D.settings door.old) task.new (D.told door.new) }
+    ensures over { OnOk result (IsOver (stage_of task.new) × (fault_of task.new ≡ None)) }
+    ensures asks { OnOk result (Asks D.tells D.alone (D.settings door.old) false
+        (D.told door.old) (D.told door.new) (C.told clock.old) (C.told clock.new)) }
+    ensures unasked { OnErr result (Asks D.tells D.alone (D.settings door.old) true
+        (D.told door.old) (D.told door.new) (C.told clock.old) (C.told clock.new)) }
+    ensures fault { IfErr result (StopsEvent D.tells (D.found door.new)) }
+    ensures request { request_of task.new ≡ request_of task.old }
+    ensures settings { D.settings door.new ≡ D.settings door.old }
+    ensures home { D.home door.new ≡ D.home door.old }
+    ensures plan { C.plan clock.new ≡ C.plan clock.old }
+{
+    'events: while task.outcome().is_none() {
+        act(alloc, task, door, clock)?;
+    }
+    Ok(())
+}
+
+/// Makes the events up to the outcome, and writes the reply.
+fn send_reply<D: Door, C: Clock, K: Sink>(
+    alloc: Global,
+    task: &mut ListTask,
+    listing: ListingForm,
+    form: ReplyForm,
+    door: &mut D,
+    clock: &mut C,
+    sink: &mut K,
+    out: &mut Vec<u8>,
+) -> Result<(), ServeFault>
+    requires sound { fault_of task.old ≡ None }
+    requires up { IsUpTo D.tells (D.settings door.old) task.old (D.told door.old) }
+    ensures written { OnOk result (Replies D.tells (site_of (D.settings door.old) (request_of task.old)) form
+        (asked_by (request_of task.old) listing) (D.told door.new) (Appends (K.taken sink.old) (K.taken sink.new))) }
+    ensures asks { OnOk result (Asks D.tells D.alone (D.settings door.old) false
+        (D.told door.old) (D.told door.new) (C.told clock.old) (C.told clock.new)) }
+    ensures stopped { IfErr result (StopsReply D.tells D.alone (site_of (D.settings door.old) (request_of task.old)) form
+        (asked_by (request_of task.old) listing) (D.found door.new)
+        (stand (D.told door.old) (K.taken sink.old) (C.told clock.old)) (stand (D.told door.new) (K.taken sink.new) (C.told clock.new))) }
+    ensures cause { WritesAtFault (K.faults sink.old) (K.faults sink.new) result }
+    ensures settings { D.settings door.new ≡ D.settings door.old }
+    ensures home { D.home door.new ≡ D.home door.old }
+    ensures plan { C.plan clock.new ≡ C.plan clock.old }
+{
+    run(alloc, task, door, clock)?;
+    match task.outcome() {
+        Some(outcome) => send_end(alloc, sink, out, outcome, listing, form),
+        None => unreachable!(),
+    }
+}
+
+/// Serves the listing of a new task.
+fn serve_task<D: Door, C: Clock, S: Source, K: Sink>(
+    alloc: Global,
+    task: &mut ListTask,
+    listing: ListingForm,
+    form: ReplyForm,
+    door: &mut D,
+    clock: &mut C,
+    intake: &mut Intake,
+    source: &mut S,
+    sink: &mut K,
+    buffer: &mut [u8],
+    out: &mut Vec<u8>,
+) -> Result<Served, ServeFault>
+    requires room { 0 < length buffer.old }
+    requires open { IsOver (stage_of task.old) → ⊥ }
+    requires sound { fault_of task.old ≡ None }
+    requires fits { D.tells → fits task.old (D.settings door.old) (D.told door.old) }
+    requires intake { intake.old.failed ≡ None }
+    requires plain { IsUnchunked intake.old }
+    requires new { D.tells → IsNew (D.settings door.old) (D.told door.old) }
+    ensures served { IfOk result (IsServed D.tells D.alone (site_of (D.settings door.old) (request_of task.old)) form
+        (asked_by (request_of task.old) listing)
+        (side (D.told door.old) intake.old (⟦<(S, K, C) as Ends>⟧.ends (source.old, sink.old, clock.old)))
+        (side (D.told door.new) intake.new (⟦<(S, K, C) as Ends>⟧.ends (source.new, sink.new, clock.new)))) }
+    ensures stopped { IfErr result (IsStopped D.tells D.alone (site_of (D.settings door.old) (request_of task.old)) form
+        (asked_by (request_of task.old) listing) (D.found door.new)
+        (side (D.told door.old) intake.old (⟦<(S, K, C) as Ends>⟧.ends (source.old, sink.old, clock.old)))
+        (side (D.told door.new) intake.new (⟦<(S, K, C) as Ends>⟧.ends (source.new, sink.new, clock.new)))) }
+    ensures cause { HasServeCause
+        (⟦<(S, K, C) as Ends>⟧.ends (source.old, sink.old, clock.old))
+        (⟦<(S, K, C) as Ends>⟧.ends (source.new, sink.new, clock.new)) result }
+    ensures settings { D.settings door.new ≡ D.settings door.old }
+    ensures home { D.home door.new ≡ D.home door.old }
+    ensures kept { length buffer.new ≡ length buffer.old }
+{
+    act(alloc, task, door, clock)?;
+    let whole = drop_body(intake, source, buffer)?;
+    if !whole {
+        return Ok(Served::Cut);
+    }
+    send_reply(alloc, task, listing, form, door, clock, sink, out)?;
+    Ok(Served::Replied)
+}
+
+/// Serves one listing, whose head was read, as the door's present actor, which made no event: reads the row of
+/// the container, drops the body of the request, makes the other events, and writes the reply. The clock is asked
+/// once for each event. The buffers are for pieces of the body and for the text of the reply.
+pub fn serve_listing<D: Door, C: Clock, S: Source, K: Sink>(
+    alloc: Global,
+    request: ListRequest,
+    listing: ListingForm,
+    form: ReplyForm,
+    door: &mut D,
+    clock: &mut C,
+    intake: &mut Intake,
+    source: &mut S,
+    sink: &mut K,
+    buffer: &mut [u8],
+    out: &mut Vec<u8>,
+) -> Result<Served, ServeFault>
+    requires room { 0 < length buffer.old }
+    requires low { 1 ≤ request.zone }
+    requires high { request.zone ≤ (D.settings door.old).zones }
+    requires intake { intake.old.failed ≡ None }
+    requires plain { IsUnchunked intake.old }
+    requires new { D.tells → IsNew (D.settings door.old) (D.told door.old) }
+
+    // The whole reply was written behind the body, or the input ended inside the body and nothing was.
+    ensures served { IfOk result (IsServed D.tells D.alone
+        (record { settings = D.settings door.old; zone = request.zone; asker = request.asker }) form (Listing request.command listing)
+        (side (D.told door.old) intake.old (⟦<(S, K, C) as Ends>⟧.ends (source.old, sink.old, clock.old)))
+        (side (D.told door.new) intake.new (⟦<(S, K, C) as Ends>⟧.ends (source.new, sink.new, clock.new)))) }
+
+    // Nothing was written, or a front of the reply.
+    ensures stopped { IfErr result (IsStopped D.tells D.alone
+        (record { settings = D.settings door.old; zone = request.zone; asker = request.asker }) form (Listing request.command listing)
+        (D.found door.new)
+        (side (D.told door.old) intake.old (⟦<(S, K, C) as Ends>⟧.ends (source.old, sink.old, clock.old)))
+        (side (D.told door.new) intake.new (⟦<(S, K, C) as Ends>⟧.ends (source.new, sink.new, clock.new)))) }
+
+    ensures cause { HasServeCause
+        (⟦<(S, K, C) as Ends>⟧.ends (source.old, sink.old, clock.old))
+        (⟦<(S, K, C) as Ends>⟧.ends (source.new, sink.new, clock.new)) result }
+    ensures settings { D.settings door.new ≡ D.settings door.old }
+    ensures home { D.home door.new ≡ D.home door.old }
+    ensures kept { length buffer.new ≡ length buffer.old }
+{
+    let mut task = ListTask::new(request);
+    serve_task(
+        alloc, &mut task, listing, form, door, clock, intake, source, sink, buffer, out,
+    )
+}

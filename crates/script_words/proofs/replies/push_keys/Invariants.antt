@@ -1,0 +1,6 @@
+use Rattle.std.proofs.Common.{◌≡◌, ◌++◌, take}
+use Rattle.script_words.specs.Replies.{keys_text}
+use Rattle.script_words.proofs.replies.push_keys.Given as goal
+
+abbrev pub invariant-loop-row : goal.invariant-loop-row
+invariant-loop-row l = l.out.items ≡ l.fn.out.items ++ keys_text (take l.row-index l.rows)
