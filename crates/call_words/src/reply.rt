@@ -9,8 +9,8 @@ use http_model::ReplyForm;
 use std::alloc::{AllocError, Global};
 use swift_auth::Rule;
 use swift_reply::{
-    Denial, ListingForm, ShownSpan, SwiftRefusal, push_listed, push_refusal, push_same, push_shown_head, push_span_head,
-    push_stored,
+    Denial, ListingForm, ShownSpan, SwiftRefusal, push_listed, push_refusal, push_same,
+    push_shown_head, push_span_head, push_stored,
 };
 use task_words::{MapReply, Outcome, Refusal, Span};
 

@@ -43,11 +43,7 @@ fn show_large<R: Clock + Print>(rt: &R, alloc: Global) -> anyhow::Result<()> {
     show_object(rt, alloc, &mut bench)
 }
 
-fn show_rounds<R: Clock + Print>(
-    rt: &R,
-    alloc: Global,
-    bench: &mut Bench,
-) -> anyhow::Result<()> {
+fn show_rounds<R: Clock + Print>(rt: &R, alloc: Global, bench: &mut Bench) -> anyhow::Result<()> {
     for kind in Kind::ALL {
         let round = bench.run(rt, alloc, kind, 10)?;
         let (name, events, refused) = (kind.name(), round.events, round.refused);
@@ -59,11 +55,7 @@ fn show_rounds<R: Clock + Print>(
     Ok(())
 }
 
-fn show_object<R: Clock + Print>(
-    rt: &R,
-    alloc: Global,
-    bench: &mut Bench,
-) -> anyhow::Result<()> {
+fn show_object<R: Clock + Print>(rt: &R, alloc: Global, bench: &mut Bench) -> anyhow::Result<()> {
     bench.put_large(rt, alloc, 200_000)?;
     let given = bench.get_large(rt, alloc)?.bytes;
     println!(rt; "of 200000 bytes {given} are given")?;

@@ -34,11 +34,7 @@ fn rows_text(alloc: Global, rows: &ListedRows, listing: ListingForm) -> Result<B
 }
 
 /// Adds the fields that tell the text of a listing.
-fn push_text_fields(
-    out: &mut Vec<u8>,
-    len: usize,
-    listing: ListingForm,
-) -> Result<(), AllocError>
+fn push_text_fields(out: &mut Vec<u8>, len: usize, listing: ListingForm) -> Result<(), AllocError>
     ensures { OnOk result (out.new.items ≡ out.old.items
         ++ (field_line (content_length_field len) ++ field_line (content_type_field (listing_kind listing)))) }
 {

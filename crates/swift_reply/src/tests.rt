@@ -1,7 +1,6 @@
 use super::{
-    AccountRow, AccountRows, SwiftRefusal, TargetKind, json_accounts, json_rows,
-    plain_accounts, plain_rows, push_bad_request, push_refusal, push_shown_head, push_stored,
-    write_head,
+    AccountRow, AccountRows, SwiftRefusal, TargetKind, json_accounts, json_rows, plain_accounts,
+    plain_rows, push_bad_request, push_refusal, push_shown_head, push_stored, write_head,
 };
 use http_model::{BadRequest, Field, Fields, ReplyForm, ReplyHead};
 use list_words::{ListedRow, ListedRows, ListedThing};

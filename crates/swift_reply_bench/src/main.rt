@@ -5,11 +5,11 @@
 mod sample;
 
 use anyhow::Context;
+use list_words::ListedRows;
 use std::alloc::{AllocError, Global};
 use std::env;
 use std::rt::{Clock, Env};
 use std::time::Instant;
-use list_words::ListedRows;
 use swift_reply::{AccountRows, json_accounts, json_rows, plain_accounts, plain_rows};
 
 // How often each is measured. The best round counts.

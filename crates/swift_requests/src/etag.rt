@@ -52,7 +52,11 @@ fn rule_in(alloc: Global, value: &str) -> Result<EtagRule, AllocError>
 /// members have lost the blanks round them and then one pair of double quotes (RFC 9110, sections 13.1.1
 /// and 13.1.2). An empty value is a list with one empty text.
 #[tactic(auto, unfolding(crate::specs::Etags::rule_of))]
-pub(crate) fn etag_rule(alloc: Global, head: &Head, name: &[u8]) -> Result<Option<EtagRule>, AllocError>
+pub(crate) fn etag_rule(
+    alloc: Global,
+    head: &Head,
+    name: &[u8],
+) -> Result<Option<EtagRule>, AllocError>
     requires { is_text_field name.now head.now ≡ true }
     ensures { IfOk result (λ rule. rule ≡ rule_of name.now head.now) }
 {

@@ -51,9 +51,7 @@ pub(crate) fn is_listed(head: &Head) -> bool
 pub(crate) fn is_taken(head: &Head) -> bool
     ensures { result ≡ is_taken head.now }
 {
-    has_taken_method(head)
-        && is_plain(head)
-        && !(head.is_put() && is_sent(head, b"x-copy-from"))
+    has_taken_method(head) && is_plain(head) && !(head.is_put() && is_sent(head, b"x-copy-from"))
 }
 
 /// Whether the token that counts is the one user's.
