@@ -28,45 +28,25 @@ fn keys_of(alloc: Global, page: &Page) -> Result<Vec<u8>, OutOfMemory> {
 fn pages_splices_and_spare_rows(rt: HostRuntime) -> Result<(), Fail> {
     let alloc = rt.alloc();
     let mut omap = Omap::new(alloc)?;
-    put_three(alloc, &mut omap)?;
-    pages_end_where_the_rows_do(&rt, alloc, &omap)?;
-    assert!(rt; omap.remove(b"b"));
-    assert!(rt; !omap.remove(b"b"));
-    values_are_spliced(&rt, &mut omap)?;
-    a_spare_row_becomes_a_row(&rt, &mut omap)?;
-    Ok(())
-}
+    put(alloc, &mut omap, b"c", b"x")?;
+    put(alloc, &mut omap, b"a", b"x")?;
+    put(alloc, &mut omap, b"b", b"x")?;
 
-fn put_three(alloc: Global, omap: &mut Omap) -> Result<(), OutOfMemory> {
-    for key in [b"c", b"a", b"b"] {
-        put(alloc, omap, key, b"x")?;
-    }
-    Ok(())
-}
-
-fn pages_end_where_the_rows_do<A: Abort>(
-    rt: &A,
-    alloc: Global,
-    omap: &Omap,
-) -> Result<(), OutOfMemory> {
     let first = omap.page(alloc, b"a", 1)?;
     assert_eq!(rt; keys_of(alloc, &first)?.as_slice(), b"b".as_slice());
     assert!(rt; !first.end);
     let all = omap.page(alloc, b"a", 2)?;
     assert_eq!(rt; keys_of(alloc, &all)?.as_slice(), b"bc".as_slice());
     assert!(rt; all.end);
-    Ok(())
-}
 
-fn values_are_spliced<A: Abort>(rt: &A, omap: &mut Omap) -> Result<(), OutOfMemory> {
+    assert!(rt; omap.remove(b"b"));
+    assert!(rt; !omap.remove(b"b"));
+
     assert_eq!(rt; omap.get(b"a"), Some(b"x".as_slice()));
     omap.widen(b"a", 4)?;
     omap.splice(b"a", 0, 0, b"yy");
     assert_eq!(rt; omap.get(b"a"), Some(b"yyx".as_slice()));
-    Ok(())
-}
 
-fn a_spare_row_becomes_a_row<A: Abort>(rt: &A, omap: &mut Omap) -> Result<(), OutOfMemory> {
     assert_eq!(rt; omap.get(b"d"), None);
     omap.reserve(1)?;
     omap.put_spare(b"d", b"z");
@@ -94,43 +74,20 @@ fn are_every_second(page: &Page, first: u16) -> bool {
 fn ten_thousand_rows_in_falling_order(rt: HostRuntime) -> Result<(), Fail> {
     let alloc = rt.alloc();
     let mut omap = Omap::new(alloc)?;
-    put_falling(alloc, &mut omap)?;
-    assert_eq!(rt; remove_even(&mut omap), 5_000);
-    for count in 0..50_u16 {
-        pages_have_odd_rows(&rt, alloc, &omap, count)?;
-    }
-    Ok(())
-}
-
-fn put_falling(alloc: Global, omap: &mut Omap) -> Result<(), OutOfMemory> {
     for number in (0..10_000_u16).rev() {
-        put(alloc, omap, &number.to_be_bytes(), b"")?;
+        put(alloc, &mut omap, &number.to_be_bytes(), b"")?;
     }
-    Ok(())
-}
-
-// How many rows were removed.
-fn remove_even(omap: &mut Omap) -> u16 {
     let mut removed = 0;
     for half in 0..5_000_u16 {
         removed = u16::from(omap.remove(&(2 * half).to_be_bytes())).saturating_add(removed);
     }
-    removed
-}
-
-// The page of this number, of a hundred rows.
-fn pages_have_odd_rows<A: Abort>(
-    rt: &A,
-    alloc: Global,
-    omap: &Omap,
-    count: u16,
-) -> Result<(), OutOfMemory>
-    requires { count < 50 }
-{
-    let first = 200 * count + 1;
-    let page = omap.page(alloc, &(200 * count).to_be_bytes(), 100)?;
-    assert!(rt; page.rows.len() == 100 && are_every_second(&page, first));
-    assert_eq!(rt; page.end, count == 49);
+    assert_eq!(rt; removed, 5_000);
+    for count in 0..50_u16 {
+        let first = 200 * count + 1;
+        let page = omap.page(alloc, &(200 * count).to_be_bytes(), 100)?;
+        assert!(rt; page.rows.len() == 100 && are_every_second(&page, first));
+        assert_eq!(rt; page.end, count == 49);
+    }
     Ok(())
 }
 
@@ -163,42 +120,23 @@ fn long_key(number: u16) -> [u8; 1024] {
 fn each_call_at_its_greatest_sizes(rt: HostRuntime) -> Result<(), Fail> {
     let alloc = rt.alloc();
     let mut omap = Omap::new(alloc)?;
-    put_long(alloc, &mut omap)?;
+    for number in 0..1_001 {
+        put(alloc, &mut omap, &long_key(number), &[b'v'; 318])?;
+    }
     let page = omap.page(alloc, b"", 1_000)?;
     assert!(rt; page.rows.len() == 1_000 && !page.end);
-    drop(page);
+
     let last = long_key(1_000);
-    a_long_value_is_spliced(&rt, &mut omap, &last)?;
-    all_rows_go(&rt, alloc, &mut omap, &last)?;
-    Ok(())
-}
-
-fn put_long(alloc: Global, omap: &mut Omap) -> Result<(), OutOfMemory> {
-    for number in 0..1_001 {
-        put(alloc, omap, &long_key(number), &[b'v'; 318])?;
-    }
-    Ok(())
-}
-
-fn a_long_value_is_spliced<A: Abort>(rt: &A, omap: &mut Omap, last: &[u8]) -> Result<(), Fail> {
-    let len = omap.get(last).ok_or("the last row")?.len();
+    let len = omap.get(&last).ok_or("the last row")?.len();
     assert_eq!(rt; len, 318);
-    omap.widen(last, 16_318)?;
-    omap.splice(last, 318, 0, &[b't'; 16_000]);
-    let len = omap.get(last).ok_or("the last row")?.len();
+    omap.widen(&last, 16_318)?;
+    omap.splice(&last, 318, 0, &[b't'; 16_000]);
+    let len = omap.get(&last).ok_or("the last row")?.len();
     assert_eq!(rt; len, 16_318);
-    Ok(())
-}
 
-fn all_rows_go<A: Abort>(
-    rt: &A,
-    alloc: Global,
-    omap: &mut Omap,
-    last: &[u8],
-) -> Result<(), OutOfMemory> {
-    assert!(rt; omap.remove(last));
-    assert_eq!(rt; omap.remove_range(&long_key(0), last), 1_000);
-    put(alloc, omap, last, b"")?;
+    assert!(rt; omap.remove(&last));
+    assert_eq!(rt; omap.remove_range(&long_key(0), &last), 1_000);
+    put(alloc, &mut omap, &last, b"")?;
     assert!(rt; !omap.is_empty());
     omap.clear();
     assert!(rt; omap.is_empty());
