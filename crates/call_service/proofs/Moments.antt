@@ -1,5 +1,5 @@
 -- An actor's events and their moments, event by event.
-use Rattle.std.proofs.Common.{◌≡◌, ℕ, ◌==◌, ◌+◌, ◌≤◌, true, false, cond, List, [], ◌∷◌, ◌++◌, map, filter, length, refl, sym, ap, ◌∙◌, subst, append_assoc, length-append, arith}
+use Rattle.std.proofs.Common.{◌≡◌, ℕ, ◌≤◌, true, List, [], ◌∷◌, ◌++◌, map, filter, length, refl, sym, ap, ◌∙◌, subst, append_assoc, length-append, arith}
 use Rattle.std.proofs.lemmas.List.{append-nil, map-append}
 use Rattle.std.proofs.lemmas.List.Elements.{filter-append}
 use Rattle.std.specs.List.{AllByRecursion}
@@ -8,7 +8,7 @@ use Rattle.realm_model.specs.Phases.{ActorId}
 use Rattle.realm_model.specs.Histories.{Legal}
 use Rattle.realm_model.specs.Worlds.{same_actor, actor_of}
 use Rattle.realm_model.specs.Owns.{NoneBy}
-use Rattle.realm_model.specs.Doors.{DoorView, actor_at, NoneByPass}
+use Rattle.realm_model.specs.Doors.{DoorView, actor_at}
 use Rattle.realm_model.specs.declared.event.Event.{Event}
 use Rattle.realm_model.proofs.ObjectLemmas.{actor_itself}
 use Rattle.realm_door.specs.Steps.{event_at}

@@ -1,52 +1,161 @@
 -- The first event, the body and the reply together, where the reply rests on no body.
-use Rattle.std.proofs.Common.{◌≡◌, ◌⊎◌, inl, inr, ℕ, Bool, true, false, List, [], Option, refl, sym, subst}
+use Rattle.std.proofs.Common.{◌≡◌, ◌⊎◌, inl, inr, ℕ, Bool, true, false, List, [], Option, None, refl, sym, ap, ◌∙◌, subst}
 use Rattle.std.specs.Io.KnownBytes.{Appends}
+use Rattle.http_chunks.specs.declared.body.BodyEnd.{BodyEnd}
 use Rattle.http_model.specs.declared.reply.ReplyForm.{ReplyForm}
-use Rattle.realm_model.specs.Doors.{DoorView}
+use Rattle.realm_model.specs.Accounts.{Account}
+use Rattle.realm_model.specs.Doors.{DoorView, actor_at}
+use Rattle.realm_model.specs.Histories.{account_of}
+use Rattle.realm_model.specs.Owns.{OwnEvent, own_events}
 use Rattle.realm_model.specs.declared.event.Event.{Event}
+use Rattle.swift_reply.specs.declared.reply.ListingForm.{ListingForm}
 use Rattle.swift_requests.specs.declared.asked.Asked.{Asked}
 use Rattle.swift_requests.specs.declared.asked.Asked.TheVariants.{BadHost, Refused, Put, Get, Listing}
+use Rattle.swift_requests.specs.declared.body.BodyUse.{BodyUse}
+use Rattle.swift_requests.specs.Bodies.{is_unread}
+use Rattle.task_words.specs.declared.asker.Asker.{Asker}
 use Rattle.task_words.specs.declared.outcome.Outcome.{Outcome}
-use Rattle.call_words.specs.Calls.{task, text_by}
-use Rattle.call_service.specs.Bodies.{HasGiven, HasGivenAll, LeavesBody}
+use Rattle.task_words.specs.declared.outcome.Outcome.TheVariants.{BodyFailed}
+use Rattle.task_words.specs.declared.span.Span.{Span}
+use Rattle.call_words.specs.Bodies.{Fate, read_whole, broken_off, unread, is_broken, IsWrong, Suits}
+use Rattle.call_words.specs.Calls.{task, text_by, IsBorneOut}
+use Rattle.call_words.specs.Texts.{told_reply, told_list, text_if}
+use Rattle.task_words.specs.Answers.{span_of}
+use Rattle.call_service.specs.Bodies.{BreaksIn, HasFate, IsBegunOrLeft, LeavesBody}
 use Rattle.call_service.specs.declared.fault.ServeFault.{ServeFault}
 use Rattle.call_service.specs.declared.fault.ServeFault.TheVariants as faults
-use Rattle.call_service.specs.Serving.{Site, Side, Asks, AppendsFront, LeavesUnwritten, IsReplied, IsInPart, IsLeft, IsStopped}
-use Rattle.call_service.specs.Replying.{StopsEvent, Replies, IsPartly, stand, StopsReply}
+use Rattle.call_service.specs.Serving.{Site, Side, Asks, is_by_end, AppendsFront, LeavesText, BearsOut, form_at, LeavesUnwritten, IsReplied, IsServed, IsInPart, IsLeft, IsBeforeReply, IsStopped}
+use Rattle.call_service.specs.declared.served.Served.TheVariants as services
+use Rattle.call_service.specs.Replying.{StopsEvent, IsUnwanted, Replies, IsPartly, stand, StopsReply}
 use Rattle.call_service.proofs.Asking.{both_ask}
+use Rattle.call_service.proofs.Passing.{fate_begun, broken_begun}
 
 -- the text of a reply does not say whose task it was
-pub any_actor : (form : ReplyForm) (asked : Asked) (outcome : Outcome) (shown : List ℕ) (a b : ℕ) → text_by form asked (task a outcome) shown ≡ text_by form asked (task b outcome) shown
-any_actor form BadHost outcome shown a b = refl
-any_actor form (Refused why) outcome shown a b = refl
-any_actor form (Put c) outcome shown a b = refl
-any_actor form (Get c) outcome shown a b = refl
-any_actor form (Listing c listing) outcome shown a b = refl
+pub any_actor : (form : ReplyForm) (asked : Asked) (fate : Fate) (outcome : Outcome) (shown : List ℕ) (a b : ℕ) → text_by form asked fate (task a outcome) shown ≡ text_by form asked fate (task b outcome) shown
+any_actor form BadHost fate outcome shown a b = refl
+any_actor form (Refused why) fate outcome shown a b = refl
+any_actor form (Put c) fate outcome shown a b = refl
+any_actor form (Get c) fate outcome shown a b = refl
+any_actor form (Listing c listing) fate outcome shown a b = refl
 
-module _ (tells alone : Type 0) (site : Site) (form : ReplyForm) (asked : Asked) (found : List Event) (x y : Side) where
+-- a form that closes the connection is that behind a body that is left
+pub shut_form : (form : ReplyForm) → form.close ≡ true → form ≡ form_at form unread
+shut_form form is = λ i. record { bodiless = form.bodiless; close = is i }
+
+-- ---- a body that was left says nothing
+
+told_same : (span : Option Span) (outcome : Outcome) → is_by_end outcome ≡ false → told_reply span read_whole outcome ≡ told_reply span unread outcome
+told_same span BodyFailed is = let clash : true ≡ false = is in absurd (cc)
+told_same span outcome is = refl
+
+listed_same : (listing : ListingForm) (outcome : Outcome) → is_by_end outcome ≡ false → told_list listing read_whole outcome ≡ told_list listing unread outcome
+listed_same listing BodyFailed is = let clash : true ≡ false = is in absurd (cc)
+listed_same listing outcome is = refl
+
+left_text : (form : ReplyForm) (asked : Asked) (outcome : Outcome) (shown : List ℕ) (a : ℕ) → is_by_end outcome ≡ false → text_by form asked read_whole (task a outcome) shown ≡ text_by form asked unread (task a outcome) shown
+left_text form BadHost outcome shown a is = refl
+left_text form (Refused why) outcome shown a is = refl
+left_text form (Put c) outcome shown a is = ap (λ r. text_if form r []) (told_same None outcome is)
+left_text form (Get c) outcome shown a is = ap (λ r. text_if form r shown) (told_same (span_of c) outcome is)
+left_text form (Listing c listing) outcome shown a is = ap (λ r. text_if form r []) (listed_same listing outcome is)
+
+fate_text : (form : ReplyForm) (asked : Asked) (fate : Fate) (outcome : Outcome) (shown : List ℕ) (a b : ℕ) → is_broken fate ≡ false → is_by_end outcome ≡ false → text_by form asked read_whole (task a outcome) shown ≡ text_by form asked fate (task b outcome) shown
+fate_text form asked read_whole outcome shown a b whole is = any_actor form asked read_whole outcome shown a b
+fate_text form asked (broken_off why) outcome shown a b whole is = let clash : true ≡ false = whole in absurd (cc)
+fate_text form asked unread outcome shown a b whole is = left_text form asked outcome shown a is ∙ any_actor form asked unread outcome shown a b
+
+module _ (zone : ℕ) (asker : Asker) (body shown : List ℕ) (y : Account) (events : List OwnEvent) where
+  left_borne : (asked : Asked) (outcome : Outcome) → IsUnwanted asked → is_by_end outcome ≡ false → IsBorneOut zone asker asked read_whole body outcome shown y events → IsBorneOut zone asker asked unread body outcome shown y events
+  left_borne BadHost outcome unwanted is borne = absurd borne
+  left_borne (Refused why) outcome unwanted is borne = absurd borne
+  left_borne (Put c) outcome unwanted is borne = absurd unwanted
+  left_borne (Get c) BodyFailed unwanted is borne = let clash : true ≡ false = is in absurd (cc)
+  left_borne (Get c) outcome unwanted is borne = borne
+  left_borne (Listing c listing) BodyFailed unwanted is borne = let clash : true ≡ false = is in absurd (cc)
+  left_borne (Listing c listing) outcome unwanted is borne = borne
+
+  fate_borne : (asked : Asked) (fate : Fate) (outcome : Outcome) → IsUnwanted asked → is_broken fate ≡ false → is_by_end outcome ≡ false → IsBorneOut zone asker asked read_whole body outcome shown y events → IsBorneOut zone asker asked fate body outcome shown y events
+  fate_borne asked read_whole outcome unwanted whole is borne = borne
+  fate_borne asked (broken_off why) outcome unwanted whole is borne = let clash : true ≡ false = whole in absurd (cc)
+  fate_borne asked unread outcome unwanted whole is borne = left_borne asked outcome unwanted is borne
+
+-- ---- the request
+
+module _ (tells alone : Type 0) (site : Site) (form : ReplyForm) (asked : Asked) (plan : BodyUse) (found : List Event) (x y : Side) where
   -- the first event did not come
-  pub row_stops : (fault : ServeFault) → StopsEvent tells found fault → HasGiven x.intake y.intake x.ends.left y.ends.left [] → LeavesUnwritten tells alone site true x y → IsStopped tells alone site form asked found x y fault
-  row_stops faults.OutOfMemory stops given leaves = inl ([], given, true, leaves)
-  row_stops faults.Worn stops given leaves = (stops, inl ([], given, true, leaves))
-  row_stops fault stops given leaves = absurd stops
+  pub row_stops : (fault : ServeFault) → StopsEvent tells found fault → IsBegunOrLeft plan x.intake y.intake x.ends.left y.ends.left → LeavesUnwritten tells alone site true x y → IsStopped tells alone site form asked plan found x y fault
+  row_stops faults.OutOfMemory stops begun leaves = inl (begun, true, leaves)
+  row_stops faults.Worn stops begun leaves = (stops, inl (begun, true, leaves))
+  row_stops fault stops begun leaves = absurd stops
 
   -- a read failed
-  pub body_stops : (fault : ServeFault) → LeavesBody x.intake x.ends.left y.ends.left fault → LeavesUnwritten tells alone site false x y → IsStopped tells alone site form asked found x y fault
-  body_stops faults.ReadFault stops leaves = (stops.0, stops.1, leaves)
-  body_stops fault stops leaves = absurd stops
+  pub body_stops : (fault : ServeFault) → is_unread plan ≡ false → LeavesBody x.intake x.ends.left y.ends.left fault → LeavesUnwritten tells alone site false x y → IsStopped tells alone site form asked plan found x y fault
+  body_stops faults.ReadFault read stops leaves = (read, stops, leaves)
+  body_stops fault read stops leaves = absurd stops
 
-  module _ (body : List ℕ) (given : HasGivenAll x.intake y.intake x.ends.left y.ends.left body) (d : DoorView) (told : Option (List ℕ)) (first : Asks tells alone site.settings false x.door d x.ends.told told) where
+  -- the body broke off, and the reply says how the task ended, or that it did
+  module _ (why : BodyEnd) (wrong : IsWrong why) (suits : Suits plan (broken_off why)) (broken : BreaksIn x.intake x.ends.left y.ends.left why) (outcome : Outcome)
+      (asks : Asks tells alone site.settings (is_by_end outcome) x.door y.door x.ends.told y.ends.told)
+      (right : tells → BearsOut site asked (broken_off why) [] outcome [] y.door) where
+    abbrev told : List ℕ
+    told = text_by (form_at form (broken_off why)) asked (broken_off why) (task x.door.count outcome) []
+
+    abbrev pub broken_replied : Appends x.ends.taken y.ends.taken told → IsReplied tells alone site form asked (broken_off why) x y
+    broken_replied written = record {
+      body = [];
+      has_fate = (wrong, broken, refl);
+      outcome = outcome;
+      shown = [];
+      written = written;
+      right = right;
+      asks = asks;
+    }
+
+    pub broken_stops : (fault : ServeFault) → LeavesText x.ends.taken y.ends.taken told fault → IsStopped tells alone site form asked plan found x y fault
+    broken_stops faults.OutOfMemory leaves = inl (broken_begun plan why x.intake y.intake x.ends.left y.ends.left suits wrong broken, is_by_end outcome, record { unwritten = leaves; asks = asks })
+    broken_stops faults.WriteFault leaves = (
+      record {
+        fate = broken_off why;
+        suits = suits;
+        body = [];
+        has_fate = (wrong, broken, refl);
+        outcome = outcome;
+        shown = [];
+        written = leaves;
+        right = right;
+        more = is_by_end outcome;
+        asks = asks;
+      },
+      refl,
+    )
+    broken_stops fault leaves = absurd leaves
+
+  -- the body did not break off
+  module _ (fate : Fate) (suits : Suits plan fate) (whole : is_broken fate ≡ false) (sound : (x.intake).failed ≡ None) (body : List ℕ) (has : HasFate fate x.intake y.intake x.ends.left y.ends.left body)
+      (form_is : form ≡ form_at form fate) (unwanted : IsUnwanted asked)
+      (d : DoorView) (told : Option (List ℕ)) (first : Asks tells alone site.settings false x.door d x.ends.told told) where
     in_all : (more : Bool) → Asks tells alone site.settings more d y.door told y.ends.told → Asks tells alone site.settings more x.door y.door x.ends.told y.ends.told
     in_all more asks = both_ask tells alone site.settings site.settings more x.door d y.door x.ends.told told y.ends.told refl first asks
 
-    abbrev in_part : (more : Bool) → Asks tells alone site.settings more d y.door told y.ends.told → Replies tells site form asked y.door (AppendsFront x.ends.taken y.ends.taken) → IsInPart tells alone site form asked x y
+    text_is : (outcome : Outcome) (shown : List ℕ) → is_by_end outcome ≡ false → text_by form asked read_whole (task y.door.count outcome) shown ≡ text_by (form_at form fate) asked fate (task x.door.count outcome) shown
+    text_is outcome shown is =
+        fate_text form asked fate outcome shown y.door.count x.door.count whole is
+        ∙ ap (λ (f : ReplyForm). text_by f asked fate (task x.door.count outcome) shown) form_is
+
+    borne : (outcome : Outcome) (shown : List ℕ) → is_by_end outcome ≡ false → BearsOut site asked read_whole body outcome shown y.door → BearsOut site asked fate body outcome shown y.door
+    borne outcome shown is right =
+        fate_borne site.zone site.asker body shown (account_of site.settings y.door.seen (actor_at y.door)) (own_events y.door.seen (actor_at y.door)) asked fate outcome unwanted whole is right
+
+    abbrev in_part : (more : Bool) → Asks tells alone site.settings more d y.door told y.ends.told → Replies tells site form asked y.door (AppendsFront x.ends.taken y.ends.taken) → IsInPart tells alone site form asked plan x y
     in_part more asks part = record {
+      fate = fate;
+      suits = suits;
       body = body;
-      given = given;
+      has_fate = has;
       outcome = part.outcome;
       shown = part.shown;
-      written = subst (AppendsFront x.ends.taken y.ends.taken) (any_actor form asked part.outcome part.shown y.door.count x.door.count) part.written;
-      right = λ is. part.right is body;
+      written = subst (AppendsFront x.ends.taken y.ends.taken) (text_is part.outcome part.shown part.by_event) part.written;
+      right = λ is. borne part.outcome part.shown part.by_event (part.right is body);
       more = more;
       asks = in_all more asks;
     }
@@ -54,12 +163,12 @@ module _ (tells alone : Type 0) (site : Site) (form : ReplyForm) (asked : Asked)
     unwritten : (more : Bool) → Asks tells alone site.settings more d y.door told y.ends.told → Appends x.ends.taken y.ends.taken [] → LeavesUnwritten tells alone site more x y
     unwritten more asks none = record { unwritten = none; asks = in_all more asks }
 
-    left_so : (more : Bool) → Asks tells alone site.settings more d y.door told y.ends.told → IsPartly tells site form asked y.door x.ends.taken y.ends.taken → IsLeft tells alone site form asked x y
-    left_so more asks (inl none) = inl (body, given.has_given, more, unwritten more asks none)
+    left_so : (more : Bool) → Asks tells alone site.settings more d y.door told y.ends.told → IsPartly tells site form asked y.door x.ends.taken y.ends.taken → IsLeft tells alone site form asked plan x y
+    left_so more asks (inl none) = inl (fate_begun plan fate x.intake y.intake x.ends.left y.ends.left body suits whole sound has, more, unwritten more asks none)
     left_so more asks (inr part) = inr (in_part more asks part)
 
     -- the reply did not come whole
-    pub reply_stops : (fault : ServeFault) → StopsReply tells alone site form asked found (stand d x.ends.taken told) (stand y.door y.ends.taken y.ends.told) fault → IsStopped tells alone site form asked found x y fault
+    pub reply_stops : (fault : ServeFault) → StopsReply tells alone site form asked found (stand d x.ends.taken told) (stand y.door y.ends.taken y.ends.told) fault → IsStopped tells alone site form asked plan found x y fault
     reply_stops faults.ReadFault stops = absurd stops
     reply_stops faults.OutOfMemory stops = left_so stops.0.0 stops.0.1 stops.1
     reply_stops faults.Worn stops = (stops.0, left_so stops.1.0 stops.1.1 stops.2)
@@ -67,18 +176,21 @@ module _ (tells alone : Type 0) (site : Site) (form : ReplyForm) (asked : Asked)
     reply_stops (faults.Late read_at clock) stops = (stops.1, by_part stops.2)
       where
         by_part : IsPartly tells site form asked y.door x.ends.taken y.ends.taken
-            → ((given : List ℕ) × HasGivenAll x.intake y.intake x.ends.left y.ends.left given × LeavesUnwritten tells alone site false x y) ⊎ ((part : IsInPart tells alone site form asked x y) × (part.more ≡ false))
-        by_part (inl none) = inl (body, given, unwritten false stops.0 none)
+            → IsBeforeReply tells alone site plan x y ⊎ ((part : IsInPart tells alone site form asked plan x y) × (part.more ≡ false))
+        by_part (inl none) = inl (record { fate = fate; suits = suits; whole = whole; body = body; has_fate = has; leaves = unwritten false stops.0 none })
         by_part (inr part) = inr (in_part false stops.0 part, refl)
 
     -- it did
-    pub replied : Asks tells alone site.settings false d y.door told y.ends.told → Replies tells site form asked y.door (Appends x.ends.taken y.ends.taken) → IsReplied tells alone site form asked x y
-    replied asks reply = record {
+    abbrev reply_is : Asks tells alone site.settings false d y.door told y.ends.told → Replies tells site form asked y.door (Appends x.ends.taken y.ends.taken) → IsReplied tells alone site form asked fate x y
+    reply_is asks reply = record {
       body = body;
-      given = given;
+      has_fate = has;
       outcome = reply.outcome;
       shown = reply.shown;
-      written = subst (Appends x.ends.taken y.ends.taken) (any_actor form asked reply.outcome reply.shown y.door.count x.door.count) reply.written;
-      right = λ is. reply.right is body;
+      written = subst (Appends x.ends.taken y.ends.taken) (text_is reply.outcome reply.shown reply.by_event) reply.written;
+      right = λ is. borne reply.outcome reply.shown reply.by_event (reply.right is body);
       asks = subst (λ more. Asks tells alone site.settings more x.door y.door x.ends.told y.ends.told) (sym reply.by_event) (in_all false asks);
     }
+
+    pub replied : Asks tells alone site.settings false d y.door told y.ends.told → Replies tells site form asked y.door (Appends x.ends.taken y.ends.taken) → IsServed tells alone site form asked plan x y services.Replied
+    replied asks reply = (fate, suits, whole, reply_is asks reply, λ failed. let clash : true ≡ false = ap is_by_end (sym failed) ∙ reply.by_event in cc)

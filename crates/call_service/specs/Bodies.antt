@@ -1,69 +1,115 @@
--- The body of a request that tells its length, as it is read.
-use Rattle.std.specs.Prelude.{◌≡◌, ◌≢◌, ℕ, ◌+◌, ◌<◌, ◌≤◌, Bool, true, false, List, [], ◌++◌, length, take, Option, None, Result, Err}
+-- The body of a request, as it is read.
+use Rattle.std.specs.Prelude.{◌≡◌, ◌≢◌, ◌⊎◌, ℕ, ◌+◌, ◌<◌, ◌≤◌, Bool, true, false, List, [], ◌++◌, length, take, Option, None, Result, Err}
 use Rattle.std.specs.Io.KnownBytes.{Consumes, IsAtEnd}
 use Rattle.gw_io.specs.Outside.{Rose}
-use Rattle.http_intake.specs.Intake.{IntakeState}
+use Rattle.http_chunks.specs.declared.body.BodyEnd.{BodyEnd}
+use Rattle.http_chunks.specs.declared.body.BodyEnd.TheVariants as End
+use Rattle.http_intake.specs.Grammar.{IsBroken, Gives}
+use Rattle.http_intake.specs.Intake.{IntakeState, IsBetween}
+use Rattle.swift_requests.specs.declared.body.BodyUse.{BodyUse}
+use Rattle.swift_requests.specs.declared.body.BodyUse.TheVariants.{Dropped, Unread}
+use Rattle.call_words.specs.Bodies.{Fate, read_whole, broken_off, unread, IsWrong}
 use Rattle.call_service.specs.declared.body.Piece.{Piece}
 use Rattle.call_service.specs.declared.body.Piece.TheVariants as Pieces
 use Rattle.call_service.specs.declared.fault.ServeFault.{ServeFault}
 use Rattle.call_service.specs.declared.fault.ServeFault.TheVariants.{ReadFault}
 
--- these bytes of the present body were given, and so many are left; the body tells its length
+-- ---- how much may come
+
+-- the most bytes that the present body may still have
+abbrev pub most_due_by : Bool → IntakeState → ℕ
+most_due_by false intake = intake.body_left
+most_due_by true intake = intake.body_left + intake.room
+
+abbrev pub most_due : IntakeState → ℕ
+most_due intake = most_due_by intake.chunked intake
+
+-- ---- what was read
+
+-- these bytes of the present body were given, and the rest of it is due
 pub record HasGiven (old now : IntakeState) (before after : Option (List ℕ)) (given : List ℕ) : Type 0 where
   pub more : List ℕ
   pub read : Consumes before after more
-  pub bytes : old.buffer ++ more ≡ given ++ now.buffer
-  pub due : length given + now.body_left ≡ old.body_left
+  pub gives : Gives old now (old.buffer ++ more) given
+  pub due : length given + most_due now ≤ most_due old
   pub failed : now.failed ≡ None
-  pub chunked : now.chunked ≡ false
   pub largest : now.largest ≡ old.largest
 
 -- the body was given whole
 pub record HasGivenAll (old now : IntakeState) (before after : Option (List ℕ)) (given : List ℕ) : Type 0 where
   pub has_given : HasGiven old now before after given
-  pub whole : now.body_left ≡ 0
+  pub whole : IsBetween now
 
--- the input ended inside the body, of which this was given
-pub record IsCutIn (old : IntakeState) (before after : Option (List ℕ)) (given : List ℕ) : Type 0 where
+-- bytes were read, and what there is then breaks off so
+pub record BreaksIn (old : IntakeState) (before after : Option (List ℕ)) (why : BodyEnd) : Type 0 where
   pub more : List ℕ
   pub read : Consumes before after more
-  pub bytes : old.buffer ++ more ≡ given
-  pub short : length given < old.body_left
-  pub ended : IsAtEnd after
+  pub broken : IsBroken old (old.buffer ++ more) why
 
--- a read failed inside the body, of which this was given: nothing waits and more is due
-pub record FailsIn (old : IntakeState) (before after : Option (List ℕ)) (given : List ℕ) : Type 0 where
-  pub more : List ℕ
-  pub read : Consumes before after more
-  pub bytes : old.buffer ++ more ≡ given
-  pub short : length given < old.body_left
+-- the input ended inside the body
+abbrev pub IsCutIn : IntakeState → Option (List ℕ) → Option (List ℕ) → Type 0
+IsCutIn old before after = BreaksIn old before after End.Cut × IsAtEnd after
+
+-- a read failed inside the body
+abbrev pub FailsIn : IntakeState → Option (List ℕ) → Option (List ℕ) → Type 0
+FailsIn old before after = BreaksIn old before after End.Cut
+
+-- the body had that fate, and these are its bytes
+abbrev pub HasFate : Fate → IntakeState → IntakeState → Option (List ℕ) → Option (List ℕ) → List ℕ → Type 0
+HasFate read_whole old new before after body = HasGivenAll old new before after body
+HasFate (broken_off why) old new before after body = IsWrong why × BreaksIn old before after why × (body ≡ [])
+HasFate unread old new before after body = (body ≡ []) × (new ≡ old) × Consumes before after []
+
+-- some of the body was given, or it broke off
+abbrev pub HasBegun : IntakeState → IntakeState → Option (List ℕ) → Option (List ℕ) → Type 0
+HasBegun old new before after =
+    ((given : List ℕ) × HasGiven old new before after given)
+    ⊎ ((why : BodyEnd) × IsWrong why × BreaksIn old before after why)
+
+-- nothing of a body that is left was read; any other was begun
+abbrev pub IsBegunOrLeft : BodyUse → IntakeState → IntakeState → Option (List ℕ) → Option (List ℕ) → Type 0
+IsBegunOrLeft Unread old new before after = HasFate unread old new before after []
+IsBegunOrLeft plan old new before after = HasBegun old new before after
+
+-- what becomes of a body that is not wanted, where it is read
+abbrev pub dropped_if : Bool → BodyUse
+dropped_if true = Dropped
+dropped_if false = Unread
 
 -- the source's count of faults rose where a read failed, and stayed at every other end
 pub record ReadsAtFault {T : Type 0} (before now : ℕ) (result : Result T ServeFault) : Type 0 where
   pub rose : result ≡ Err ReadFault → Rose before now
   pub kept : result ≢ Err ReadFault → now ≡ before
 
--- what a call for the next bytes came to: bytes at the front of the buffer, at least one; the end of the body; or, with
--- nothing waiting and more due, the end of the input or a failed read
+-- ---- one call
+
+-- the body ended so: it was given whole; or the input ended inside it; or its chunks went wrong
+abbrev pub ReadsTo : IntakeState → IntakeState → Option (List ℕ) → Option (List ℕ) → List ℕ → BodyEnd → Type 0
+ReadsTo old new before after given End.Whole = HasGivenAll old new before after given
+ReadsTo old new before after given End.Cut = IsCutIn old before after
+ReadsTo old new before after given End.BadChunk = BreaksIn old before after End.BadChunk
+ReadsTo old new before after given End.TooLarge = BreaksIn old before after End.TooLarge
+
+-- what a call for the next bytes came to: bytes at the front of the buffer, at least one; the end of the body; or a read that
+-- failed
 abbrev pub GivesPiece : IntakeState → IntakeState → Option (List ℕ) → Option (List ℕ) → List ℕ → Piece → Type 0
 GivesPiece old new before after out (Pieces.Bytes n) = HasGiven old new before after (take n out) × (0 < n) × (n ≤ length out)
-GivesPiece old new before after out Pieces.Whole = HasGivenAll old new before after []
-GivesPiece old new before after out Pieces.Cut = IsCutIn old before after []
-GivesPiece old new before after out Pieces.Failed = FailsIn old before after []
+GivesPiece old new before after out (Pieces.Ended end) = ReadsTo old new before after [] end
+GivesPiece old new before after out Pieces.Failed = FailsIn old before after
 
 -- the source's count of faults rose where the read failed, and stayed at every other end
 abbrev pub CountsPiece : ℕ → ℕ → Piece → Type 0
 CountsPiece before now (Pieces.Bytes n) = now ≡ before
-CountsPiece before now Pieces.Whole = now ≡ before
-CountsPiece before now Pieces.Cut = now ≡ before
+CountsPiece before now (Pieces.Ended end) = now ≡ before
 CountsPiece before now Pieces.Failed = Rose before now
 
--- the rest of the body was read, or the input ended inside it
-abbrev pub DropsBody : IntakeState → IntakeState → Option (List ℕ) → Option (List ℕ) → Bool → Type 0
-DropsBody old new before after true = (given : List ℕ) × HasGivenAll old new before after given
-DropsBody old new before after false = (given : List ℕ) × IsCutIn old before after given
+-- ---- the rest of a body
+
+-- it was read, to where it ended so
+abbrev pub DropsBody : IntakeState → IntakeState → Option (List ℕ) → Option (List ℕ) → BodyEnd → Type 0
+DropsBody old new before after end = (given : List ℕ) × ReadsTo old new before after given end
 
 -- a read failed inside the body; nothing else ends it early
 abbrev pub LeavesBody : IntakeState → Option (List ℕ) → Option (List ℕ) → ServeFault → Type 0
-LeavesBody old before after ReadFault = (given : List ℕ) × FailsIn old before after given
+LeavesBody old before after ReadFault = FailsIn old before after
 LeavesBody old before after fault = ⊥

@@ -2,3 +2,4 @@ pub mod Bodies
 pub mod Serving
 pub mod Replying
 pub mod Faults
+pub mod Waiting

@@ -6,7 +6,9 @@ use Rattle.realm_model.specs.Doors.{DoorView}
 use Rattle.realm_model.specs.Settings.{SettingsView}
 use Rattle.realm_model.specs.declared.event.Event.{Event}
 use Rattle.swift_requests.specs.declared.asked.Asked.{Asked}
+use Rattle.swift_requests.specs.declared.asked.Asked.TheVariants.{Put}
 use Rattle.task_words.specs.declared.outcome.Outcome.{Outcome}
+use Rattle.call_words.specs.Bodies.{read_whole}
 use Rattle.call_words.specs.Calls.{task, text_by}
 use Rattle.call_service.specs.declared.fault.ServeFault.{ServeFault}
 use Rattle.call_service.specs.declared.fault.ServeFault.TheVariants as faults
@@ -18,15 +20,20 @@ StopsEvent tells found faults.OutOfMemory = Unit {0}
 StopsEvent tells found faults.Worn = tells → length found ≡ 2 ^ 62
 StopsEvent tells found fault = ⊥
 
+-- the request wants no body
+abbrev pub IsUnwanted : Asked → Type 0
+IsUnwanted (Put c) = ⊥
+IsUnwanted asked = Unit {0}
+
 -- ---- what was written
 
--- the reply of a task that ended so, or will: what the door tells bears it out, whatever body was sent
+-- the reply of a task that ended so, or will, behind a whole body: what the door tells bears it out, whatever body was sent
 pub record Replies (tells : Type 0) (site : Site) (form : ReplyForm) (asked : Asked) (e : DoorView) (grown : List ℕ → Type 0) : Type 0 where
   pub outcome : Outcome
   pub shown : List ℕ
   pub by_event : is_by_end outcome ≡ false
-  pub written : grown (text_by form asked (task e.count outcome) shown)
-  pub right : tells → (body : List ℕ) → BearsOut site asked body outcome shown e
+  pub written : grown (text_by form asked read_whole (task e.count outcome) shown)
+  pub right : tells → (body : List ℕ) → BearsOut site asked read_whole body outcome shown e
 
 -- nothing was written, or a front of a reply
 abbrev pub IsPartly : Type 0 → Site → ReplyForm → Asked → DoorView → Option (List ℕ) → Option (List ℕ) → Type 0

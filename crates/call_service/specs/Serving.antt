@@ -1,10 +1,11 @@
 -- What serving one request on an object comes to: its reply, the events that it rests on, the moments that were told for
 -- them, and what a fault leaves.
-use Rattle.std.specs.Prelude.{◌≡◌, ◌≢◌, ◌⊎◌, ℕ, ◌^◌, Bool, true, false, List, [], ◌∷◌, ◌++◌, length, map, filter, Option, Some, None, Result, Err}
+use Rattle.std.specs.Prelude.{◌≡◌, ◌≢◌, ◌⊎◌, ℕ, ◌^◌, Bool, true, false, List, [], ◌∷◌, ◌++◌, length, map, filter, Option, Result, Err}
 use Rattle.std.specs.List.{AllByRecursion}
 use Rattle.std.specs.Io.KnownBytes.{Appends}
 use Rattle.gw_io.specs.Ends.{EndsState}
 use Rattle.gw_io.specs.Outside.{Rose}
+use Rattle.http_chunks.specs.declared.body.BodyEnd.{BodyEnd}
 use Rattle.http_model.specs.declared.reply.ReplyForm.{ReplyForm}
 use Rattle.http_intake.specs.Intake.{IntakeState}
 use Rattle.realm_model.specs.Doors.{DoorView, actor_at}
@@ -26,8 +27,11 @@ use Rattle.task_words.specs.declared.outcome.Outcome.TheVariants.{Done, BodyFail
 use Rattle.task_words.specs.declared.reply.MapReply.TheVariants as Map
 use Rattle.task_words.specs.declared.reply.Refusal.TheVariants.{OtherEtag}
 use Rattle.task_words.specs.Outcomes.{IsGetOutcome}
+use Rattle.swift_requests.specs.Bodies.{is_unread}
+use Rattle.swift_requests.specs.declared.body.BodyUse.{BodyUse}
+use Rattle.call_words.specs.Bodies.{Fate, read_whole, broken_off, unread, is_left, is_broken, Suits}
 use Rattle.call_words.specs.Calls.{task, text_by, IsBorneOut}
-use Rattle.call_service.specs.Bodies.{HasGiven, HasGivenAll, IsCutIn, FailsIn}
+use Rattle.call_service.specs.Bodies.{IsCutIn, FailsIn, HasFate, IsBegunOrLeft}
 use Rattle.call_service.specs.declared.fault.ServeFault.{ServeFault}
 use Rattle.call_service.specs.declared.fault.ServeFault.TheVariants as faults
 use Rattle.call_service.specs.declared.served.Served.{Served}
@@ -112,21 +116,27 @@ LeavesText old new text faults.OutOfMemory = Appends old new []
 LeavesText old new text faults.WriteFault = AppendsFront old new text
 LeavesText old new text fault = ⊥
 
--- the present actor's account and events bear out that its task ended so
-abbrev pub BearsOut : Site → Asked → List ℕ → Outcome → List ℕ → DoorView → Type 0
-BearsOut site asked body outcome shown e =
-    IsBorneOut site.zone site.asker asked body outcome shown (account_of site.settings e.seen (actor_at e)) (own_events e.seen (actor_at e))
+-- the form of a reply behind a body of that fate: what is left of one closes the connection
+abbrev pub form_at : ReplyForm → Fate → ReplyForm
+form_at form read_whole = form
+form_at form (broken_off why) = record form { close = true }
+form_at form unread = record form { close = true }
+
+-- the present actor's account and events bear out that its task ended so, over a body of that fate
+abbrev pub BearsOut : Site → Asked → Fate → List ℕ → Outcome → List ℕ → DoorView → Type 0
+BearsOut site asked fate body outcome shown e =
+    IsBorneOut site.zone site.asker asked fate body outcome shown (account_of site.settings e.seen (actor_at e)) (own_events e.seen (actor_at e))
 
 -- ---- good ends
 
--- the body was read whole, the task ended so, and its whole reply was written
-pub record IsReplied (tells alone : Type 0) (site : Site) (form : ReplyForm) (asked : Asked) (x y : Side) : Type 0 where
+-- the body had that fate, the task ended so, and its whole reply was written
+pub record IsReplied (tells alone : Type 0) (site : Site) (form : ReplyForm) (asked : Asked) (fate : Fate) (x y : Side) : Type 0 where
   pub body : List ℕ
-  pub given : HasGivenAll x.intake y.intake x.ends.left y.ends.left body
+  pub has_fate : HasFate fate x.intake y.intake x.ends.left y.ends.left body
   pub outcome : Outcome
   pub shown : List ℕ
-  pub written : Appends x.ends.taken y.ends.taken (text_by form asked (task x.door.count outcome) shown)
-  pub right : tells → BearsOut site asked body outcome shown y.door
+  pub written : Appends x.ends.taken y.ends.taken (text_by (form_at form fate) asked fate (task x.door.count outcome) shown)
+  pub right : tells → BearsOut site asked fate body outcome shown y.door
   pub asks : Asks tells alone site.settings (is_by_end outcome) x.door y.door x.ends.told y.ends.told
 
 -- nothing was written
@@ -135,35 +145,53 @@ pub record LeavesUnwritten (tells alone : Type 0) (site : Site) (more : Bool) (x
   pub asks : Asks tells alone site.settings more x.door y.door x.ends.told y.ends.told
 
 -- the input ended inside the body, and nothing was written
-abbrev pub IsCutOff : Type 0 → Type 0 → Site → Side → Side → Type 0
-IsCutOff tells alone site x y =
-    (body : List ℕ) × IsCutIn x.intake x.ends.left y.ends.left body × LeavesUnwritten tells alone site false x y
+abbrev pub IsCutOff : Type 0 → Type 0 → Site → BodyUse → Side → Side → Type 0
+IsCutOff tells alone site plan x y =
+    (is_unread plan ≡ false) × IsCutIn x.intake x.ends.left y.ends.left × LeavesUnwritten tells alone site false x y
 
--- how a request was served
-abbrev pub IsServed : Type 0 → Type 0 → Site → ReplyForm → Asked → Side → Side → Served → Type 0
-IsServed tells alone site form asked x y services.Replied = IsReplied tells alone site form asked x y
-IsServed tells alone site form asked x y services.Cut = IsCutOff tells alone site x y
+-- how a request was served whose body is used so
+abbrev pub IsServed : Type 0 → Type 0 → Site → ReplyForm → Asked → BodyUse → Side → Side → Served → Type 0
+IsServed tells alone site form asked plan x y services.Replied =
+    (fate : Fate) × Suits plan fate × (is_broken fate ≡ false)
+    × (r : IsReplied tells alone site form asked fate x y) × (r.outcome ≢ BodyFailed)
+IsServed tells alone site form asked plan x y services.Closed =
+    (fate : Fate) × Suits plan fate × (is_left fate ≡ true)
+    × (r : IsReplied tells alone site form asked fate x y) × (r.outcome ≢ BodyFailed)
+IsServed tells alone site form asked plan x y services.Refused =
+    (why : BodyEnd) × Suits plan (broken_off why)
+    × (r : IsReplied tells alone site form asked (broken_off why) x y) × (r.outcome ≡ BodyFailed)
+IsServed tells alone site form asked plan x y services.Cut = IsCutOff tells alone site plan x y
 
 -- ---- faults
 
--- the body was read whole, and of the reply of a task that ended so, or will, a front was written
-pub record IsInPart (tells alone : Type 0) (site : Site) (form : ReplyForm) (asked : Asked) (x y : Side) : Type 0 where
+-- the body had a fate, and of the reply of a task that ended so, or will, a front was written
+pub record IsInPart (tells alone : Type 0) (site : Site) (form : ReplyForm) (asked : Asked) (plan : BodyUse) (x y : Side) : Type 0 where
+  pub fate : Fate
+  pub suits : Suits plan fate
   pub body : List ℕ
-  pub given : HasGivenAll x.intake y.intake x.ends.left y.ends.left body
+  pub has_fate : HasFate fate x.intake y.intake x.ends.left y.ends.left body
   pub outcome : Outcome
   pub shown : List ℕ
-  pub written : AppendsFront x.ends.taken y.ends.taken (text_by form asked (task x.door.count outcome) shown)
-  pub right : tells → BearsOut site asked body outcome shown y.door
+  pub written : AppendsFront x.ends.taken y.ends.taken (text_by (form_at form fate) asked fate (task x.door.count outcome) shown)
+  pub right : tells → BearsOut site asked fate body outcome shown y.door
   pub more : Bool
   pub asks : Asks tells alone site.settings more x.door y.door x.ends.told y.ends.told
 
--- a step was refused: this much of the body was read, and nothing or a front of the reply was written; the clock may have
--- been asked for the event that did not come
-abbrev pub IsLeft : Type 0 → Type 0 → Site → ReplyForm → Asked → Side → Side → Type 0
-IsLeft tells alone site form asked x y =
-    ((given : List ℕ) × HasGiven x.intake y.intake x.ends.left y.ends.left given
-    × (more : Bool) × LeavesUnwritten tells alone site more x y)
-    ⊎ IsInPart tells alone site form asked x y
+-- a step was refused: some of the body was read, unless it is left, and nothing or a front of the reply was written; the
+-- clock may have been asked for the event that did not come
+abbrev pub IsLeft : Type 0 → Type 0 → Site → ReplyForm → Asked → BodyUse → Side → Side → Type 0
+IsLeft tells alone site form asked plan x y =
+    (IsBegunOrLeft plan x.intake y.intake x.ends.left y.ends.left × (more : Bool) × LeavesUnwritten tells alone site more x y)
+    ⊎ IsInPart tells alone site form asked plan x y
+
+-- a body that did not break off had a fate that suits its use, and nothing was written
+pub record IsBeforeReply (tells alone : Type 0) (site : Site) (plan : BodyUse) (x y : Side) : Type 0 where
+  pub fate : Fate
+  pub suits : Suits plan fate
+  pub whole : is_broken fate ≡ false
+  pub body : List ℕ
+  pub has_fate : HasFate fate x.intake y.intake x.ends.left y.ends.left body
+  pub leaves : LeavesUnwritten tells alone site false x y
 
 -- the last of these events was answered at this clock that the stripe is gone
 pub record MissesStripe (clock : ℕ) (events : List OwnEvent) : Type 0 where
@@ -182,19 +210,18 @@ IsLateIn site (Get c) e read_at clock =
     IsGetOutcome site.zone site.asker c (LateRead read_at clock) (account_of site.settings e.seen (actor_at e))
     × MissesStripe clock (own_events e.seen (actor_at e))
 
--- what a fault leaves, where the door's last step found this history
-abbrev pub IsStopped : Type 0 → Type 0 → Site → ReplyForm → Asked → List Event → Side → Side → ServeFault → Type 0
-IsStopped tells alone site form asked found x y faults.ReadFault =
-    (body : List ℕ) × FailsIn x.intake x.ends.left y.ends.left body × LeavesUnwritten tells alone site false x y
-IsStopped tells alone site form asked found x y faults.OutOfMemory = IsLeft tells alone site form asked x y
-IsStopped tells alone site form asked found x y faults.Worn =
-    (tells → length found ≡ 2 ^ 62) × IsLeft tells alone site form asked x y
-IsStopped tells alone site form asked found x y faults.WriteFault =
-    (part : IsInPart tells alone site form asked x y) × (part.more ≡ is_by_end part.outcome)
-IsStopped tells alone site form asked found x y (faults.Late read_at clock) =
+-- what a fault leaves of a request whose body is used so, where the door's last step found this history
+abbrev pub IsStopped : Type 0 → Type 0 → Site → ReplyForm → Asked → BodyUse → List Event → Side → Side → ServeFault → Type 0
+IsStopped tells alone site form asked plan found x y faults.ReadFault =
+    (is_unread plan ≡ false) × FailsIn x.intake x.ends.left y.ends.left × LeavesUnwritten tells alone site false x y
+IsStopped tells alone site form asked plan found x y faults.OutOfMemory = IsLeft tells alone site form asked plan x y
+IsStopped tells alone site form asked plan found x y faults.Worn =
+    (tells → length found ≡ 2 ^ 62) × IsLeft tells alone site form asked plan x y
+IsStopped tells alone site form asked plan found x y faults.WriteFault =
+    (part : IsInPart tells alone site form asked plan x y) × (part.more ≡ is_by_end part.outcome)
+IsStopped tells alone site form asked plan found x y (faults.Late read_at clock) =
     (tells → IsLateIn site asked y.door read_at clock)
-    × (((given : List ℕ) × HasGivenAll x.intake y.intake x.ends.left y.ends.left given × LeavesUnwritten tells alone site false x y)
-    ⊎ ((part : IsInPart tells alone site form asked x y) × (part.more ≡ false)))
+    × (IsBeforeReply tells alone site plan x y ⊎ ((part : IsInPart tells alone site form asked plan x y) × (part.more ≡ false)))
 
 -- ---- counts of faults
 

@@ -10,4 +10,4 @@ mod write;
 pub use body::{Piece, drop_body, next_piece};
 pub use fault::{ServeFault, fault_of};
 pub use served::Served;
-pub use write::{send, send_both};
+pub use write::{closing, send, send_both, send_broken_body};

@@ -9,18 +9,19 @@ use Rattle.realm_door.specs.Steps.{IsSame, actor_of_pass}
 use Rattle.swift_requests.specs.declared.asked.Asked.{Asked}
 use Rattle.task_words.specs.declared.asker.Asker.{Asker}
 use Rattle.task_words.specs.declared.outcome.Outcome.{Outcome}
+use Rattle.call_words.specs.Bodies.{Fate}
 use Rattle.call_words.specs.Calls.{Ground, alone, task, Call, IsBorneOut, RestsOn, actor_after, IsOfNext, AreRight, AreSame}
 
 module _ (settings : SettingsView) (zone : ℕ) (asker : Asker) (pass : ℕ) (history later : List Event) where
-  borne : (asked : Asked) (body shown : List ℕ) (actor : ℕ) (outcome : Outcome)
+  borne : (asked : Asked) (fate : Fate) (body shown : List ℕ) (actor : ℕ) (outcome : Outcome)
       → IsSame settings history later (actor_of_pass pass actor)
-      → IsBorneOut zone asker asked body outcome shown (account_of settings history (actor_of_pass pass actor)) (own_events history (actor_of_pass pass actor))
-      → IsBorneOut zone asker asked body outcome shown (account_of settings later (actor_of_pass pass actor)) (own_events later (actor_of_pass pass actor))
-  borne asked body shown actor outcome same b =
+      → IsBorneOut zone asker asked fate body outcome shown (account_of settings history (actor_of_pass pass actor)) (own_events history (actor_of_pass pass actor))
+      → IsBorneOut zone asker asked fate body outcome shown (account_of settings later (actor_of_pass pass actor)) (own_events later (actor_of_pass pass actor))
+  borne asked fate body shown actor outcome same b =
       let account : account_of settings later (actor_of_pass pass actor) ≡ account_of settings history (actor_of_pass pass actor) =
       ap (λ (q : Doings). q.account) same.doings in
-      let moved = subst (λ (y : Account). IsBorneOut zone asker asked body outcome shown y (own_events history (actor_of_pass pass actor))) (sym account) b in
-      subst (λ (events : List OwnEvent). IsBorneOut zone asker asked body outcome shown (account_of settings later (actor_of_pass pass actor)) events) (sym same.events) moved
+      let moved = subst (λ (y : Account). IsBorneOut zone asker asked fate body outcome shown y (own_events history (actor_of_pass pass actor))) (sym account) b in
+      subst (λ (events : List OwnEvent). IsBorneOut zone asker asked fate body outcome shown (account_of settings later (actor_of_pass pass actor)) events) (sym same.events) moved
 
   -- the calls from this actor on use actors up to the last
   pub in_order : (next : ℕ) (calls : List Call) (last : ℕ) → AreRight settings zone asker pass history next calls last → next ≤ last
@@ -32,17 +33,17 @@ module _ (settings : SettingsView) (zone : ℕ) (asker : Asker) (pass : ℕ) (hi
       after next (task actor outcome) last low = omega (arith, low)
 
   one_stays : (next : ℕ) (call : Call) (last : ℕ) → AreSame settings pass history later next last → IsOfNext next call.ground
-      → actor_after next call.ground ≤ last → RestsOn settings zone asker pass history call.asked call.request.body call.shown call.ground
-      → RestsOn settings zone asker pass later call.asked call.request.body call.shown call.ground
-  one_stays next call last same of_next low rests = by_ground call.asked call.request.body call.shown call.ground next last same of_next low rests
+      → actor_after next call.ground ≤ last → RestsOn settings zone asker pass history call.asked call.fate call.request.body call.shown call.ground
+      → RestsOn settings zone asker pass later call.asked call.fate call.request.body call.shown call.ground
+  one_stays next call last same of_next low rests = by_ground call.asked call.fate call.request.body call.shown call.ground next last same of_next low rests
     where
-      by_ground : (asked : Asked) (body shown : List ℕ) (ground : Ground) (next last : ℕ) → AreSame settings pass history later next last
+      by_ground : (asked : Asked) (fate : Fate) (body shown : List ℕ) (ground : Ground) (next last : ℕ) → AreSame settings pass history later next last
           → IsOfNext next ground → actor_after next ground ≤ last
-          → RestsOn settings zone asker pass history asked body shown ground → RestsOn settings zone asker pass later asked body shown ground
-      by_ground asked body shown alone next last same of_next low rests = rests
-      by_ground asked body shown (task actor outcome) next last same of_next low rests =
+          → RestsOn settings zone asker pass history asked fate body shown ground → RestsOn settings zone asker pass later asked fate body shown ground
+      by_ground asked fate body shown alone next last same of_next low rests = rests
+      by_ground asked fate body shown (task actor outcome) next last same of_next low rests =
           let e : actor ≡ next = of_next in
-          borne asked body shown actor outcome (same actor (omega (arith, e)) (omega (arith, e, low))) rests
+          borne asked fate body shown actor outcome (same actor (omega (arith, e)) (omega (arith, e, low))) rests
 
   pub stay : (next : ℕ) (calls : List Call) (last : ℕ) → AreSame settings pass history later next last
       → AreRight settings zone asker pass history next calls last → AreRight settings zone asker pass later next calls last

@@ -1,6 +1,8 @@
 -- A call: one request of a connection that was replied, and what its reply rests on in the one history of the realm.
-use Rattle.std.specs.Prelude.{◌≡◌, ℕ, ◌+◌, ◌<◌, ◌≤◌, List, [], ◌∷◌, Option, Some, None}
+use Rattle.std.specs.Prelude.{◌≡◌, ℕ, ◌+◌, ◌<◌, ◌≤◌, Bool, false, List, [], ◌∷◌, ◌++◌, Option, Some, None}
+use Rattle.http_model.specs.declared.head.Head.{Head}
 use Rattle.http_model.specs.declared.head.Request.{Request}
+use Rattle.http_model.specs.Forms.{waits}
 use Rattle.http_model.specs.declared.reply.BadRequest.TheVariants.{Host}
 use Rattle.http_model.specs.declared.reply.ReplyForm.{ReplyForm}
 use Rattle.http_model.specs.Replies.{bad_request_text}
@@ -12,18 +14,23 @@ use Rattle.realm_model.specs.declared.event.Event.{Event}
 use Rattle.realm_door.specs.Steps.{IsSame, actor_of_pass}
 use Rattle.swift_reply.specs.declared.reply.SwiftReply.TheVariants as Swift
 use Rattle.swift_reply.specs.Replies as swift
+use Rattle.swift_auth.specs.declared.policy.Deed.{Deed}
+use Rattle.swift_auth.specs.declared.policy.Deed.TheVariants.{ListContainer}
 use Rattle.swift_requests.specs.declared.asked.Asked.{Asked}
 use Rattle.swift_requests.specs.declared.asked.Asked.TheVariants.{BadHost, Refused, Put, Get, Listing}
 use Rattle.task_words.specs.declared.asker.Asker.{Asker}
 use Rattle.task_words.specs.declared.command.GetCommand.{GetCommand}
-use Rattle.task_words.specs.declared.command.BodyEnd.TheVariants.{Whole}
+use Rattle.task_words.specs.declared.command.BodyEnd.TheVariants.{Whole, Failed}
 use Rattle.task_words.specs.declared.outcome.Outcome.{Outcome}
-use Rattle.task_words.specs.declared.outcome.Outcome.TheVariants.{Done}
-use Rattle.task_words.specs.declared.reply.MapReply.TheVariants.{Shown}
-use Rattle.task_words.specs.Answers.{get, answer, span_of}
-use Rattle.task_words.specs.Outcomes.{Body, IsGetOutcome, IsPutOutcome}
+use Rattle.task_words.specs.declared.outcome.Outcome.TheVariants.{Done, BodyFailed}
+use Rattle.task_words.specs.declared.reply.MapReply.TheVariants.{Shown, Refused as Refuses}
+use Rattle.task_words.specs.declared.reply.Refusal.TheVariants.{Unauthorized, Denied, NoContainer}
+use Rattle.task_words.specs.Answers.{get, answer, deed_of, span_of}
+use Rattle.task_words.specs.Outcomes.{Body, Granted, IsGetOutcome, IsPutOutcome}
 use Rattle.task_list.specs.Listed.{IsListOutcome, AreOfListing}
-use Rattle.call_words.specs.Texts.{outcome_reply, list_reply, HasReply, text_if}
+use Rattle.task_list.specs.declared.request.ListRequest.{ListRequest}
+use Rattle.call_words.specs.Bodies.{Fate, read_whole, broken_off, unread}
+use Rattle.call_words.specs.Texts.{told_reply, told_list, continue_if, HasReply, text_if}
 use Rattle.call_words.specs.Events.{AreOfGet, AreOfPut}
 
 -- ---- calls
@@ -34,28 +41,38 @@ pub data Ground : Type 0 where
   alone : Ground
   task : (actor : ℕ) → Outcome → Ground
 
--- a request with what it asks, what its reply rests on, and the bytes that the reply shows
+-- a request with what it asks, what became of its body, what its reply rests on, and the bytes that the reply shows
 pub record Call : Type 0 where
   pub request : Request
   pub asked : Asked
+  pub fate : Fate
   pub ground : Ground
   pub shown : List ℕ
 
 -- ---- texts
 
--- the text of a reply, by what was asked and what it rests on
-abbrev pub text_by : ReplyForm → Asked → Ground → List ℕ → List ℕ
-text_by form BadHost ground shown = bad_request_text form Host
-text_by form (Refused why) ground shown = swift.reply_text form (Swift.Refused why) []
-text_by form (Put c) alone shown = []
-text_by form (Put c) (task actor outcome) shown = text_if form (outcome_reply None outcome) []
-text_by form (Get c) alone shown = []
-text_by form (Get c) (task actor outcome) shown = text_if form (outcome_reply (span_of c) outcome) shown
-text_by form (Listing c listing) alone shown = []
-text_by form (Listing c listing) (task actor outcome) shown = text_if form (list_reply listing outcome) []
+-- the text of a reply, by what was asked, what became of the body, and what it rests on
+abbrev pub text_by : ReplyForm → Asked → Fate → Ground → List ℕ → List ℕ
+text_by form BadHost fate ground shown = bad_request_text form Host
+text_by form (Refused why) fate ground shown = swift.reply_text form (Swift.Refused why) []
+text_by form (Put c) fate alone shown = []
+text_by form (Put c) fate (task actor outcome) shown = text_if form (told_reply None fate outcome) []
+text_by form (Get c) fate alone shown = []
+text_by form (Get c) fate (task actor outcome) shown = text_if form (told_reply (span_of c) fate outcome) shown
+text_by form (Listing c listing) fate alone shown = []
+text_by form (Listing c listing) fate (task actor outcome) shown = text_if form (told_list listing fate outcome) []
 
 abbrev pub call_text : ReplyForm → Call → List ℕ
-call_text form call = text_by form call.asked call.ground call.shown
+call_text form call = text_by form call.asked call.fate call.ground call.shown
+
+-- the client of a PUT waits for a 100
+abbrev pub is_waiting : Asked → Head → Bool
+is_waiting (Put c) head = waits head
+is_waiting asked head = false
+
+-- all that is written for a call: the reply, behind the 100 where one is written
+abbrev pub whole_text : ReplyForm → Call → List ℕ
+whole_text form call = continue_if (is_waiting call.asked call.request.head) call.fate ++ call_text form call
 
 -- ---- what a reply rests on
 
@@ -70,21 +87,46 @@ abbrev pub AreShownBy : ℕ → GetCommand → Outcome → List ℕ → Option D
 AreShownBy zone c (Done (Shown kind meta etag stamp size start count)) shown last = AreShown zone c shown last
 AreShownBy zone c outcome shown last = shown ≡ []
 
--- a body that was read to its end
-abbrev pub whole : List ℕ → Body
-whole bytes = record { bytes = bytes; end = Some Whole }
+-- a body of that fate, as the task of a PUT knows it at its end
+abbrev pub body_at : Fate → List ℕ → Body
+body_at read_whole bytes = record { bytes = bytes; end = Some Whole }
+body_at (broken_off why) bytes = record { bytes = []; end = Some Failed }
+body_at unread bytes = record { bytes = []; end = None }
+
+-- where the body broke off, the row of the container alone decides
+abbrev pub IsEarly : Fate → Outcome → Type 0
+IsEarly read_whole outcome = Unit {0}
+IsEarly (broken_off why) (Done (Refuses Unauthorized)) = Unit {0}
+IsEarly (broken_off why) (Done (Refuses (Denied rule))) = Unit {0}
+IsEarly (broken_off why) (Done (Refuses NoContainer)) = Unit {0}
+IsEarly (broken_off why) outcome = ⊥
+IsEarly unread outcome = Unit {0}
+
+-- the row grants it, and no head was looked at
+abbrev pub IsUndecided : ℕ → Asker → List ℕ → Deed → Account → Type 0
+IsUndecided zone asker container deed y = Granted zone asker container deed y × (y.decided ≡ None)
+
+-- the end of a GET or a HEAD over a body of that fate
+abbrev pub IsGetEnd : ℕ → Asker → GetCommand → Fate → Outcome → Account → Type 0
+IsGetEnd zone asker c fate BodyFailed y = IsUndecided zone asker c.container (deed_of (get c)) y
+IsGetEnd zone asker c fate outcome y = IsGetOutcome zone asker c outcome y × IsEarly fate outcome
+
+-- the end of a listing, which decides by no head
+abbrev pub IsListEnd : ListRequest → Fate → Outcome → Account → List OwnEvent → Type 0
+IsListEnd r fate BodyFailed y events = Granted r.zone r.asker r.command.container ListContainer y
+IsListEnd r fate outcome y events = IsListOutcome r outcome y events × IsEarly fate outcome
 
 -- the account and the events of an actor bear the end of its task out, and the events are those that such a task makes
-abbrev pub IsBorneOut : ℕ → Asker → Asked → List ℕ → Outcome → List ℕ → Account → List OwnEvent → Type 0
-IsBorneOut zone asker BadHost body outcome shown y events = ⊥
-IsBorneOut zone asker (Refused why) body outcome shown y events = ⊥
-IsBorneOut zone asker (Put c) body outcome shown y events =
-    IsPutOutcome zone asker c (whole body) outcome y events × HasReply (outcome_reply None outcome) × (shown ≡ []) × AreOfPut events
-IsBorneOut zone asker (Get c) body outcome shown y events =
-    IsGetOutcome zone asker c outcome y × HasReply (outcome_reply (span_of c) outcome) × AreShownBy zone c outcome shown y.decided
+abbrev pub IsBorneOut : ℕ → Asker → Asked → Fate → List ℕ → Outcome → List ℕ → Account → List OwnEvent → Type 0
+IsBorneOut zone asker BadHost fate body outcome shown y events = ⊥
+IsBorneOut zone asker (Refused why) fate body outcome shown y events = ⊥
+IsBorneOut zone asker (Put c) fate body outcome shown y events =
+    IsPutOutcome zone asker c (body_at fate body) outcome y events × HasReply (told_reply None fate outcome) × (shown ≡ []) × AreOfPut events
+IsBorneOut zone asker (Get c) fate body outcome shown y events =
+    IsGetEnd zone asker c fate outcome y × HasReply (told_reply (span_of c) fate outcome) × AreShownBy zone c outcome shown y.decided
     × AreOfGet events
-IsBorneOut zone asker (Listing c listing) body outcome shown y events =
-    IsListOutcome (record { zone = zone; asker = asker; command = c }) outcome y events × HasReply (list_reply listing outcome)
+IsBorneOut zone asker (Listing c listing) fate body outcome shown y events =
+    IsListEnd (record { zone = zone; asker = asker; command = c }) fate outcome y events × HasReply (told_list listing fate outcome)
     × (shown ≡ []) × AreOfListing events
 
 -- the request is refused before any name is looked at
@@ -96,16 +138,16 @@ IsRefused (Get c) = ⊥
 IsRefused (Listing c listing) = ⊥
 
 -- what a reply rests on is so in a history
-abbrev pub RestsOn : SettingsView → ℕ → Asker → ℕ → List Event → Asked → List ℕ → List ℕ → Ground → Type 0
-RestsOn settings zone asker pass history asked body shown alone = IsRefused asked × (shown ≡ [])
-RestsOn settings zone asker pass history asked body shown (task actor outcome) =
-    IsBorneOut zone asker asked body outcome shown
+abbrev pub RestsOn : SettingsView → ℕ → Asker → ℕ → List Event → Asked → Fate → List ℕ → List ℕ → Ground → Type 0
+RestsOn settings zone asker pass history asked fate body shown alone = IsRefused asked × (shown ≡ [])
+RestsOn settings zone asker pass history asked fate body shown (task actor outcome) =
+    IsBorneOut zone asker asked fate body outcome shown
     (account_of settings history (actor_of_pass pass actor)) (own_events history (actor_of_pass pass actor))
 
 -- the reply to a call is right in a history
 abbrev pub IsRight : SettingsView → ℕ → Asker → ℕ → List Event → Call → Type 0
 IsRight settings zone asker pass history call =
-    RestsOn settings zone asker pass history call.asked call.request.body call.shown call.ground
+    RestsOn settings zone asker pass history call.asked call.fate call.request.body call.shown call.ground
 
 -- ---- the calls of a connection
 

@@ -1,18 +1,19 @@
 -- The requests on objects that the bytes of a connection are, and how they end: what becomes of the bytes behind a head follows
 -- from what the head asks (RFC 9112, sections 2, 6 and 9.6).
-use Rattle.std.specs.Prelude.{◌≡◌, ◌≢◌, ◌⊎◌, ℕ, suc, ◌<◌, false, List, [], ◌∷◌, ◌++◌, length, Bool, MatchBool}
+use Rattle.std.specs.Prelude.{◌≡◌, ◌≢◌, ◌⊎◌, ℕ, suc, Bool, true, false, List, [], ◌∷◌, MatchBool}
+use Rattle.http_chunks.specs.declared.body.BodyEnd.TheVariants as Body
+use Rattle.http_intake.specs.Grammar.{HasNoBody}
 use Rattle.http_model.specs.declared.head.Head.{Head}
 use Rattle.http_model.specs.declared.head.Request.{Request}
 use Rattle.http_model.specs.declared.reply.ReplyForm.{ReplyForm}
-use Rattle.http_model.specs.declared.reply.StreamEnd.{StreamEnd}
-use Rattle.http_model.specs.declared.reply.StreamEnd.TheVariants as Ends
+use Rattle.http_model.specs.declared.reply.BadRequest.{BadRequest}
 use Rattle.http_model.specs.Forms.{is_bodiless}
 use Rattle.http_model.specs.Heads.{skip_breaks, BeginsWith}
 use Rattle.http_model.specs.Streams.{IsBlank, IsCutHead, BreaksGrammar}
 use Rattle.swift_requests.specs.Asks.{asked_of}
-use Rattle.swift_requests.specs.Bodies.{body_use, closes}
+use Rattle.swift_requests.specs.Bodies.{body_use, is_unread, is_awaited, closes}
 use Rattle.swift_requests.specs.declared.body.BodyUse.{BodyUse}
-use Rattle.swift_requests.specs.declared.body.BodyUse.TheVariants.{Fed, Dropped, Unread}
+use Rattle.call_words.specs.Bodies.{Fate, is_left, stays_unread, Suits, IsBehind}
 
 -- ---- heads
 
@@ -20,64 +21,75 @@ use Rattle.swift_requests.specs.declared.body.BodyUse.TheVariants.{Fed, Dropped,
 abbrev pub use_of : ℕ → Head → BodyUse
 use_of largest head = body_use largest head (asked_of largest head)
 
--- the reply to the kth request of a connection says that the connection is closed
-abbrev pub closes_at : ℕ → ℕ → Head → Bool
-closes_at largest k head = closes k head (use_of largest head)
-
--- the form of that reply
-abbrev pub form_of : ℕ → ℕ → Head → ReplyForm
-form_of largest k head = record { bodiless = is_bodiless head.method; close = closes_at largest k head }
+-- the form of the reply to the kth request of a connection, whose body has that fate
+abbrev pub form_of : ℕ → Head → Fate → ReplyForm
+form_of k head fate = record { bodiless = is_bodiless head.method; close = closes k head (is_left fate) }
 
 -- ---- one request
 
--- so many bytes are read as the body, fed to the task or dropped
-abbrev pub IsRead : BodyUse → ℕ → Type 0
-IsRead (Fed n) count = n ≡ count
-IsRead (Dropped n) count = n ≡ count
-IsRead Unread count = ⊥
+-- a request, and what became of its body
+pub record Taken : Type 0 where
+  pub request : Request
+  pub fate : Fate
 
--- what stands behind a head is this body, and rest follows; what is left unread is no body
-abbrev pub IsBody : BodyUse → List ℕ → List ℕ → List ℕ → Type 0
-IsBody (Fed n) after body rest = (after ≡ body ++ rest) × (length body ≡ n)
-IsBody (Dropped n) after body rest = (after ≡ body ++ rest) × (length body ≡ n)
-IsBody Unread after body rest = (body ≡ []) × (rest ≡ after)
-
--- the bytes begin with that request, and rest follows
-pub record TakesCall (largest : ℕ) (bytes : List ℕ) (request : Request) (rest : List ℕ) : Type 0 where
+-- the bytes begin with that request, whose body has that fate, and rest follows
+pub record TakesCall (largest : ℕ) (bytes : List ℕ) (taken : Taken) (rest : List ℕ) : Type 0 where
   pub after : List ℕ
-  pub head : BeginsWith bytes request.head after
-  pub body : IsBody (use_of largest request.head) after request.body rest
+  pub head : BeginsWith bytes taken.request.head after
+  pub suits : Suits (use_of largest taken.request.head) taken.fate
+  pub body : IsBehind largest taken.request.head.framing after taken.request.body taken.fate rest
 
 -- ---- where no request follows
 
--- the bytes are a head and a part of its body
-abbrev pub IsCutBody : ℕ → List ℕ → Type 0
-IsCutBody largest bytes =
-    (head : Head) × (after : List ℕ) × (n : ℕ)
-    × BeginsWith bytes head after × IsRead (use_of largest head) n × (length after < n)
+-- how the requests of a connection end: with the input; at a reply that closes it; inside of a request, for which a 100 was
+-- written or not; at what is no request
+pub data CallsEnd : Type 0 where
+  at_clean : CallsEnd
+  at_close : CallsEnd
+  at_cut : (continued : Bool) → CallsEnd
+  at_bad : BadRequest → (bodiless : Bool) → CallsEnd
+
+-- the bytes are a head and a part of its body, which is read, behind a 100 or not
+abbrev pub IsCutBody : ℕ → List ℕ → Bool → Type 0
+IsCutBody largest bytes continued =
+    (head : Head) × (after : List ℕ) × BeginsWith bytes head after
+    × (is_unread (use_of largest head) ≡ false) × (is_awaited (use_of largest head) ≡ continued) × HasNoBody largest head.framing after Body.Cut
+
+-- the bytes are a part of a request
+abbrev pub IsCutRequest : ℕ → List ℕ → Bool → Type 0
+IsCutRequest largest bytes false = IsCutHead bytes ⊎ IsCutBody largest bytes false
+IsCutRequest largest bytes true = IsCutBody largest bytes true
 
 -- what is left after the last request that was read. A request of a form that is not taken is one like others
-abbrev pub IsEnd : ℕ → List ℕ → StreamEnd → Type 0
-IsEnd largest bytes Ends.Clean = IsBlank bytes
-IsEnd largest bytes Ends.Closed = ⊥
-IsEnd largest bytes Ends.Cut = (skip_breaks bytes ≢ []) × (IsCutHead bytes ⊎ IsCutBody largest bytes)
-IsEnd largest bytes (Ends.Refused word bodiless) = BreaksGrammar bytes word bodiless
-IsEnd largest bytes (Ends.NotBuilt bodiless) = ⊥
+abbrev pub IsEnd : ℕ → List ℕ → CallsEnd → Type 0
+IsEnd largest bytes at_clean = IsBlank bytes
+IsEnd largest bytes at_close = ⊥
+IsEnd largest bytes (at_cut continued) = (skip_breaks bytes ≢ []) × IsCutRequest largest bytes continued
+IsEnd largest bytes (at_bad word bodiless) = BreaksGrammar bytes word bodiless
 
 -- ---- all of them
 
 -- The bytes are these requests, the first of which is the kth of its connection, and then that end. Behind a request whose
 -- reply closes the connection any bytes may stand.
-abbrev pub IsStreamFrom : ℕ → ℕ → List ℕ → List Request → StreamEnd → Type 0
+abbrev pub IsStreamFrom : ℕ → ℕ → List ℕ → List Taken → CallsEnd → Type 0
 IsStreamFrom largest k bytes [] end = IsEnd largest bytes end
-IsStreamFrom largest k bytes (request ∷ requests) end =
-    (rest : List ℕ) × TakesCall largest bytes request rest
-    × MatchBool (closes_at largest k request.head) ((requests ≡ []) × (end ≡ Ends.Closed)) (IsStreamFrom largest (suc k) rest requests end)
+IsStreamFrom largest k bytes (first ∷ others) end =
+    (rest : List ℕ) × TakesCall largest bytes first rest
+    × MatchBool (form_of k first.request.head first.fate).close ((others ≡ []) × (end ≡ at_close)) (IsStreamFrom largest (suc k) rest others end)
 
 -- the bytes begin with these requests, the first of which is the kth of its connection, and rest follows; no reply to one
 -- of them closes the connection
-abbrev pub IsFrontFrom : ℕ → ℕ → List ℕ → List Request → List ℕ → Type 0
+abbrev pub IsFrontFrom : ℕ → ℕ → List ℕ → List Taken → List ℕ → Type 0
 IsFrontFrom largest k bytes [] rest = bytes ≡ rest
-IsFrontFrom largest k bytes (request ∷ requests) rest =
-    (after : List ℕ) × TakesCall largest bytes request after × (closes_at largest k request.head ≡ false)
-    × IsFrontFrom largest (suc k) after requests rest
+IsFrontFrom largest k bytes (first ∷ others) rest =
+    (after : List ℕ) × TakesCall largest bytes first after × ((form_of k first.request.head first.fate).close ≡ false)
+    × IsFrontFrom largest (suc k) after others rest
+
+-- ---- bodies that are waited for
+
+-- The bodies behind which no 100 is written are just those that this says, by the place of their requests, the first of which is
+-- the kth of its connection. It is the row of a container that decides, and no byte.
+abbrev pub AreLeft : (ℕ → Bool) → ℕ → ℕ → List Taken → CallsEnd → Type 0
+AreLeft left largest k [] end = end ≡ at_cut true → left k ≡ false
+AreLeft left largest k (first ∷ others) end =
+    (is_awaited (use_of largest first.request.head) ≡ true → stays_unread first.fate ≡ left k) × AreLeft left largest (suc k) others end

@@ -1,11 +1,14 @@
 -- The reply of the Swift API that an end of a task is, and its text (OpenStack Object Storage API v1, objects).
-use Rattle.std.specs.Prelude.{ℕ, List, [], Option, Some, None, option_map, if◌then◌else◌}
+use Rattle.std.specs.Prelude.{ℕ, Bool, true, false, List, [], ◌∷◌, ◌++◌, Option, Some, None, option_map, if◌then◌else◌, codes}
+use Rattle.http_chunks.specs.declared.body.BodyEnd.{BodyEnd}
+use Rattle.http_chunks.specs.declared.body.BodyEnd.TheVariants as Body
 use Rattle.http_model.specs.declared.reply.ReplyForm.{ReplyForm}
 use Rattle.http_model.specs.Replies.{head_text, written_body}
 use Rattle.swift_auth.specs.declared.policy.Rule.{Rule}
 use Rattle.swift_auth.specs.declared.policy.Rule.TheVariants as Rules
 use Rattle.swift_reply.specs.declared.reply.Denial.{Denial}
 use Rattle.swift_reply.specs.declared.reply.Denial.TheVariants as Denied
+use Rattle.swift_reply.specs.declared.reply.Invalid.TheVariants.{Chunk}
 use Rattle.swift_reply.specs.declared.reply.ListingForm.{ListingForm}
 use Rattle.swift_reply.specs.declared.reply.ShownSpan.{ShownSpan}
 use Rattle.swift_reply.specs.declared.reply.SwiftRefusal.{SwiftRefusal}
@@ -21,6 +24,7 @@ use Rattle.task_words.specs.declared.reply.Refusal.{Refusal}
 use Rattle.task_words.specs.declared.reply.Refusal.TheVariants as Map
 use Rattle.task_words.specs.declared.span.Span.{Span}
 use Rattle.task_words.specs.Spans.{is_partial}
+use Rattle.call_words.specs.Bodies.{Fate, read_whole, broken_off, unread}
 
 abbrev pub denial_of : Rule → Denial
 denial_of Rules.Account = Denied.Account
@@ -82,6 +86,39 @@ list_reply listing (Done (Refused refusal)) = Some (Swift.Refused (refusal_in re
 list_reply listing (Done reply) = None
 list_reply listing outcome = option_map Swift.Refused (refusal_by outcome)
 
+-- ---- bodies that break off
+
+-- the refusal of a body that was wanted and broke off
+abbrev pub refusal_at : Fate → Option SwiftRefusal
+refusal_at read_whole = None
+refusal_at (broken_off Body.Whole) = None
+refusal_at (broken_off Body.Cut) = None
+refusal_at (broken_off Body.BadChunk) = Some (Why.Invalid Chunk)
+refusal_at (broken_off Body.TooLarge) = Some Why.TooLarge
+refusal_at unread = None
+
+-- the reply where a task ended so over a body of that fate
+abbrev pub told_reply : Option Span → Fate → Outcome → Option SwiftReply
+told_reply asked fate BodyFailed = option_map Swift.Refused (refusal_at fate)
+told_reply asked fate outcome = outcome_reply asked outcome
+
+abbrev pub told_list : ListingForm → Fate → Outcome → Option SwiftReply
+told_list listing fate BodyFailed = option_map Swift.Refused (refusal_at fate)
+told_list listing fate outcome = list_reply listing outcome
+
+-- ---- before a body
+
+-- what tells a client that waits to send the body (RFC 9110, section 15.2.1)
+abbrev pub continue_text : List ℕ
+continue_text = codes "HTTP/1.1 100 Continue" ++ 13 ∷ 10 ∷ 13 ∷ 10 ∷ []
+
+-- it is written where the client waits for it and the body is read
+abbrev pub continue_if : Bool → Fate → List ℕ
+continue_if true read_whole = continue_text
+continue_if true (broken_off why) = continue_text
+continue_if true unread = []
+continue_if false fate = []
+
 -- ---- texts
 
 -- a reply is written for it
@@ -106,3 +143,7 @@ front_if form (Some reply) = front_of form reply
 abbrev pub text_if : ReplyForm → Option SwiftReply → List ℕ → List ℕ
 text_if form None shown = []
 text_if form (Some reply) shown = reply_text form reply shown
+
+-- the text for a body that was wanted and broke off
+abbrev pub broken_text : ReplyForm → BodyEnd → List ℕ
+broken_text form why = text_if form (option_map Swift.Refused (refusal_at (broken_off why))) []

@@ -6,4 +6,4 @@ mod laws;
 mod reply;
 
 pub use laws::right_replies_stay_right;
-pub use reply::{push_list_outcome, push_map_reply, push_outcome};
+pub use reply::{push_broken_body, push_list_outcome, push_map_reply, push_outcome};

@@ -3,13 +3,15 @@ ghost use Rattle.std.specs.Prelude.{◌≡◌, ◌++◌, [], OnOk};
 ghost use Rattle.swift_reply.specs.declared.reply.SwiftReply.TheVariants.{Refused};
 ghost use Rattle.swift_reply.specs.Replies.{reply_text};
 ghost use Rattle.task_words.specs.Spans.{is_partial};
-ghost use Rattle.call_words.specs.Texts.{denial_of, refusal_in, refusal_by, reply_in, span_shown, outcome_reply, list_reply, HasReply, front_if, text_if};
+ghost use Rattle.call_words.specs.Bodies.{IsWrong, broken_off};
+ghost use Rattle.call_words.specs.Texts.{broken_text, refusal_at, denial_of, refusal_in, refusal_by, reply_in, span_shown, outcome_reply, list_reply, HasReply, front_if, text_if};
 
+use http_chunks::BodyEnd;
 use http_model::ReplyForm;
 use std::alloc::{AllocError, Global};
 use swift_auth::Rule;
 use swift_reply::{
-    Denial, ListingForm, ShownSpan, SwiftRefusal, push_listed, push_refusal, push_same,
+    Denial, Invalid, ListingForm, ShownSpan, SwiftRefusal, push_listed, push_refusal, push_same,
     push_shown_head, push_span_head, push_stored,
 };
 use task_words::{MapReply, Outcome, Refusal, Span};
@@ -148,5 +150,27 @@ pub fn push_list_outcome(
             Some(refusal) => push_refusal(out, &refusal, form),
             None => unreachable!(),
         },
+    }
+}
+
+/// The refusal of a body that was wanted and broke off.
+fn refusal_at(why: BodyEnd) -> Option<SwiftRefusal>
+    ensures { result ≡ refusal_at (broken_off why) }
+{
+    match why {
+        BodyEnd::BadChunk => Some(SwiftRefusal::Invalid(Invalid::Chunk)),
+        BodyEnd::TooLarge => Some(SwiftRefusal::TooLarge),
+        BodyEnd::Whole | BodyEnd::Cut => None,
+    }
+}
+
+/// Adds the refusal of a body that was wanted and broke off.
+pub fn push_broken_body(out: &mut Vec<u8>, why: BodyEnd, form: ReplyForm) -> Result<(), AllocError>
+    requires { IsWrong why }
+    ensures { OnOk result (out.new.items ≡ out.old.items ++ broken_text form why) }
+{
+    match refusal_at(why) {
+        Some(refusal) => push_refusal(out, &refusal, form),
+        None => unreachable!(),
     }
 }

@@ -10,8 +10,7 @@ use Rattle.http_model.specs.declared.head.TheConstants.{REQUEST_LIMIT}
 use Rattle.http_model.specs.Forms.{wants_close}
 use Rattle.realm_model.specs.Doors.{DoorView}
 use Rattle.realm_model.specs.declared.event.Event.{Event}
-use Rattle.swift_requests.specs.Bodies.{is_unread, closes}
-use Rattle.swift_requests.specs.declared.body.BodyUse.{BodyUse}
+use Rattle.swift_requests.specs.Bodies.{closes}
 use Rattle.call_service.specs.Serving.{Site, Side, side, HasServeCause}
 use Rattle.call_service.specs.declared.fault.ServeFault.{ServeFault}
 use Rattle.call_service.specs.declared.fault.ServeFault.TheVariants as faults
@@ -33,11 +32,15 @@ below : (k : ℕ) → nat_le REQUEST_LIMIT k ≡ false → k < REQUEST_LIMIT
 below k e = grind (arith, nat_tests)
 
 -- a connection that goes on has had fewer requests than it may have
-pub goes_below : (k : ℕ) (head : Head) (plan : BodyUse) → closes k head plan ≡ false → k < REQUEST_LIMIT
+pub goes_below : (k : ℕ) (head : Head) (left : Bool) → closes k head left ≡ false → k < REQUEST_LIMIT
 unfolding closes
-goes_below k head plan e =
+goes_below k head left e =
     below k (neither (wants_close head) (nat_le REQUEST_LIMIT k)
-    (neither (head.minor == 0) _ (neither (is_unread plan) _ e)))
+    (neither (head.minor == 0) _ (neither left _ e)))
+
+-- what is Ok is no fault
+pub ok_no_fault : {T : Type 0} (value : T) (fault : ServeFault) → ◌≡◌ {A = Result T ServeFault} (Ok value) (Err fault) → ⊥
+ok_no_fault value fault e = cc
 
 -- no count of faults rose so far, and the clock kept its plan
 pub record IsQuiet (old now : EndsState) : Type 0 where

@@ -9,14 +9,12 @@ use Rattle.http_intake.specs.Reading.{HasNoNext}
 use Rattle.http_intake.specs.declared.fault.IntakeFault.{IntakeFault}
 use Rattle.http_intake.specs.declared.fault.IntakeFault.TheVariants as intake
 use Rattle.http_model.specs.declared.reply.BadRequest.TheVariants as Word
-use Rattle.http_model.specs.declared.reply.StreamEnd.{StreamEnd}
-use Rattle.http_model.specs.declared.reply.StreamEnd.TheVariants as Ends
 use Rattle.http_model.specs.Heads.{skip_breaks}
 use Rattle.http_model.specs.Streams.{IsCutHead}
 use Rattle.realm_model.specs.Doors.{DoorView}
 use Rattle.realm_model.specs.declared.event.Event.{Event}
 use Rattle.realm_door.specs.Steps.{next_count}
-use Rattle.call_words.specs.Streams.{IsEnd}
+use Rattle.call_words.specs.Streams.{CallsEnd, at_clean, at_close, at_cut, at_bad, IsEnd}
 use Rattle.call_service.specs.Serving.{Site, side, WritesAtFault, HasServeCause}
 use Rattle.call_service.specs.declared.fault.ServeFault.{ServeFault}
 use Rattle.call_service.specs.declared.fault.ServeFault.TheVariants as faults
@@ -40,46 +38,36 @@ heads_end all ended intake.BadChunk x = x
 heads_end all ended intake.BodyTooLarge x = x
 
 -- the end that the cause makes is that of the bytes
-end_comes : (largest : ℕ) (all : List ℕ) (after : Option (List ℕ)) (fault : IntakeFault) (e : StreamEnd) → HasNoNext all (IsAtEnd after) fault → end_for fault ≡ Some e → IsEnd largest all e × ReadsOut e after
+end_comes : (largest : ℕ) (all : List ℕ) (after : Option (List ℕ)) (fault : IntakeFault) (e : CallsEnd) → HasNoNext all (IsAtEnd after) fault → end_for fault ≡ Some e → IsEnd largest all e × ReadsOut e after
 end_comes largest all after intake.OutOfMemory e x is = absurd (cc)
 end_comes largest all after intake.ReadFault e x is = absurd (cc)
-end_comes largest all after intake.Cut e x is = let same : Ends.Cut ≡ e = cc in subst (λ f. IsEnd largest all f × ReadsOut f after) same ((x.0, inl x.1), x.2)
-end_comes largest all after intake.BadHead e x is = let same : Ends.Refused Word.Head false ≡ e = cc in subst (λ f. IsEnd largest all f × ReadsOut f after) same ((x, refl), tt)
-end_comes largest all after intake.HeadTooLarge e x is = let same : Ends.Refused Word.Size false ≡ e = cc in subst (λ f. IsEnd largest all f × ReadsOut f after) same ((x, refl), tt)
-end_comes largest all after (intake.BadFraming b) e x is = let same : Ends.Refused Word.Framing b ≡ e = cc in subst (λ f. IsEnd largest all f × ReadsOut f after) same (x, tt)
+end_comes largest all after intake.Cut e x is = let same : at_cut false ≡ e = cc in subst (λ f. IsEnd largest all f × ReadsOut f after) same ((x.0, inl x.1), x.2)
+end_comes largest all after intake.BadHead e x is = let same : at_bad Word.Head false ≡ e = cc in subst (λ f. IsEnd largest all f × ReadsOut f after) same ((x, refl), tt)
+end_comes largest all after intake.HeadTooLarge e x is = let same : at_bad Word.Size false ≡ e = cc in subst (λ f. IsEnd largest all f × ReadsOut f after) same ((x, refl), tt)
+end_comes largest all after (intake.BadFraming b) e x is = let same : at_bad Word.Framing b ≡ e = cc in subst (λ f. IsEnd largest all f × ReadsOut f after) same (x, tt)
 end_comes largest all after intake.BadChunk e x is = absurd x
 end_comes largest all after intake.BodyTooLarge e x is = absurd x
 
--- bytes of a cut head are those of an input that may end there
-open_blank : (largest : ℕ) (bytes blank : List ℕ) → skip_breaks bytes ≡ blank → IsCutHead bytes → (e : StreamEnd) × IsOpen e × IsEnd largest bytes e
-open_blank largest bytes [] is cut = (Ends.Clean, tt, (cut.0, is))
-open_blank largest bytes (b ∷ rest) is cut = (Ends.Cut, tt, (λ none. let clash : ◌∷◌ b rest ≡ [] = sym is ∙ none in absurd (cc), inl cut))
+-- bytes of a cut head are those of an input that may end there, without a text
+open_blank : (largest : ℕ) (bytes blank : List ℕ) → skip_breaks bytes ≡ blank → IsCutHead bytes → (e : CallsEnd) × IsOpen e × IsEnd largest bytes e × (end_text e ≡ [])
+open_blank largest bytes [] is cut = (at_clean, tt, (cut.0, is), refl)
+open_blank largest bytes (b ∷ rest) is cut = (at_cut false, tt, (λ none. let clash : ◌∷◌ b rest ≡ [] = sym is ∙ none in absurd (cc), inl cut), refl)
 
--- an end that may come has no text
-open_quiet : (e : StreamEnd) → IsOpen e → end_text e ≡ []
-open_quiet Ends.Clean o = refl
-open_quiet Ends.Closed o = absurd o
-open_quiet Ends.Cut o = refl
-open_quiet (Ends.Refused word bodiless) o = absurd o
-open_quiet (Ends.NotBuilt bodiless) o = absurd o
-
-few_replies : (e : StreamEnd) → end_replies e ≤ 1
-few_replies Ends.Clean = omega arith
-few_replies Ends.Closed = omega arith
-few_replies Ends.Cut = omega arith
-few_replies (Ends.Refused word bodiless) = omega arith
-few_replies (Ends.NotBuilt bodiless) = omega arith
+few_replies : (e : CallsEnd) → end_replies e ≤ 1
+few_replies at_clean = omega arith
+few_replies at_close = omega arith
+few_replies (at_cut continued) = omega arith
+few_replies (at_bad word bodiless) = omega arith
 
 module _ (tells alone : Type 0) (site : Site) (k : ℕ) (d : DoorView) (old_intake new_intake : IntakeState) (old new : EndsState) (may : tells → MayBegin site.settings d) (more : List ℕ)
     (consumed : Consumes old.left new.left more) (told : Appends old.told new.told []) where
-  idle_tidy : (e : StreamEnd) → IsTidy tells d d.pass (next_count d) [] e
-  idle_tidy Ends.Clean = (refl, λ is. refl)
-  idle_tidy Ends.Closed = (refl, λ is. refl)
-  idle_tidy Ends.Cut = λ is. sym (new_moments site.settings d (may is))
-  idle_tidy (Ends.Refused word bodiless) = (refl, λ is. refl)
-  idle_tidy (Ends.NotBuilt bodiless) = (refl, λ is. refl)
+  idle_tidy : (e : CallsEnd) → IsTidy tells d d.pass (next_count d) [] e
+  idle_tidy at_clean = (refl, λ is. refl)
+  idle_tidy at_close = (refl, λ is. refl)
+  idle_tidy (at_cut continued) = λ is. sym (new_moments site.settings d (may is))
+  idle_tidy (at_bad word bodiless) = (refl, λ is. refl)
 
-  end_replied : (e : StreamEnd) → IsEnd site.settings.largest (old_intake.buffer ++ more) e → Appends old.taken new.taken (end_text e)
+  end_replied : (e : CallsEnd) → IsEnd site.settings.largest (old_intake.buffer ++ more) e → Appends old.taken new.taken (end_text e)
       → RepliesTo tells alone site k old_intake.buffer d d old new [] e
   end_replied e ends written = record {
     read = more;
@@ -96,7 +84,7 @@ module _ (tells alone : Type 0) (site : Site) (k : ℕ) (d : DoorView) (old_inta
     settled = λ is. none_settled alone site d d (same_left alone site d d (may is) refl);
   }
 
-  pub end_served : (e : StreamEnd) → IsEnd site.settings.largest (old_intake.buffer ++ more) e → ReadsOut e new.left → Appends old.taken new.taken (end_text e)
+  pub end_served : (e : CallsEnd) → IsEnd site.settings.largest (old_intake.buffer ++ more) e → ReadsOut e new.left → Appends old.taken new.taken (end_text e)
       → ServesFrom tells alone site k old_intake.buffer d d old new (end_replies e) (connection_end [] e)
   end_served e ends out written = record {
     calls = [];
@@ -114,7 +102,7 @@ module _ (tells alone : Type 0) (site : Site) (k : ℕ) (d : DoorView) (old_inta
       record {
         calls = [];
         stream_end = o.0;
-        replied = end_replied o.0 o.2 (subst (Appends old.taken new.taken) (sym (open_quiet o.0 o.1)) quiet);
+        replied = end_replied o.0 o.2 (subst (Appends old.taken new.taken) (sym o.3) quiet);
         waits = o.1;
       }
 
@@ -143,7 +131,7 @@ module _ (tells alone : Type 0) (site : Site) (k : ℕ) (d : DoorView) (old_inta
         end_failed (subst (HasNoNext (old_intake.buffer ++ more) (IsAtEnd new.left)) same none) quiet
     end_left cause faults.WriteFault none (word, bodiless, is, front) =
         head_left faults.WriteFault
-        (more, consumed, record { door = refl; untold = told }, word, bodiless, (end_comes site.settings.largest (old_intake.buffer ++ more) new.left cause (Ends.Refused word bodiless) none is).0, front)
+        (more, consumed, record { door = refl; untold = told }, word, bodiless, (end_comes site.settings.largest (old_intake.buffer ++ more) new.left cause (at_bad word bodiless) none is).0, front)
     end_left cause faults.Worn none x = absurd x
     end_left cause (faults.Late read_at clock) none x = absurd x
 
@@ -166,7 +154,7 @@ module _ (tells alone : Type 0) (site : Site) (k : ℕ) (d : DoorView) (old_inta
 read_there : (cause : IntakeFault) (fault : ServeFault) (a b : Option (List ℕ)) → LeavesSo a b cause fault → cause ≡ intake.ReadFault → fault ≡ faults.ReadFault
 read_there cause faults.OutOfMemory a b x is = absurd (x.0 is)
 read_there cause faults.ReadFault a b x is = refl
-read_there cause faults.WriteFault a b x is = let none : None ≡ Some (Ends.Refused x.0 x.1) = sym (ap end_for is) ∙ x.2 in absurd (cc)
+read_there cause faults.WriteFault a b x is = let none : None ≡ Some (at_bad x.0 x.1) = sym (ap end_for is) ∙ x.2 in absurd (cc)
 read_there cause faults.Worn a b x is = absurd x
 read_there cause (faults.Late read_at clock) a b x is = absurd x
 

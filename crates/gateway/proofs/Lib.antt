@@ -1,3 +1,4 @@
+pub mod Fates
 pub mod Growing
 pub mod Deciding
 pub mod Tasks

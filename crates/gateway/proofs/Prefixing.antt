@@ -4,17 +4,14 @@ use Rattle.std.specs.Prelude.{MatchBool}
 use Rattle.std.proofs.KnownBytes.{Consumes-trans, Appends-trans}
 use Rattle.std.specs.Io.KnownBytes.{Appends}
 use Rattle.gw_io.specs.Ends.{EndsState}
-use Rattle.http_model.specs.declared.head.Request.{Request}
-use Rattle.http_model.specs.declared.reply.StreamEnd.{StreamEnd}
-use Rattle.http_model.specs.declared.reply.StreamEnd.TheVariants as Ends
 use Rattle.http_model.proofs.StreamLaws.{more_head}
 use Rattle.realm_model.specs.Doors.{DoorView}
 use Rattle.realm_model.specs.declared.event.Event.{Event}
 use Rattle.realm_door.specs.Steps.{next_count, actor_of_pass, IsSame}
-use Rattle.swift_requests.specs.declared.body.BodyUse.{BodyUse}
-use Rattle.swift_requests.specs.declared.body.BodyUse.TheVariants.{Fed, Dropped, Unread}
-use Rattle.call_words.specs.Calls.{Ground, alone as by_itself, task, Call, call_text, IsOfNext, IsRight, AreRight, AreSame, actor_after}
-use Rattle.call_words.specs.Streams.{use_of, form_of, IsBody, TakesCall, IsStreamFrom}
+use Rattle.http_intake.proofs.RequestLaws.{body_more}
+use Rattle.call_words.specs.Bodies.{read_whole, IsBehind}
+use Rattle.call_words.specs.Calls.{Ground, alone as by_itself, task, Call, whole_text, IsOfNext, IsRight, AreRight, AreSame, actor_after}
+use Rattle.call_words.specs.Streams.{form_of, CallsEnd, at_clean, at_close, at_cut, at_bad, Taken, TakesCall, IsStreamFrom}
 use Rattle.call_words.proofs.Staying.{stay}
 use Rattle.call_service.specs.Serving.{Site, Side, own_moments, Tells, is_by_end}
 use Rattle.call_service.specs.declared.fault.ServeFault.{ServeFault}
@@ -24,23 +21,23 @@ use Rattle.gateway.specs.Moments.{AreToldFor, AreTold}
 use Rattle.call_words.specs.Made.{AreBy, AreMade}
 use Rattle.gateway.specs.Texts.{texts_from, end_text, connection_end}
 use Rattle.gateway.specs.Calls.{Advances, IsSettled, AreSettled}
-use Rattle.gateway.specs.Serving.{requests_of, IsTidy, RepliesTo, ServesFrom, FailsReading, StopsFrom, LeavesAt}
+use Rattle.gateway.specs.Serving.{taken_of, requests_of, IsTidy, RepliesTo, ServesFrom, FailsReading, StopsFrom, LeavesAt}
 use Rattle.gateway.specs.Turns.{GoesOn}
+use Rattle.gateway.proofs.Fates.{open_whole}
 use Rattle.gateway.proofs.Growing.{advances_both, older_moments}
 
 -- ---- bytes behind a request
 
-more_body : (plan : BodyUse) (after body rest more : List ℕ) → IsBody plan after body rest → IsBody plan (after ++ more) body (rest ++ more)
-more_body (Fed n) after body rest more x = (ap (λ l. l ++ more) x.0 ∙ append_assoc body rest more, x.1)
-more_body (Dropped n) after body rest more x = (ap (λ l. l ++ more) x.0 ∙ append_assoc body rest more, x.1)
-more_body Unread after body rest more x = (x.0, ap (λ l. l ++ more) x.1)
-
-more_call : (largest : ℕ) (bytes : List ℕ) (request : Request) (rest more : List ℕ) → TakesCall largest bytes request rest → TakesCall largest (bytes ++ more) request (rest ++ more)
-more_call largest bytes request rest more x = record {
-  after = x.after ++ more;
-  head = more_head bytes request.head x.after more x.head;
-  body = more_body (use_of largest request.head) x.after request.body rest more x.body;
-}
+more_call : (largest : ℕ) (bytes : List ℕ) (taken : Taken) (rest more : List ℕ) → taken.fate ≡ read_whole → TakesCall largest bytes taken rest → TakesCall largest (bytes ++ more) taken (rest ++ more)
+more_call largest bytes taken rest more whole x =
+    let body = subst (λ f. IsBehind largest taken.request.head.framing x.after taken.request.body f rest) whole x.body in
+    record {
+      after = x.after ++ more;
+      head = more_head bytes taken.request.head x.after more x.head;
+      suits = x.suits;
+      body = subst (λ f. IsBehind largest taken.request.head.framing (x.after ++ more) taken.request.body f (rest ++ more)) (sym whole)
+          (body_more largest taken.request.head.framing x.after taken.request.body rest more body);
+    }
 
 -- ---- what was told, whatever the pass is called
 
@@ -61,12 +58,11 @@ told_moved tells seen p q same (call ∷ calls) moments later (first, others, wh
   told_moved tells seen p q same calls others later rest,
 )
 
-tidy_moved : (tells : Type 0) (e : DoorView) (p q last : ℕ) (later : List ℕ) → (tells → p ≡ q) → (end : StreamEnd) → IsTidy tells e p last later end → IsTidy tells e q last later end
-tidy_moved tells e p q last later same Ends.Clean x = x
-tidy_moved tells e p q last later same Ends.Closed x = x
-tidy_moved tells e p q last later same Ends.Cut x = λ is. x is ∙ ap (λ r. own_moments e.seen (actor_of_pass r last)) (same is)
-tidy_moved tells e p q last later same (Ends.Refused word bodiless) x = x
-tidy_moved tells e p q last later same (Ends.NotBuilt bodiless) x = x
+tidy_moved : (tells : Type 0) (e : DoorView) (p q last : ℕ) (later : List ℕ) → (tells → p ≡ q) → (end : CallsEnd) → IsTidy tells e p last later end → IsTidy tells e q last later end
+tidy_moved tells e p q last later same at_clean x = x
+tidy_moved tells e p q last later same at_close x = x
+tidy_moved tells e p q last later same (at_cut continued) x = λ is. x is ∙ ap (λ r. own_moments e.seen (actor_of_pass r last)) (same is)
+tidy_moved tells e p q last later same (at_bad word bodiless) x = x
 
 -- ---- what the history says
 
@@ -116,23 +112,22 @@ module _ (alone : Type 0) (site : Site) (d m e : DoorView) (call : Call) (one : 
 
 -- ---- a request and what follows it
 
-ended_more : (largest k : ℕ) (bytes : List ℕ) (call : Call) (calls : List Call) (e : StreamEnd) → IsStreamFrom largest k bytes (requests_of calls) e
+ended_more : (largest k : ℕ) (bytes : List ℕ) (call : Call) (calls : List Call) (e : CallsEnd) → IsStreamFrom largest k bytes (requests_of calls) e
     → connection_end calls e ≡ connection_end (call ∷ calls) e
-ended_more largest k bytes call calls Ends.Clean x = refl
-ended_more largest k bytes call [] Ends.Closed x = absurd x
-ended_more largest k bytes call (next ∷ calls) Ends.Closed x = refl
-ended_more largest k bytes call calls Ends.Cut x = refl
-ended_more largest k bytes call calls (Ends.Refused word bodiless) x = refl
-ended_more largest k bytes call calls (Ends.NotBuilt bodiless) x = refl
+ended_more largest k bytes call calls at_clean x = refl
+ended_more largest k bytes call [] at_close x = absurd x
+ended_more largest k bytes call (next ∷ calls) at_close x = refl
+ended_more largest k bytes call calls (at_cut continued) x = refl
+ended_more largest k bytes call calls (at_bad word bodiless) x = refl
 
 module _ (tells alone : Type 0) (site : Site) (k : ℕ) (x m : Side) (g : GoesOn tells alone site k x.intake.buffer m.intake.buffer x.door m.door x.ends m.ends) where
   same_pass : tells → m.door.pass ≡ x.door.pass
   same_pass is = (g.replied.answered.settled is).advances.pass
 
-  goes_takes : (more : List ℕ) → TakesCall site.settings.largest (x.intake.buffer ++ (g.replied.read ++ more)) g.call.request (m.intake.buffer ++ more)
+  goes_takes : (more : List ℕ) → TakesCall site.settings.largest (x.intake.buffer ++ (g.replied.read ++ more)) (taken_of g.call) (m.intake.buffer ++ more)
   goes_takes more =
-      subst (λ l. TakesCall site.settings.largest l g.call.request (m.intake.buffer ++ more)) (append_assoc x.intake.buffer g.replied.read more)
-      (more_call site.settings.largest (x.intake.buffer ++ g.replied.read) g.call.request m.intake.buffer more g.replied.takes)
+      subst (λ l. TakesCall site.settings.largest l (taken_of g.call) (m.intake.buffer ++ more)) (append_assoc x.intake.buffer g.replied.read more)
+      (more_call site.settings.largest (x.intake.buffer ++ g.replied.read) (taken_of g.call) m.intake.buffer more (open_whole k g.call.request.head g.call.fate g.stays_open) g.replied.takes)
 
   goes_told : (e : DoorView) (calls : List Call) (last : ℕ) (moments later : List ℕ) → (tells → AreSettled alone site m.door e calls last)
       → AreTold tells e.seen m.door.pass calls moments later → AreTold tells e.seen x.door.pass (g.call ∷ calls) (g.replied.answered.moments ++ moments) later
@@ -146,11 +141,11 @@ module _ (tells alone : Type 0) (site : Site) (k : ℕ) (x m : Side) (g : GoesOn
     told_moved tells e.seen m.door.pass x.door.pass same_pass calls moments later told,
   )
 
-  goes_replies : (e : DoorView) (new : EndsState) (calls : List Call) (end : StreamEnd) → RepliesTo tells alone site (suc k) m.intake.buffer m.door e m.ends new calls end
+  goes_replies : (e : DoorView) (new : EndsState) (calls : List Call) (end : CallsEnd) → RepliesTo tells alone site (suc k) m.intake.buffer m.door e m.ends new calls end
       → RepliesTo tells alone site k x.intake.buffer x.door e x.ends new (g.call ∷ calls) end
   goes_replies e new calls end s =
-      let text = call_text (form_of site.settings.largest k g.call.request.head) g.call in
-      let texts = texts_from site.settings.largest (suc k) calls in
+      let text = whole_text (form_of k g.call.request.head g.call.fate) g.call in
+      let texts = texts_from (suc k) calls in
       record {
         read = g.replied.read ++ s.read;
         consumed = Consumes-trans x.ends.left m.ends.left new.left g.replied.read s.read g.replied.consumed s.consumed;
@@ -158,7 +153,7 @@ module _ (tells alone : Type 0) (site : Site) (k : ℕ) (x m : Side) (g : GoesOn
         stream = (
           m.intake.buffer ++ s.read,
           goes_takes s.read,
-          subst (λ b. MatchBool b ((requests_of calls ≡ []) × (end ≡ Ends.Closed)) (IsStreamFrom site.settings.largest (suc k) (m.intake.buffer ++ s.read) (requests_of calls) end)) (sym g.stays_open) s.stream,
+          subst (λ b. MatchBool b ((requests_of calls ≡ []) × (end ≡ at_close)) (IsStreamFrom site.settings.largest (suc k) (m.intake.buffer ++ s.read) (requests_of calls) end)) (sym g.stays_open) s.stream,
         );
         written = subst (Appends x.ends.taken new.taken) (sym (append_assoc text texts (end_text end)))
             (Appends-trans x.ends.taken m.ends.taken new.taken text (texts ++ end_text end) g.replied.answered.written s.written);
@@ -198,8 +193,8 @@ module _ (tells alone : Type 0) (site : Site) (k : ℕ) (x m : Side) (g : GoesOn
     consumed = Consumes-trans x.ends.left m.ends.left s.between.ends.left g.replied.read s.read g.replied.consumed s.consumed;
     asked = (g.replied.asked, s.asked);
     front = (m.intake.buffer ++ s.read, goes_takes s.read, g.stays_open, s.front);
-    written = Appends-trans x.ends.taken m.ends.taken s.between.ends.taken (call_text (form_of site.settings.largest k g.call.request.head) g.call)
-        (texts_from site.settings.largest (suc k) s.calls) g.replied.answered.written s.written;
+    written = Appends-trans x.ends.taken m.ends.taken s.between.ends.taken (whole_text (form_of k g.call.request.head g.call.fate) g.call)
+        (texts_from (suc k) s.calls) g.replied.answered.written s.written;
     moments = g.replied.answered.moments ++ s.moments;
     asked_clock = Appends-trans x.ends.told m.ends.told s.between.ends.told g.replied.answered.moments s.moments g.replied.answered.asked_clock s.asked_clock;
     told = goes_told y.door s.calls (next_count s.between.door) s.moments [] s.settled s.told;

@@ -1,138 +1,184 @@
--- The bytes of a connection have one reading.
-use Rattle.std.proofs.Common.{◌≡◌, ◌⊎◌, inl, inr, ℕ, suc, ◌<◌, ◌≤◌, Bool, true, false, List, [], ◌∷◌, ◌++◌, length, take, drop, refl, sym, ap, ◌∙◌, subst, arith}
-use Rattle.std.proofs.Math.Seq.{take-append_seam}
-use Rattle.std.proofs.lemmas.List.{length-append, length-take, take-append-drop, append_cancel_left, take_all}
-use Rattle.std.specs.Prelude.{MatchBool, nat_le}
-use Rattle.std.proofs.lemmas.Bool.Decides.{nat_tests}
+-- The bytes of a connection have one reading, once it is known which bodies are left.
+use Rattle.std.proofs.Common.{◌≡◌, ◌⊎◌, inl, inr, ℕ, suc, Bool, true, false, List, [], ◌∷◌, refl, sym, ap, ◌∙◌, subst, subst₂}
+use Rattle.std.specs.Prelude.{MatchBool}
+use Rattle.http_chunks.specs.declared.body.BodyEnd.{BodyEnd}
+use Rattle.http_chunks.specs.declared.body.BodyEnd.TheVariants as Body
+use Rattle.http_intake.specs.Grammar.{HasNoBody}
+use Rattle.http_intake.proofs.RequestLaws.{same_body, not_broken, same_why, HasNoHead, blank_headless, cut_headless, large_headless, bad_headless, unframed_headless}
+use Rattle.http_model.specs.declared.head.Framing.{Framing}
 use Rattle.http_model.specs.declared.head.Head.{Head}
-use Rattle.http_model.specs.declared.head.BodyPlan.{BodyPlan}
-use Rattle.http_model.specs.declared.head.BodyPlan.TheVariants as Plan
-use Rattle.http_model.specs.declared.head.Request.{Request}
-use Rattle.http_model.specs.declared.reading.TheConstants.{HEAD_LIMIT}
+use Rattle.http_model.specs.declared.reply.BadRequest.TheVariants as Word
 use Rattle.http_model.specs.declared.reply.StreamEnd.{StreamEnd}
 use Rattle.http_model.specs.declared.reply.StreamEnd.TheVariants as Ends
-use Rattle.http_model.specs.Forms.{is_bodiless, plan_of}
-use Rattle.http_model.specs.Heads.{HasNoHeadText, BeginsWith}
-use Rattle.http_model.specs.Streams.{IsBody as IsHttpBody, IsCutHead, IsEnd as IsEndOf}
-use Rattle.http_model.proofs.PlainLemmas.{begun_not_blank}
-use Rattle.http_model.proofs.StreamLaws.{one_head, one_end, no_gap, no_request_at_end}
+use Rattle.http_model.specs.Streams.{IsEnd as IsEndOf}
+use Rattle.http_model.proofs.StreamLaws.{one_head, one_end}
+use Rattle.swift_requests.specs.Bodies.{is_unread, is_awaited}
 use Rattle.swift_requests.specs.declared.body.BodyUse.{BodyUse}
-use Rattle.swift_requests.specs.declared.body.BodyUse.TheVariants.{Fed, Dropped, Unread}
-use Rattle.call_words.specs.Streams.{use_of, closes_at, IsRead, IsBody, TakesCall, IsCutBody, IsEnd, IsStreamFrom}
+use Rattle.swift_requests.specs.declared.body.BodyUse.TheVariants.{Fed, Awaited, Dropped, Unread}
+use Rattle.call_words.specs.Bodies.{Fate, read_whole, broken_off, unread, stays_unread, IsWrong, Suits, IsBehind}
+use Rattle.call_words.specs.Streams.{use_of, form_of, CallsEnd, at_clean, at_close, at_cut, at_bad, Taken, TakesCall, IsCutBody, IsEnd, IsStreamFrom, AreLeft}
+
+-- ---- fates
+
+-- a body that is not read has no other fate, if the readings agree on whether it is left
+only_unread : (plan : BodyUse) (fate : Fate) → (is_awaited plan ≡ true → stays_unread fate ≡ true) → Suits plan unread → Suits plan fate → fate ≡ unread
+only_unread Fed fate agree first second = absurd first
+only_unread Awaited read_whole agree first second = let clash : false ≡ true = agree refl in absurd (cc)
+only_unread Awaited (broken_off why) agree first second = let clash : false ≡ true = agree refl in absurd (cc)
+only_unread Awaited unread agree first second = refl
+only_unread Dropped fate agree first second = absurd first
+only_unread Unread read_whole agree first second = absurd second
+only_unread Unread (broken_off why) agree first second = absurd second
+only_unread Unread unread agree first second = refl
+
+wrong_of : (plan : BodyUse) (why : BodyEnd) → Suits plan (broken_off why) → IsWrong why
+wrong_of Fed why suits = suits
+wrong_of Awaited why suits = suits
+wrong_of Dropped why suits = suits
+wrong_of Unread why suits = absurd suits
+
+not_cut : (why : BodyEnd) → IsWrong why → why ≡ Body.Cut → ⊥
+not_cut why wrong is = subst IsWrong is wrong
+
+-- what stands behind a head has one fate
+one_fate : (largest : ℕ) (framing : Framing) (plan : BodyUse) (after a b r q : List ℕ) (f g : Fate) → (is_awaited plan ≡ true → stays_unread f ≡ stays_unread g) → Suits plan f → Suits plan g
+    → IsBehind largest framing after a f r → IsBehind largest framing after b g q → (f ≡ g) × (a ≡ b) × (r ≡ q)
+one_fate largest framing plan after a b r q read_whole read_whole agree s t x y =
+    let same = same_body largest framing after a b r q x y in (refl, same.0, same.1)
+one_fate largest framing plan after a b r q read_whole (broken_off why) agree s t x y = absurd (not_broken largest framing after a r why x y.0)
+one_fate largest framing plan after a b r q read_whole unread agree s t x y = let clash : read_whole ≡ unread = only_unread plan read_whole agree t s in absurd (cc)
+one_fate largest framing plan after a b r q (broken_off why) read_whole agree s t x y = absurd (not_broken largest framing after b q why y x.0)
+one_fate largest framing plan after a b r q (broken_off why) (broken_off other) agree s t x y =
+    (ap broken_off (same_why largest framing after why other x.0 y.0), x.1 ∙ sym y.1, x.2 ∙ sym y.2)
+one_fate largest framing plan after a b r q (broken_off why) unread agree s t x y = let clash : broken_off why ≡ unread = only_unread plan (broken_off why) agree t s in absurd (cc)
+one_fate largest framing plan after a b r q unread read_whole agree s t x y = let clash : read_whole ≡ unread = only_unread plan read_whole (λ e. sym (agree e)) s t in absurd (cc)
+one_fate largest framing plan after a b r q unread (broken_off why) agree s t x y = let clash : broken_off why ≡ unread = only_unread plan (broken_off why) (λ e. sym (agree e)) s t in absurd (cc)
+one_fate largest framing plan after a b r q unread unread agree s t x y = (refl, x.0 ∙ sym y.0, x.1 ∙ sym y.1)
 
 -- ---- requests
 
-cut_once : (a b c d : List ℕ) → a ++ b ≡ c ++ d → length a ≡ length c → (a ≡ c) × (b ≡ d)
-cut_once a b c d e same =
-    let fronts : a ≡ c = sym (take-append_seam a b) ∙ ap (λ l. take (length a) l) e ∙ ap (λ n. take n (c ++ d)) same ∙ take-append_seam c d in
-    (fronts, append_cancel_left a b d (e ∙ ap (λ l. l ++ d) (sym fronts)))
+taken_is : (m n : Taken) → m.request.head ≡ n.request.head → m.request.body ≡ n.request.body → m.fate ≡ n.fate → m ≡ n
+taken_is m n heads bodies fates = λ i. record { request = record { head = heads i; body = bodies i }; fate = fates i }
 
-one_body : (plan : BodyUse) (after a b r q : List ℕ) → IsBody plan after a r → IsBody plan after b q → (a ≡ b) × (r ≡ q)
-one_body (Fed n) after a b r q x y = cut_once a r b q (sym x.0 ∙ y.0) (x.1 ∙ sym y.1)
-one_body (Dropped n) after a b r q x y = cut_once a r b q (sym x.0 ∙ y.0) (x.1 ∙ sym y.1)
-one_body Unread after a b r q x y = (x.0 ∙ sym y.0, x.1 ∙ sym y.1)
+-- the body of a request that waits is left, or not
+abbrev Agrees : ℕ → Bool → Taken → Type 0
+Agrees largest left m = is_awaited (use_of largest m.request.head) ≡ true → stays_unread m.fate ≡ left
 
-request_is : (m n : Request) → m.head ≡ n.head → m.body ≡ n.body → m ≡ n
-request_is m n heads bodies = λ i. record { head = heads i; body = bodies i }
-
-one_call : (largest : ℕ) (bytes : List ℕ) (m n : Request) (r q : List ℕ) → TakesCall largest bytes m r → TakesCall largest bytes n q → (m ≡ n) × (r ≡ q)
-one_call largest bytes m n r q x y =
-    let heads = one_head bytes m.head n.head x.after y.after x.head y.head in
-    let body : IsBody (use_of largest m.head) x.after n.body q =
-    subst (λ h. IsBody (use_of largest h) x.after n.body q) (sym heads.0) (subst (λ a. IsBody (use_of largest n.head) a n.body q) (sym heads.1) y.body) in
-    let bodies = one_body (use_of largest m.head) x.after m.body n.body r q x.body body in
-    (request_is m n heads.0 bodies.0, bodies.1)
+one_call : (largest : ℕ) (bytes : List ℕ) (left : Bool) (m n : Taken) (r q : List ℕ) → Agrees largest left m → Agrees largest left n → TakesCall largest bytes m r → TakesCall largest bytes n q → (m ≡ n) × (r ≡ q)
+one_call largest bytes left m n r q says also x y =
+    let heads = one_head bytes m.request.head n.request.head x.after y.after x.head y.head in
+    let suits : Suits (use_of largest n.request.head) m.fate = subst (λ (h : Head). Suits (use_of largest h) m.fate) heads.0 x.suits in
+    let body : IsBehind largest n.request.head.framing y.after m.request.body m.fate r =
+    subst₂ (λ (h : Head) l. IsBehind largest h.framing l m.request.body m.fate r) heads.0 heads.1 x.body in
+    let moved : is_awaited (use_of largest n.request.head) ≡ true → stays_unread m.fate ≡ left =
+    subst (λ (h : Head). is_awaited (use_of largest h) ≡ true → stays_unread m.fate ≡ left) heads.0 says in
+    let agree : is_awaited (use_of largest n.request.head) ≡ true → stays_unread m.fate ≡ stays_unread n.fate = λ e. moved e ∙ sym (also e) in
+    let one = one_fate largest n.request.head.framing (use_of largest n.request.head) y.after m.request.body n.request.body r q m.fate n.fate agree suits y.suits body y.body in
+    (taken_is m n heads.0 one.1 one.0, one.2)
 
 -- ---- ends
 
--- an end that cuts no body is one of any stream, and cuts a head if any
-sort_of : (largest : ℕ) (bytes : List ℕ) (e : StreamEnd) → IsEnd largest bytes e → (IsEndOf bytes e × (e ≡ Ends.Cut → IsCutHead bytes)) ⊎ ((e ≡ Ends.Cut) × IsCutBody largest bytes)
-sort_of largest bytes Ends.Clean x = inl (x, λ is. absurd (cc))
-sort_of largest bytes Ends.Closed x = absurd x
-sort_of largest bytes Ends.Cut (some, inl x) = inl ((some, inl x), λ is. x)
-sort_of largest bytes Ends.Cut (some, inr x) = inr (refl, x)
-sort_of largest bytes (Ends.Refused word bodiless) x = inl (x, λ is. absurd (cc))
-sort_of largest bytes (Ends.NotBuilt bodiless) x = absurd x
+-- an end of a stream of any requests, as one of calls
+abbrev as_end : StreamEnd → CallsEnd
+as_end Ends.Clean = at_clean
+as_end Ends.Closed = at_close
+as_end Ends.Cut = at_cut false
+as_end (Ends.Refused word bodiless) = at_bad word bodiless
+as_end (Ends.NotBuilt bodiless) = at_close
 
-module _ (bytes : List ℕ) (head : Head) (after : List ℕ) (begins : BeginsWith bytes head after) where
-  -- there is a body of so many bytes behind the head, or only a part of it
-  by_length : (n : ℕ) (whole : Bool) → nat_le n (length after) ≡ whole → plan_of head ≡ Plan.Content n → (e : StreamEnd) → IsEndOf bytes e → e ≡ Ends.Cut
-  by_length n true fits is e x =
-      let inside : n ≤ length after = grind (arith, nat_tests) in
-      let many : length (take n after) ≡ n = omega (arith, length-take n after, inside) in
-      absurd (no_request_at_end bytes e (record { head = head; body = take n after }) (drop n after) x
-      (record { after = after; head = begins; body = subst (λ p. IsHttpBody p after (take n after) (drop n after)) (sym is) (sym (take-append-drop n after), many) }))
-  by_length n false fits is e x =
-      let short : length after < n = grind (arith, nat_tests) in
-      one_end bytes e Ends.Cut x (begun_not_blank bytes begins.0 after begins.1, inr (head, after, n, begins, is, short))
+-- no head stands there, and the end is one of any stream
+record IsHeadless (bytes : List ℕ) (e : CallsEnd) : Type 0 where
+  pub end : StreamEnd
+  pub is_end : e ≡ as_end end
+  pub stands : IsEndOf bytes end
+  pub headless : HasNoHead bytes
 
-  -- such an end is a cut one, or the form of the head is not one that http takes
-  by_plan : (plan : BodyPlan) → plan_of head ≡ plan → (e : StreamEnd) → IsEndOf bytes e → (e ≡ Ends.Cut) ⊎ (e ≡ Ends.NotBuilt (is_bodiless head.method))
-  by_plan Plan.NotBuilt is e x = inr (one_end bytes e (Ends.NotBuilt (is_bodiless head.method)) x (head, after, begins, is, refl))
-  by_plan Plan.Unread is e x =
-      absurd (no_request_at_end bytes e (record { head = head; body = [] }) after x
-      (record { after = after; head = begins; body = subst (λ p. IsHttpBody p after [] after) (sym is) (refl, refl) }))
-  by_plan (Plan.Content n) is e x = inl (by_length n (nat_le n (length after)) refl is e x)
+-- a body is cut there
+record IsCutThere (largest : ℕ) (bytes : List ℕ) (e : CallsEnd) : Type 0 where
+  pub continued : Bool
+  pub is_end : e ≡ at_cut continued
+  pub cut : IsCutBody largest bytes continued
 
-  no_cut_head : IsCutHead bytes → ⊥
-  no_cut_head cut = no_gap bytes begins.0 after begins.1 (subst HasNoHeadText (sym (take_all HEAD_LIMIT bytes cut.0)) cut.1)
+sort_of : (largest : ℕ) (bytes : List ℕ) (e : CallsEnd) → IsEnd largest bytes e → IsHeadless bytes e ⊎ IsCutThere largest bytes e
+sort_of largest bytes at_clean x = inl (record { end = Ends.Clean; is_end = refl; stands = x; headless = blank_headless bytes x })
+sort_of largest bytes at_close x = absurd x
+sort_of largest bytes (at_cut false) (some, inl x) = inl (record { end = Ends.Cut; is_end = refl; stands = (some, inl x); headless = cut_headless bytes x })
+sort_of largest bytes (at_cut false) (some, inr x) = inr (record { continued = false; is_end = refl; cut = x })
+sort_of largest bytes (at_cut true) (some, x) = inr (record { continued = true; is_end = refl; cut = x })
+sort_of largest bytes (at_bad Word.Head bodiless) x = inl (record { end = Ends.Refused Word.Head bodiless; is_end = refl; stands = x; headless = bad_headless bytes x.0 })
+sort_of largest bytes (at_bad Word.Size bodiless) x = inl (record { end = Ends.Refused Word.Size bodiless; is_end = refl; stands = x; headless = large_headless bytes x.0 })
+sort_of largest bytes (at_bad Word.Framing bodiless) x = inl (record { end = Ends.Refused Word.Framing bodiless; is_end = refl; stands = x; headless = unframed_headless bytes bodiless x })
+sort_of largest bytes (at_bad Word.Host bodiless) x = absurd x
 
-  -- where a head stands, only its body can be cut
-  cut_there : (largest : ℕ) (e : StreamEnd) → IsEnd largest bytes e → (e ≡ Ends.Cut) × IsCutBody largest bytes
-  cut_there largest e x =
-      elim (sort_of largest bytes e x) [
-        | inl plain ↦ elim (by_plan (plan_of head) refl e plain.0) [
-          | inl cut ↦ absurd (no_cut_head (plain.1 cut))
-          | inr later ↦ absurd (subst (IsEnd largest bytes) later x)
-        ]
-        | inr cut ↦ cut
-      ]
+-- a body that is cut has no other fate, if it is not left
+no_fate_cut : (largest : ℕ) (framing : Framing) (plan : BodyUse) (after body rest : List ℕ) (fate : Fate) → is_unread plan ≡ false → (is_awaited plan ≡ true → stays_unread fate ≡ false) → Suits plan fate
+    → IsBehind largest framing after body fate rest → HasNoBody largest framing after Body.Cut → ⊥
+no_fate_cut largest framing plan after body rest read_whole read begun suits x cut = not_broken largest framing after body rest Body.Cut x cut
+no_fate_cut largest framing plan after body rest (broken_off why) read begun suits x cut = not_cut why (wrong_of plan why suits) (same_why largest framing after why Body.Cut x.0 cut)
+no_fate_cut largest framing Fed after body rest unread read begun suits x cut = suits
+no_fate_cut largest framing Awaited after body rest unread read begun suits x cut = let clash : true ≡ false = begun refl in cc
+no_fate_cut largest framing Dropped after body rest unread read begun suits x cut = suits
+no_fate_cut largest framing Unread after body rest unread read begun suits x cut = absurd (cc)
 
--- a body is not whole and cut
-no_cut_body : (plan : BodyUse) (after body rest : List ℕ) (n : ℕ) → IsBody plan after body rest → IsRead plan n → length after < n → ⊥
-no_cut_body (Fed m) after body rest n x is short = omega (arith, ap length x.0, length-append body rest, x.1, is, short)
-no_cut_body (Dropped m) after body rest n x is short = omega (arith, ap length x.0, length-append body rest, x.1, is, short)
-no_cut_body Unread after body rest n x is short = is
-
-no_call_cut : (largest : ℕ) (bytes : List ℕ) (m : Request) (rest : List ℕ) → TakesCall largest bytes m rest → IsCutBody largest bytes → ⊥
-no_call_cut largest bytes m rest x (head, after, n, begins, is, short) =
-    let heads = one_head bytes m.head head x.after after x.head begins in
-    no_cut_body (use_of largest m.head) x.after m.body rest n x.body
-    (subst (λ h. IsRead (use_of largest h) n) (sym heads.0) is) (subst (λ l. length l < n) (sym heads.1) short)
+no_call_cut : (largest : ℕ) (bytes : List ℕ) (continued left : Bool) (m : Taken) (rest : List ℕ) → Agrees largest left m → (continued ≡ true → left ≡ false) → TakesCall largest bytes m rest
+    → IsCutBody largest bytes continued → ⊥
+no_call_cut largest bytes continued left m rest says kept x (head, after, begins, read, awaits, cut) =
+    let heads = one_head bytes m.request.head head x.after after x.head begins in
+    let suits : Suits (use_of largest head) m.fate = subst (λ (h : Head). Suits (use_of largest h) m.fate) heads.0 x.suits in
+    let moved : is_awaited (use_of largest head) ≡ true → stays_unread m.fate ≡ left = subst (λ (h : Head). is_awaited (use_of largest h) ≡ true → stays_unread m.fate ≡ left) heads.0 says in
+    let begun : is_awaited (use_of largest head) ≡ true → stays_unread m.fate ≡ false = λ e. moved e ∙ kept (sym awaits ∙ e) in
+    let body : IsBehind largest head.framing after m.request.body m.fate rest =
+    subst₂ (λ (h : Head) l. IsBehind largest h.framing l m.request.body m.fate rest) heads.0 heads.1 x.body in
+    no_fate_cut largest head.framing (use_of largest head) after m.request.body rest m.fate read begun suits body cut
 
 -- a request and an end do not both stand there
-no_call_at_end : (largest : ℕ) (bytes : List ℕ) (e : StreamEnd) (m : Request) (rest : List ℕ) → IsEnd largest bytes e → TakesCall largest bytes m rest → ⊥
-no_call_at_end largest bytes e m rest x y = no_call_cut largest bytes m rest y (cut_there bytes m.head y.after y.head largest e x).1
+no_call_at_end : (largest : ℕ) (bytes : List ℕ) (left : Bool) (e : CallsEnd) (m : Taken) (rest : List ℕ) → (e ≡ at_cut true → left ≡ false) → Agrees largest left m → IsEnd largest bytes e
+    → TakesCall largest bytes m rest → ⊥
+no_call_at_end largest bytes left e m rest kept says x y =
+    elim (sort_of largest bytes e x) [
+      | inl plain ↦ plain.headless m.request.head y.after y.head
+      | inr there ↦ no_call_cut largest bytes there.continued left m rest says (λ is. kept (there.is_end ∙ ap at_cut is)) y there.cut
+    ]
 
-one_ending : (largest : ℕ) (bytes : List ℕ) (e f : StreamEnd) → IsEnd largest bytes e → IsEnd largest bytes f → e ≡ f
+-- where a body is cut, its head says whether a 100 was written
+one_cut : (largest : ℕ) (bytes : List ℕ) (a b : Bool) → IsCutBody largest bytes a → IsCutBody largest bytes b → a ≡ b
+one_cut largest bytes a b (head, after, begins, read, awaits, cut) (other, behind, starts, also, waits, broken) =
+    let heads = one_head bytes head other after behind begins starts in
+    sym awaits ∙ ap (λ (h : Head). is_awaited (use_of largest h)) heads.0 ∙ waits
+
+one_ending : (largest : ℕ) (bytes : List ℕ) (e f : CallsEnd) → IsEnd largest bytes e → IsEnd largest bytes f → e ≡ f
 one_ending largest bytes e f x y =
     elim (sort_of largest bytes e x) [
       | inl plain ↦ elim (sort_of largest bytes f y) [
-        | inl other ↦ one_end bytes e f plain.0 other.0
-        | inr cut ↦ (cut_there bytes cut.1.0 cut.1.1 cut.1.3 largest e x).0 ∙ sym cut.0
+        | inl other ↦ plain.is_end ∙ ap as_end (one_end bytes plain.end other.end plain.stands other.stands) ∙ sym other.is_end
+        | inr there ↦ absurd (plain.headless there.cut.0 there.cut.1 there.cut.2)
       ]
-      | inr cut ↦ cut.0 ∙ sym (cut_there bytes cut.1.0 cut.1.1 cut.1.3 largest f y).0
+      | inr there ↦ elim (sort_of largest bytes f y) [
+        | inl other ↦ absurd (other.headless there.cut.0 there.cut.1 there.cut.2)
+        | inr also ↦ there.is_end ∙ ap at_cut (one_cut largest bytes there.continued also.continued there.cut also.cut) ∙ sym also.is_end
+      ]
     ]
 
 -- ---- streams
 
 -- what follows a request, by whether its reply closes the connection
-abbrev Follows : ℕ → ℕ → Bool → List ℕ → List Request → StreamEnd → Type 0
-Follows largest k closed rest ms e = MatchBool closed ((ms ≡ []) × (e ≡ Ends.Closed)) (IsStreamFrom largest (suc k) rest ms e)
+abbrev Follows : ℕ → ℕ → Bool → List ℕ → List Taken → CallsEnd → Type 0
+Follows largest k closed rest ms e = MatchBool closed ((ms ≡ []) × (e ≡ at_close)) (IsStreamFrom largest (suc k) rest ms e)
 
-same_after : (largest k : ℕ) (closed : Bool) (rest : List ℕ) (ms ns : List Request) (e f : StreamEnd)
+same_after : (largest k : ℕ) (closed : Bool) (rest : List ℕ) (ms ns : List Taken) (e f : CallsEnd)
     → (IsStreamFrom largest (suc k) rest ms e → IsStreamFrom largest (suc k) rest ns f → (ms ≡ ns) × (e ≡ f))
     → Follows largest k closed rest ms e → Follows largest k closed rest ns f → (ms ≡ ns) × (e ≡ f)
 same_after largest k true rest ms ns e f further x y = (x.0 ∙ sym y.0, x.1 ∙ sym y.1)
 same_after largest k false rest ms ns e f further x y = further x y
 
-pub one_stream : (largest k : ℕ) (bytes : List ℕ) (ms ns : List Request) (e f : StreamEnd) → IsStreamFrom largest k bytes ms e → IsStreamFrom largest k bytes ns f → (ms ≡ ns) × (e ≡ f)
-one_stream largest k bytes [] [] e f x y = (refl, one_ending largest bytes e f x y)
-one_stream largest k bytes [] (n ∷ ns) e f x y = absurd (no_call_at_end largest bytes e n y.0 x y.1)
-one_stream largest k bytes (m ∷ ms) [] e f x y = absurd (no_call_at_end largest bytes f m x.0 y x.1)
-one_stream largest k bytes (m ∷ ms) (n ∷ ns) e f (rest, takes, after) (rest', takes', after') =
-    let first = one_call largest bytes m n rest rest' takes takes' in
-    let moved : Follows largest k (closes_at largest k m.head) rest ns f =
-    subst (λ (r : Request). Follows largest k (closes_at largest k r.head) rest ns f) (sym first.0) (subst (λ l. Follows largest k (closes_at largest k n.head) l ns f) (sym first.1) after') in
-    let others = same_after largest k (closes_at largest k m.head) rest ms ns e f (one_stream largest (suc k) rest ms ns e f) after moved in
+pub one_stream : (left : ℕ → Bool) (largest k : ℕ) (bytes : List ℕ) (ms ns : List Taken) (e f : CallsEnd) → IsStreamFrom largest k bytes ms e → AreLeft left largest k ms e
+    → IsStreamFrom largest k bytes ns f → AreLeft left largest k ns f → (ms ≡ ns) × (e ≡ f)
+one_stream left largest k bytes [] [] e f x u y v = (refl, one_ending largest bytes e f x y)
+one_stream left largest k bytes [] (n ∷ ns) e f x u y v = absurd (no_call_at_end largest bytes (left k) e n y.0 u v.0 x y.1)
+one_stream left largest k bytes (m ∷ ms) [] e f x u y v = absurd (no_call_at_end largest bytes (left k) f m x.0 v u.0 y x.1)
+one_stream left largest k bytes (m ∷ ms) (n ∷ ns) e f (rest, takes, after) u (rest', takes', after') v =
+    let first = one_call largest bytes (left k) m n rest rest' u.0 v.0 takes takes' in
+    let moved : Follows largest k (form_of k m.request.head m.fate).close rest ns f =
+    subst (λ (r : Taken). Follows largest k (form_of k r.request.head r.fate).close rest ns f) (sym first.0) (subst (λ l. Follows largest k (form_of k n.request.head n.fate).close l ns f) (sym first.1) after') in
+    let others = same_after largest k (form_of k m.request.head m.fate).close rest ms ns e f (λ a b. one_stream left largest (suc k) rest ms ns e f a u.1 b v.1) after moved in
     ((λ i. first.0 i ∷ others.0 i), others.1)

@@ -1,5 +1,5 @@
 -- A refusal before any name is looked at, as one request of a connection.
-use Rattle.std.proofs.Common.{◌≡◌, inr, [], List, Result, Ok, Err, refl, sym, subst, append-nil}
+use Rattle.std.proofs.Common.{◌≡◌, inr, ℕ, true, false, [], List, ◌++◌, Result, Ok, Err, refl, sym, ap, ◌∙◌, subst, append-nil}
 use Rattle.std.specs.Prelude.{IfOk, IfErr}
 use Rattle.std.proofs.KnownBytes.{Appends-nil}
 use Rattle.std.specs.Io.KnownBytes.{Appends}
@@ -12,53 +12,79 @@ use Rattle.realm_model.specs.declared.event.Event.{Event}
 use Rattle.swift_requests.specs.declared.asked.Asked.{Asked}
 use Rattle.swift_requests.specs.declared.asked.Asked.TheVariants.{BadHost, Refused, Put, Get, Listing}
 use Rattle.swift_requests.specs.declared.body.BodyUse.{BodyUse}
-use Rattle.call_words.specs.Calls.{alone as by_itself, IsRefused}
-use Rattle.call_service.specs.Serving.{Site, side}
+use Rattle.swift_requests.specs.Bodies.{body_use, is_unread, is_awaited}
+use Rattle.call_words.specs.Bodies.{Fate, read_whole, broken_off}
+use Rattle.call_words.specs.Texts.{continue_if}
+use Rattle.call_words.specs.Calls.{alone as by_itself, text_by, is_waiting, IsRefused}
+use Rattle.call_service.specs.Serving.{Site, side, form_at}
 use Rattle.call_service.specs.declared.fault.ServeFault.{ServeFault}
 use Rattle.call_service.specs.declared.fault.ServeFault.TheVariants as faults
 use Rattle.call_service.specs.declared.served.Served.{Served}
 use Rattle.call_service.specs.declared.served.Served.TheVariants as services
 use Rattle.gateway.specs.Calls.{MayBegin}
-use Rattle.gateway.specs.Requests.{IsUnanswered, Refuses, LeavesRefusal, Serves, Stops, LeavesAsked}
+use Rattle.gateway.specs.Requests.{IsUnanswered, Replies, RefusesAt, Refuses, LeavesRefusal, Serves, Stops, LeavesAsked, text_before}
+use Rattle.gateway.specs.Texts.{is_failing}
 use Rattle.gateway.proofs.Growing.{advances_none, new_moments}
 use Rattle.gateway.proofs.Turning.{same_left}
+use Rattle.gateway.proofs.Fates.{waits_so, refused_waits, read_suits, left_shut}
+use Rattle.gateway.proofs.Heads.{read_not_refusing}
 
-module _ (tells alone : Type 0) (site : Site) (head : Head) (asked : Asked) (refused : IsRefused asked) (plan : BodyUse) (form : ReplyForm)
+module _ (tells alone : Type 0) (site : Site) (head : Head) (asked : Asked) (refused : IsRefused asked) (largest : ℕ) (plan : BodyUse) (is_plan : plan ≡ body_use largest head asked) (form : ReplyForm) (shut : is_unread plan ≡ true → form.close ≡ true)
     (d : DoorView) (old new : IntakeState) (before after : EndsState) (may : tells → MayBegin site.settings d) (same_told : after.told ≡ before.told) where
   untold : Appends before.told after.told []
   untold = subst (λ l. Appends before.told l []) (sym same_told) (Appends-nil before.told)
 
-  unanswered : Appends before.taken after.taken [] → IsUnanswered tells alone site d d before.taken after.taken before.told after.told
+  no_wait : is_waiting asked head ≡ false
+  no_wait = refused_waits head asked refused
+
+  quiet_plan : is_awaited plan ≡ false
+  quiet_plan = ap is_awaited is_plan ∙ sym (waits_so largest head asked) ∙ no_wait
+
+  unanswered : Appends before.taken after.taken [] → IsUnanswered tells alone site (text_before plan) d d before.taken after.taken before.told after.told
   unanswered quiet = record {
-    unwritten = quiet;
+    written = subst (λ w. Appends before.taken after.taken (continue_if w read_whole)) (sym quiet_plan) quiet;
     moments = [];
     asked_clock = untold;
     each = λ is. sym (new_moments site.settings d (may is));
     left_by = λ is. same_left alone site d d (may is) refl;
   }
 
+  replies_at : (fate : Fate) → RefusesAt form asked plan fate old new before.left after.left (Appends before.taken after.taken)
+      → (r : Replies tells alone site head asked plan form fate (side d old before) (side d new after)) × (is_failing r.ground ≡ false)
+  replies_at fate (used, written) = (
+    record {
+      body = used.0;
+      taken = used.1;
+      ground = by_itself;
+      shown = [];
+      answered = record {
+        written = subst (λ w. Appends before.taken after.taken (continue_if w fate ++ text_by (form_at form fate) asked fate by_itself [])) (sym no_wait) written;
+        moments = [];
+        asked_clock = untold;
+        each = refl;
+        settled = λ is. record {
+          of_next = tt;
+          right = (refused, refl);
+          last = refl;
+          advances = advances_none site.settings d (may is);
+          only = λ _. record { more = []; grows = sym (append-nil d.seen); made = refl };
+        };
+      };
+    },
+    refl,
+  )
+
   refused_serves : (s : Served) → Refuses form asked plan old new before.left after.left before.taken after.taken s
       → Serves tells alone site head asked plan form (side d old before) (side d new after) s
-  refused_serves services.Replied (used, written) = record {
-    body = used.0;
-    taken = used.1;
-    ground = by_itself;
-    shown = [];
-    answered = record {
-      written = written;
-      moments = [];
-      asked_clock = untold;
-      each = refl;
-      settled = λ is. record {
-        of_next = tt;
-        right = (refused, refl);
-        last = refl;
-        advances = advances_none site.settings d (may is);
-        only = λ _. record { more = []; grows = sym (append-nil d.seen); made = refl };
-      };
-    };
-  }
-  refused_serves services.Cut (used, quiet) = record { is_read = used.0; body = used.1; cut = used.2; unanswered = unanswered quiet }
+  refused_serves services.Replied (fate, whole, at) =
+      let r = replies_at fate at in
+      (fate, whole, left_shut plan fate form.close quiet_plan at.0.1.0 whole shut, r.0, r.1)
+  refused_serves services.Closed (why, at) =
+      let r = replies_at (broken_off why) at in
+      let read = ap is_unread (sym is_plan) ∙ read_suits plan why at.0.1.0 in
+      (broken_off why, refl, read_not_refusing largest head asked read, r.0, r.1)
+  refused_serves services.Refused x = absurd x
+  refused_serves services.Cut (used, quiet) = record { is_read = used.0; cut = used.1; unanswered = unanswered quiet }
 
   module _ (found : List Event) where
     asked_leaves : (a : Asked) → IsRefused a → (fault : ServeFault) → LeavesRefusal form a plan old new before.left after.left before.taken after.taken fault
@@ -72,7 +98,7 @@ module _ (tells alone : Type 0) (site : Site) (head : Head) (asked : Asked) (ref
     refused_stops : (fault : ServeFault) → LeavesRefusal form asked plan old new before.left after.left before.taken after.taken fault
         → Stops tells alone site form asked plan found (side d old before) (side d new after) fault
     refused_stops faults.OutOfMemory x = inr (asked_leaves asked refused faults.OutOfMemory x)
-    refused_stops faults.ReadFault (left, quiet) = record { is_read = left.0; body = left.1; fails = left.2; unanswered = unanswered quiet }
+    refused_stops faults.ReadFault (left, quiet) = record { is_read = left.0; fails = left.1; unanswered = unanswered quiet }
     refused_stops faults.WriteFault x = inr (asked_leaves asked refused faults.WriteFault x)
     refused_stops faults.Worn x = absurd x
     refused_stops (faults.Late read_at clock) x = absurd x

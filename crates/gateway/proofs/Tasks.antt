@@ -1,7 +1,9 @@
 -- A task of the next actor of a pass, as one request of a connection.
-use Rattle.std.proofs.Common.{◌≡◌, inl, inr, ℕ, false, List, ◌++◌, Option, Result, Ok, Err, refl, sym, ap, ◌∙◌, subst}
+use Rattle.std.proofs.Common.{◌≡◌, inl, inr, ℕ, Bool, true, false, List, [], ◌++◌, Option, None, Result, Ok, Err, refl, sym, ap, ◌∙◌, subst, subst₂, append-nil}
 use Rattle.std.specs.Prelude.{IfOk, IfErr}
-use Rattle.std.specs.Io.KnownBytes.{Appends}
+use Rattle.std.proofs.KnownBytes.{Appends-trans}
+use Rattle.std.specs.Io.KnownBytes.{Consumes, Appends}
+use Rattle.http_chunks.specs.declared.body.BodyEnd.TheVariants as Body
 use Rattle.http_intake.specs.Intake.{IntakeState}
 use Rattle.http_model.specs.declared.head.Head.{Head}
 use Rattle.http_model.specs.declared.reply.ReplyForm.{ReplyForm}
@@ -13,14 +15,22 @@ use Rattle.realm_model.specs.Doors.{DoorView, actor_at}
 use Rattle.realm_model.specs.declared.event.Event.{Event}
 use Rattle.realm_door.specs.Steps.{actor_of_pass, next_count, begun}
 use Rattle.swift_requests.specs.declared.asked.Asked.{Asked}
+use Rattle.swift_requests.specs.Bodies.{is_unread, is_awaited}
+use Rattle.swift_requests.specs.declared.asked.Asked.TheVariants.{Put}
 use Rattle.swift_requests.specs.declared.body.BodyUse.{BodyUse}
-use Rattle.swift_requests.specs.declared.body.BodyUse.TheVariants.{Fed, Dropped, Unread}
+use Rattle.swift_requests.specs.declared.body.BodyUse.TheVariants.{Fed, Awaited, Dropped, Unread}
+use Rattle.task_words.specs.declared.command.PutCommand.{PutCommand}
 use Rattle.task_words.specs.declared.outcome.Outcome.{Outcome}
-use Rattle.call_words.specs.Calls.{task, IsBorneOut}
-use Rattle.call_words.specs.Streams.{IsRead}
-use Rattle.call_service.specs.Bodies.{HasGivenAll}
+use Rattle.task_words.specs.declared.outcome.Outcome.TheVariants.{BodyFailed}
+use Rattle.call_words.specs.Bodies.{Fate, read_whole, broken_off, unread, is_left, Suits}
+use Rattle.call_words.specs.Calls.{task, text_by, is_waiting, IsBorneOut}
+use Rattle.call_words.specs.Texts.{continue_text, continue_if}
+use Rattle.call_service.specs.Bodies.{HasFate, BreaksIn}
+use Rattle.call_service.specs.Waiting.{Continues, IsServedWaiting, IsStoppedWaiting, IsPutServed, IsPutStopped}
+use Rattle.call_service.proofs.Asking.{both_ask}
+use Rattle.call_service.proofs.Passing.{left_given, give_all, break_behind}
 use Rattle.call_service.proofs.Replying.{any_actor}
-use Rattle.call_service.specs.Serving.{Site, Side, side, own_moments, Acts, is_by_end, Tells, BearsOut, IsReplied, LeavesUnwritten, IsServed, IsStopped}
+use Rattle.call_service.specs.Serving.{Site, Side, side, own_moments, Acts, Asks, is_by_end, Tells, form_at, BearsOut, IsReplied, LeavesUnwritten, IsServed, IsStopped}
 use Rattle.call_service.specs.declared.fault.ServeFault.{ServeFault}
 use Rattle.call_service.specs.declared.fault.ServeFault.TheVariants as faults
 use Rattle.call_service.specs.declared.served.Served.{Served}
@@ -28,15 +38,12 @@ use Rattle.call_service.specs.declared.served.Served.TheVariants as services
 use Rattle.realm_model.specs.Settings.{SettingsView}
 use Rattle.task_words.specs.declared.asker.Asker.{Asker}
 use Rattle.gateway.specs.Calls.{standard_asker, site_of, MayBegin, IsSettled}
-use Rattle.gateway.specs.Requests.{TakesBody, IsLeftBy, IsUnanswered, Replies, LeavesTask, LeavesAsked, ServesTask, StopsTask}
+use Rattle.gateway.specs.Requests.{IsLeftBy, IsUnanswered, Replies, LeavesAsked, Serves, Stops, text_before}
 use Rattle.gateway.proofs.Growing.{new_actor, new_moments, grown_count, grown_most, advances_one}
+use Rattle.gateway.specs.Texts.{is_failing, is_refusing}
 use Rattle.gateway.proofs.Deciding.{not_blank}
-
--- a body that was given whole was taken, where it is read
-pub given_taken : (plan : BodyUse) (n : ℕ) (old new : IntakeState) (a b : Option (List ℕ)) (body : List ℕ) → IsRead plan n → HasGivenAll old new a b body → TakesBody plan old new a b body
-given_taken (Fed m) n old new a b body is_read x = x
-given_taken (Dropped m) n old new a b body is_read x = x
-given_taken Unread n old new a b body is_read x = absurd is_read
+use Rattle.gateway.proofs.Fates.{IsReadIn, fed_suits, fed_read, fed_open, left_shut, unread_quiet, not_failing}
+use Rattle.gateway.proofs.Heads.{IsOfPut}
 
 module _ (alone : Type 0) (site : Site) (d e : DoorView) (moments : List ℕ) (may : MayBegin site.settings d) (acts : Acts alone site.settings (begun d) e moments) where
   actor : ActorId
@@ -55,84 +62,271 @@ module _ (alone : Type 0) (site : Site) (d e : DoorView) (moments : List ℕ) (m
     only = λ is. let o = acts.only is in (o.more, o.grows, o.own);
   }
 
-  pub settled_by : (asked : Asked) (head : Head) (body shown : List ℕ) (outcome : Outcome) → BearsOut site asked body outcome shown e
-      → IsSettled alone site d e (record { request = record { head = head; body = body }; asked = asked; ground = task (next_count d) outcome; shown = shown })
-  settled_by asked head body shown outcome right =
+  pub settled_by : (asked : Asked) (head : Head) (fate : Fate) (body shown : List ℕ) (outcome : Outcome) → BearsOut site asked fate body outcome shown e
+      → IsSettled alone site d e (record { request = record { head = head; body = body }; asked = asked; fate = fate; ground = task (next_count d) outcome; shown = shown })
+  settled_by asked head fate body shown outcome right =
       let own = actor_of_pass d.pass (next_count d) in
-      let there : IsBorneOut site.zone site.asker asked body outcome shown (account_of site.settings e.seen own) (own_events e.seen own) =
-      subst (λ (a : ActorId). IsBorneOut site.zone site.asker asked body outcome shown (account_of site.settings e.seen a) (own_events e.seen a)) same_actor_at right in
+      let there : IsBorneOut site.zone site.asker asked fate body outcome shown (account_of site.settings e.seen own) (own_events e.seen own) =
+      subst (λ (a : ActorId). IsBorneOut site.zone site.asker asked fate body outcome shown (account_of site.settings e.seen a) (own_events e.seen a)) same_actor_at right in
       record {
         of_next = refl;
         right = there;
         last = elim (grown_count site.settings d e acts.grows) [
           | inl next ↦ next
           | inr same ↦
-              absurd (not_blank site.zone site.asker asked body shown outcome (own_events e.seen own)
-              (subst (λ (y : Account). IsBorneOut site.zone site.asker asked body outcome shown y (own_events e.seen own))
+              absurd (not_blank site.zone site.asker asked fate body shown outcome (own_events e.seen own)
+              (subst (λ (y : Account). IsBorneOut site.zone site.asker asked fate body outcome shown y (own_events e.seen own))
               (ap (λ (v : DoorView). account_of site.settings v.seen own) same ∙ (new_actor site.settings d may).account) there))
         ];
         advances = advances_one site.settings d e may acts.legal acts.grows;
         only = λ is. let o = acts.only is in record { more = o.more; grows = o.grows; made = o.own };
       }
 
+-- ---- behind a 100
+
+-- what is so behind a 100 is so behind the head: nothing of the body was read before it
+moved_fate : (fate : Fate) (old mid new : IntakeState) (a m b : Option (List ℕ)) (body : List ℕ) → IsReadIn fate → old.failed ≡ None → mid ≡ old → Consumes a m []
+    → HasFate fate mid new m b body → HasFate fate old new a b body
+moved_fate read_whole old mid new a m b body some sound same quiet x =
+    give_all old mid a m b [] body new (left_given old mid a m sound same quiet) x
+moved_fate (broken_off why) old mid new a m b body some sound same quiet (wrong, breaks, none) =
+    (wrong, break_behind old mid a m b [] why (left_given old mid a m sound same quiet) breaks, none)
+moved_fate unread old mid new a m b body some sound same quiet x = absurd some
+
+-- a task ended so over a body of that fate, and its whole reply was written behind this text
+pub record IsRepliedBehind (tells alone : Type 0) (site : Site) (form : ReplyForm) (asked : Asked) (text : List ℕ) (fate : Fate) (x y : Side) : Type 0 where
+  pub body : List ℕ
+  pub has_fate : HasFate fate x.intake y.intake x.ends.left y.ends.left body
+  pub outcome : Outcome
+  pub shown : List ℕ
+  pub written : Appends x.ends.taken y.ends.taken (text ++ text_by (form_at form fate) asked fate (task x.door.count outcome) shown)
+  pub right : tells → BearsOut site asked fate body outcome shown y.door
+  pub asks : Asks tells alone site.settings (is_by_end outcome) x.door y.door x.ends.told y.ends.told
+
+module _ (tells alone : Type 0) (site : Site) (form : ReplyForm) (asked : Asked) where
+  at_once : (fate : Fate) (x y : Side) → IsReplied tells alone site form asked fate x y → IsRepliedBehind tells alone site form asked [] fate x y
+  at_once fate x y r = record {
+    body = r.body;
+    has_fate = r.has_fate;
+    outcome = r.outcome;
+    shown = r.shown;
+    written = r.written;
+    right = r.right;
+    asks = r.asks;
+  }
+
+  module _ (c : PutCommand) (x m y : Side) (sound : x.intake.failed ≡ None) (went : Continues tells alone site c x m) where
+    behind_continue : (fate : Fate) → IsReadIn fate → IsReplied tells alone site form asked fate m y → IsRepliedBehind tells alone site form asked continue_text fate x y
+    behind_continue fate some r = record {
+      body = r.body;
+      has_fate = moved_fate fate x.intake m.intake y.intake x.ends.left m.ends.left y.ends.left r.body some sound went.intake went.unread r.has_fate;
+      outcome = r.outcome;
+      shown = r.shown;
+      written =
+          let text = text_by (form_at form fate) asked fate (task x.door.count r.outcome) r.shown in
+          Appends-trans x.ends.taken m.ends.taken y.ends.taken continue_text text went.written
+          (subst (Appends m.ends.taken y.ends.taken) (any_actor (form_at form fate) asked fate r.outcome r.shown m.door.count x.door.count) r.written);
+      right = r.right;
+      asks = both_ask tells alone site.settings site.settings (is_by_end r.outcome) x.door m.door y.door x.ends.told m.ends.told y.ends.told refl went.asks r.asks;
+    }
+
+    quiet_behind : LeavesUnwritten tells alone site false m y
+        → Appends x.ends.taken y.ends.taken continue_text × Asks tells alone site.settings false x.door y.door x.ends.told y.ends.told
+    quiet_behind u = (
+      subst (Appends x.ends.taken y.ends.taken) (append-nil continue_text)
+          (Appends-trans x.ends.taken m.ends.taken y.ends.taken continue_text [] went.written u.unwritten),
+      both_ask tells alone site.settings site.settings false x.door m.door y.door x.ends.told m.ends.told y.ends.told refl went.asks u.asks,
+    )
+
+    cut_behind : BreaksIn m.intake m.ends.left y.ends.left Body.Cut → BreaksIn x.intake x.ends.left y.ends.left Body.Cut
+    cut_behind breaks =
+        break_behind x.intake m.intake x.ends.left m.ends.left y.ends.left [] Body.Cut
+        (left_given x.intake m.intake x.ends.left m.ends.left sound went.intake went.unread) breaks
+
+-- ---- the next actor's task
+
 module _ (tells alone : Type 0) (site : Site) (form : ReplyForm) (asked : Asked) (z : Side) (b : DoorView) (y : Side)
     (may : tells → MayBegin site.settings z.door) (begins : tells → b ≡ begun z.door) where
   acts_from : (is : tells) (moments : List ℕ) → Acts alone site.settings b y.door moments → Acts alone site.settings (begun z.door) y.door moments
   acts_from is moments acts = subst (λ (d : DoorView). Acts alone site.settings d y.door moments) (begins is) acts
 
-  replied : (head : Head) (plan : BodyUse) → IsRead plan z.intake.body_left → IsReplied tells alone site form asked (side b z.intake z.ends) y
-      → Replies tells alone site head asked plan form z y
-  replied head plan is_read r = record {
+  replied : (head : Head) (plan : BodyUse) (fate : Fate) (text : List ℕ) → Suits plan fate → text ≡ continue_if (is_waiting asked head) fate
+      → IsRepliedBehind tells alone site form asked text fate (side b z.intake z.ends) y → Replies tells alone site head asked plan form fate z y
+  replied head plan fate text suits is r = record {
     body = r.body;
-    taken = given_taken plan z.intake.body_left z.intake y.intake z.ends.left y.ends.left r.body is_read r.given;
+    taken = (suits, r.has_fate);
     ground = task (next_count z.door) r.outcome;
     shown = r.shown;
     answered = record {
-      written = subst (Appends z.ends.taken y.ends.taken) (any_actor form asked r.outcome r.shown b.count (next_count z.door)) r.written;
+      written =
+          let reply = text_by (form_at form fate) asked fate (task (next_count z.door) r.outcome) r.shown in
+          subst (λ l. Appends z.ends.taken y.ends.taken (l ++ reply)) is
+          (subst (λ l. Appends z.ends.taken y.ends.taken (text ++ l)) (any_actor (form_at form fate) asked fate r.outcome r.shown b.count (next_count z.door)) r.written);
       moments = r.asks.clock;
       asked_clock = r.asks.asked_clock;
       each = λ is. subst (Tells (is_by_end r.outcome) r.asks.clock)
           (all_own alone site z.door y.door r.asks.moments (may is) (acts_from is r.asks.moments (r.asks.acts is))) r.asks.each;
       settled = λ is. settled_by alone site z.door y.door r.asks.moments (may is) (acts_from is r.asks.moments (r.asks.acts is))
-          asked head r.body r.shown r.outcome (r.right is);
+          asked head fate r.body r.shown r.outcome (r.right is);
     };
   }
 
-  unanswered : LeavesUnwritten tells alone site false (side b z.intake z.ends) y → IsUnanswered tells alone site z.door y.door z.ends.taken y.ends.taken z.ends.told y.ends.told
-  unanswered u = record {
-    unwritten = u.unwritten;
-    moments = u.asks.clock;
-    asked_clock = u.asks.asked_clock;
+  unanswered : (text : List ℕ) → Appends z.ends.taken y.ends.taken text → Asks tells alone site.settings false b y.door z.ends.told y.ends.told
+      → IsUnanswered tells alone site text z.door y.door z.ends.taken y.ends.taken z.ends.told y.ends.told
+  unanswered text written asks = record {
+    written = written;
+    moments = asks.clock;
+    asked_clock = asks.asked_clock;
     each = λ is.
-        let told : u.asks.clock ≡ u.asks.moments = u.asks.each in
-        told ∙ all_own alone site z.door y.door u.asks.moments (may is) (acts_from is u.asks.moments (u.asks.acts is));
-    left_by = λ is. left_by alone site z.door y.door u.asks.moments (may is) (acts_from is u.asks.moments (u.asks.acts is));
+        let told : asks.clock ≡ asks.moments = asks.each in
+        told ∙ all_own alone site z.door y.door asks.moments (may is) (acts_from is asks.moments (asks.acts is));
+    left_by = λ is. left_by alone site z.door y.door asks.moments (may is) (acts_from is asks.moments (asks.acts is));
   }
 
-  served : (s : Served) → IsServed tells alone site form asked (side b z.intake z.ends) y s → ServesTask tells alone site asked form z y s
-  served services.Replied r = λ head plan is_read. replied head plan is_read r
-  served services.Cut (body, cut, u) = λ head plan is_read. record { is_read = is_read; body = body; cut = cut; unanswered = unanswered u }
+  -- no 100 is waited for
+  module _ (head : Head) (plan : BodyUse) (no_wait : is_waiting asked head ≡ false) (quiet : is_awaited plan ≡ false) where
+    no_text : (fate : Fate) → [] ≡ continue_if (is_waiting asked head) fate
+    no_text fate = ap (λ w. continue_if w fate) (sym no_wait)
 
-  module _ (found : List Event)
-      (lift : (plan : BodyUse) (fault : ServeFault) → LeavesTask tells alone site form asked found z y fault → LeavesAsked tells alone site form asked plan found z y fault) where
-    stopped : (fault : ServeFault) → IsStopped tells alone site form asked found (side b z.intake z.ends) y fault → StopsTask tells alone site form asked found z y fault
-    stopped faults.ReadFault (body, fails, u) = λ plan is_read. record { is_read = is_read; body = body; fails = fails; unanswered = unanswered u }
-    stopped faults.OutOfMemory x = λ plan is_read. inr (lift plan faults.OutOfMemory (b, begins, x))
-    stopped faults.WriteFault x = λ plan is_read. inr (lift plan faults.WriteFault (b, begins, x))
-    stopped faults.Worn x = λ plan is_read. inr (lift plan faults.Worn (b, begins, x))
-    stopped (faults.Late read_at clock) x = λ plan is_read. inr (lift plan (faults.Late read_at clock) (b, begins, x))
+    plain : (fate : Fate) → Suits plan fate → IsReplied tells alone site form asked fate (side b z.intake z.ends) y → Replies tells alone site head asked plan form fate z y
+    plain fate suits r = replied head plan fate [] suits (no_text fate) (at_once tells alone site form asked fate (side b z.intake z.ends) y r)
 
-    pub stopped_task : (other : Site) (result : Result Served ServeFault) → other ≡ site → IfErr result (IsStopped tells alone other form asked found (side b z.intake z.ends) y)
-        → IfErr result (StopsTask tells alone site form asked found z y)
-    stopped_task other (Ok s) same x = tt
-    stopped_task other (Err fault) same x =
-        stopped fault (subst (λ (t : Site). IsStopped tells alone t form asked found (side b z.intake z.ends) y fault) same x)
+    plainly : LeavesUnwritten tells alone site false (side b z.intake z.ends) y → IsUnanswered tells alone site (text_before plan) z.door y.door z.ends.taken y.ends.taken z.ends.told y.ends.told
+    plainly u =
+        unanswered (text_before plan) (subst (λ w. Appends z.ends.taken y.ends.taken (continue_if w read_whole)) (sym quiet) u.unwritten) u.asks
 
-  pub served_task : (other : Site) (result : Result Served ServeFault) → other ≡ site → IfOk result (IsServed tells alone other form asked (side b z.intake z.ends) y)
-      → IfOk result (ServesTask tells alone site asked form z y)
-  served_task other (Ok s) same x =
-      served s (subst (λ (t : Site). IsServed tells alone t form asked (side b z.intake z.ends) y s) same x)
-  served_task other (Err fault) same x = tt
+    module _ (not_refusing : is_refusing asked ≡ false) (shut : is_unread plan ≡ true → form.close ≡ true) where
+      pub served : (s : Served) → IsServed tells alone site form asked plan (side b z.intake z.ends) y s → Serves tells alone site head asked plan form z y s
+      unfolding plain replied at_once
+      served services.Replied (fate, suits, whole, r, not) =
+          (fate, whole, left_shut plan fate form.close quiet suits whole shut, plain fate suits r, not_failing (next_count z.door) r.outcome not)
+      served services.Closed (fate, suits, left, r, not) = (fate, left, not_refusing, plain fate suits r, not_failing (next_count z.door) r.outcome not)
+      served services.Refused (why, suits, r, is) = (why, plain (broken_off why) suits r, ap (λ o. is_failing (task (next_count z.door) o)) is)
+      served services.Cut (read, cut, u) = record { is_read = read; cut = cut; unanswered = plainly u }
+
+    module _ (found : List Event) (lift : (fault : ServeFault) → IsStopped tells alone site form asked plan found (side b z.intake z.ends) y fault → LeavesAsked tells alone site form asked plan found z y fault) where
+      pub stopped : (fault : ServeFault) → IsStopped tells alone site form asked plan found (side b z.intake z.ends) y fault → Stops tells alone site form asked plan found z y fault
+      stopped faults.ReadFault (read, fails, u) = record { is_read = read; fails = fails; unanswered = plainly u }
+      stopped faults.OutOfMemory x = inr (lift faults.OutOfMemory x)
+      stopped faults.WriteFault x = inr (lift faults.WriteFault x)
+      stopped faults.Worn x = inr (lift faults.Worn x)
+      stopped (faults.Late read_at clock) x = inr (lift (faults.Late read_at clock) x)
+
+-- ---- a PUT that waits for a 100
+
+module _ (tells alone : Type 0) (site : Site) (form : ReplyForm) (c : PutCommand) (z : Side) (b : DoorView) (y : Side)
+    (may : tells → MayBegin site.settings z.door) (begins : tells → b ≡ begun z.door) (head : Head) (waiting : is_waiting (Put c) head ≡ true) (sound : z.intake.failed ≡ None) where
+  abbrev start : Side
+  start = side b z.intake z.ends
+
+  -- the body was left
+  left_so : (fate : Fate) → Suits Unread fate → is_left fate ≡ true → (r : IsReplied tells alone site form (Put c) fate start y) → (r.outcome ≡ BodyFailed → ⊥)
+      → Serves tells alone site head (Put c) Awaited form z y services.Closed
+  unfolding replied at_once
+  left_so unread suits left r not = (
+    unread,
+    refl,
+    refl,
+    replied tells alone site form (Put c) z b y may begins head Awaited unread [] tt (unread_quiet (is_waiting (Put c) head)) (at_once tells alone site form (Put c) unread start y r),
+    not_failing (next_count z.door) r.outcome not,
+  )
+  left_so read_whole suits left r not = absurd suits
+  left_so (broken_off why) suits left r not = absurd suits
+
+  continued : (fate : Fate) → IsReadIn fate → continue_text ≡ continue_if (is_waiting (Put c) head) fate
+  continued read_whole some = ap (λ w. continue_if w read_whole) (sym waiting)
+  continued (broken_off why) some = ap (λ w. continue_if w (broken_off why)) (sym waiting)
+  continued unread some = absurd some
+
+  module _ (m : Side) (went : Continues tells alone site c start m) where
+    behind : (fate : Fate) → Suits Fed fate → IsReadIn fate → IsReplied tells alone site form (Put c) fate m y → Replies tells alone site head (Put c) Awaited form fate z y
+    behind fate suits some r =
+        replied tells alone site form (Put c) z b y may begins head Awaited fate continue_text (fed_suits fate suits) (continued fate some)
+        (behind_continue tells alone site form (Put c) c start m y sound went fate some r)
+
+    quietly : LeavesUnwritten tells alone site false m y → IsUnanswered tells alone site (text_before Awaited) z.door y.door z.ends.taken y.ends.taken z.ends.told y.ends.told
+    quietly u =
+        let q = quiet_behind tells alone site form (Put c) c start m y sound went u in
+        unanswered tells alone site form (Put c) z b y may begins continue_text q.0 q.1
+
+    served_behind : (s : Served) → IsServed tells alone site form (Put c) Fed m y s → Serves tells alone site head (Put c) Awaited form z y s
+    unfolding behind replied behind_continue
+    served_behind services.Replied (fate, suits, whole, r, not) =
+        (fate, whole, fed_open fate form.close suits whole, behind fate suits (fed_read fate suits) r, not_failing (next_count z.door) r.outcome not)
+    served_behind services.Closed (fate, suits, left, r, not) = (fate, left, refl, behind fate suits (fed_read fate suits) r, not_failing (next_count z.door) r.outcome not)
+    served_behind services.Refused (why, suits, r, is) =
+        (why, behind (broken_off why) suits tt r, ap (λ o. is_failing (task (next_count z.door) o)) is)
+    served_behind services.Cut (read, cut, u) =
+        record { is_read = refl; cut = (cut_behind tells alone site form (Put c) c start m y sound went cut.0, cut.1); unanswered = quietly u }
+
+  pub served_waiting : (s : Served) → IsServedWaiting tells alone site form c start y s → Serves tells alone site head (Put c) Awaited form z y s
+  served_waiting s (inl (is, (fate, suits, left, r, not))) =
+      subst (λ t. Serves tells alone site head (Put c) Awaited form z y t) (sym is) (left_so fate suits left r not)
+  served_waiting s (inr x) = served_behind x.between x.continues s x.goes
+
+  module _ (found : List Event) where
+    abbrev lifted : (fault : ServeFault) → IsStoppedWaiting tells alone site form c found start y fault → LeavesAsked tells alone site form (Put c) Awaited found z y fault
+    lifted fault x = (b, begins, x)
+
+    pub stopped_waiting : (fault : ServeFault) → IsStoppedWaiting tells alone site form c found start y fault → Stops tells alone site form (Put c) Awaited found z y fault
+    stopped_waiting faults.ReadFault (inl (read, fails, u)) = absurd (cc)
+    stopped_waiting faults.ReadFault (inr (inl (is, front))) = absurd (cc)
+    stopped_waiting faults.ReadFault (inr (inr x)) =
+        let goes : IsStopped tells alone site form (Put c) Fed found x.between y faults.ReadFault = x.goes in
+        record { is_read = refl; fails = cut_behind tells alone site form (Put c) c start x.between y sound x.continues goes.1; unanswered = quietly x.between x.continues goes.2 }
+    stopped_waiting faults.OutOfMemory x = inr (lifted faults.OutOfMemory x)
+    stopped_waiting faults.WriteFault x = inr (lifted faults.WriteFault x)
+    stopped_waiting faults.Worn x = inr (lifted faults.Worn x)
+    stopped_waiting (faults.Late read_at clock) x = inr (lifted (faults.Late read_at clock) x)
+
+-- ---- any PUT
+
+module _ (tells alone : Type 0) (site : Site) (form : ReplyForm) (c : PutCommand) (z : Side) (b : DoorView) (y : Side)
+    (may : tells → MayBegin site.settings z.door) (begins : tells → b ≡ begun z.door) (head : Head) (sound : z.intake.failed ≡ None) where
+  put_served : (plan : BodyUse) → IsOfPut plan → is_waiting (Put c) head ≡ is_awaited plan → (s : Served) → IsPutServed (is_awaited plan) tells alone site form c (side b z.intake z.ends) y s
+      → Serves tells alone site head (Put c) plan form z y s
+  put_served Fed of waits s x = served tells alone site form (Put c) z b y may begins head Fed waits refl refl (λ e. absurd (cc)) s x
+  put_served Awaited of waits s x = served_waiting tells alone site form c z b y may begins head waits sound s x
+  put_served Dropped of waits s x = absurd of
+  put_served Unread of waits s x = absurd of
+
+  put_stopped : (plan : BodyUse) → IsOfPut plan → is_waiting (Put c) head ≡ is_awaited plan → (found : List Event) (fault : ServeFault)
+      → IsPutStopped (is_awaited plan) tells alone site form c found (side b z.intake z.ends) y fault → Stops tells alone site form (Put c) plan found z y fault
+  put_stopped Fed of waits found fault x = stopped tells alone site form (Put c) z b y may begins head Fed waits refl found (λ f t. (b, begins, t)) fault x
+  put_stopped Awaited of waits found fault x = stopped_waiting tells alone site form c z b y may begins head waits sound found fault x
+  put_stopped Dropped of waits found fault x = absurd of
+  put_stopped Unread of waits found fault x = absurd of
+
+  pub put_served_if : (plan : BodyUse) (waits : Bool) → IsOfPut plan → is_waiting (Put c) head ≡ is_awaited plan → waits ≡ is_awaited plan → (other : Site) (result : Result Served ServeFault) → other ≡ site
+      → IfOk result (IsPutServed waits tells alone other form c (side b z.intake z.ends) y) → IfOk result (Serves tells alone site head (Put c) plan form z y)
+  put_served_if plan waits of own is other (Ok s) same x =
+      put_served plan of own s (subst₂ (λ (w : Bool) (t : Site). IsPutServed w tells alone t form c (side b z.intake z.ends) y s) is same x)
+  put_served_if plan waits of own is other (Err fault) same x = tt
+
+  pub put_stopped_if : (plan : BodyUse) (waits : Bool) → IsOfPut plan → is_waiting (Put c) head ≡ is_awaited plan → waits ≡ is_awaited plan → (other : Site) (found : List Event) (result : Result Served ServeFault) → other ≡ site
+      → IfErr result (IsPutStopped waits tells alone other form c found (side b z.intake z.ends) y) → IfErr result (Stops tells alone site form (Put c) plan found z y)
+  put_stopped_if plan waits of own is other found (Ok s) same x = tt
+  put_stopped_if plan waits of own is other found (Err fault) same x =
+      put_stopped plan of own found fault (subst₂ (λ (w : Bool) (t : Site). IsPutStopped w tells alone t form c found (side b z.intake z.ends) y fault) is same x)
+
+-- ---- a GET, a HEAD or a listing
+
+module _ (tells alone : Type 0) (site : Site) (form : ReplyForm) (asked : Asked) (z : Side) (b : DoorView) (y : Side)
+    (may : tells → MayBegin site.settings z.door) (begins : tells → b ≡ begun z.door) (head : Head) (plan : BodyUse) (no_wait : is_waiting asked head ≡ false) (quiet : is_awaited plan ≡ false) where
+  pub unwanted_served : (own_plan : BodyUse) → own_plan ≡ plan → is_refusing asked ≡ false → (is_unread plan ≡ true → form.close ≡ true) → (other : Site) (result : Result Served ServeFault) → other ≡ site
+      → IfOk result (IsServed tells alone other form asked own_plan (side b z.intake z.ends) y) → IfOk result (Serves tells alone site head asked plan form z y)
+  unwanted_served own_plan is not shut other (Ok s) same x =
+      served tells alone site form asked z b y may begins head plan no_wait quiet not shut s
+      (subst₂ (λ (p : BodyUse) (t : Site). IsServed tells alone t form asked p (side b z.intake z.ends) y s) is same x)
+  unwanted_served own_plan is not shut other (Err fault) same x = tt
+
+  pub unwanted_stopped : (own_plan : BodyUse) → own_plan ≡ plan → (found : List Event) → ((fault : ServeFault) → IsStopped tells alone site form asked plan found (side b z.intake z.ends) y fault → LeavesAsked tells alone site form asked plan found z y fault)
+      → (other : Site) (result : Result Served ServeFault) → other ≡ site
+      → IfErr result (IsStopped tells alone other form asked own_plan found (side b z.intake z.ends) y) → IfErr result (Stops tells alone site form asked plan found z y)
+  unwanted_stopped own_plan is found lift other (Ok s) same x = tt
+  unwanted_stopped own_plan is found lift other (Err fault) same x =
+      stopped tells alone site form asked z b y may begins head plan no_wait quiet found lift fault
+      (subst₂ (λ (p : BodyUse) (t : Site). IsStopped tells alone t form asked p found (side b z.intake z.ends) y fault) is same x)
 
 -- where the one user asks under the own account
 pub site_is : (now settings : SettingsView) (zone : ℕ) (asker : Asker) → now ≡ settings → asker ≡ standard_asker

@@ -1,13 +1,13 @@
 -- One request of a connection, from its head on.
-use Rattle.std.proofs.Common.{◌≡◌, inl, inr, ℕ, suc, ◌<◌, Bool, true, false, ◌||◌, List, [], ◌∷◌, ◌++◌, length, Option, refl, sym, ap, ◌∙◌, subst, append_assoc, append-nil, arith}
+use Rattle.std.proofs.Common.{◌≡◌, inl, inr, ℕ, suc, Bool, true, false, List, [], ◌∷◌, ◌++◌, Option, refl, sym, ap, ◌∙◌, subst, append_assoc, append-nil, arith}
 use Rattle.std.specs.Prelude.{MatchBool}
 use Rattle.std.proofs.KnownBytes.{Consumes-nil, Consumes-trans, Appends-nil}
 use Rattle.std.specs.Io.KnownBytes.{Consumes, Appends}
-use Rattle.http_intake.specs.Intake.{IntakeState}
+use Rattle.http_chunks.specs.declared.body.BodyEnd.TheVariants as Body
+use Rattle.http_intake.specs.Grammar.{IsBroken}
 use Rattle.http_model.specs.declared.head.Head.{Head}
-use Rattle.http_model.specs.declared.head.Request.{Request}
+use Rattle.http_model.specs.Forms.{is_bodiless}
 use Rattle.http_model.specs.declared.reply.ReplyForm.{ReplyForm}
-use Rattle.http_model.specs.declared.reply.StreamEnd.TheVariants as Ends
 use Rattle.http_model.specs.Heads.{BeginsWith}
 use Rattle.http_model.proofs.PlainLemmas.{begun_not_blank}
 use Rattle.http_model.proofs.StreamLaws.{more_head}
@@ -15,49 +15,30 @@ use Rattle.realm_model.specs.Doors.{DoorView}
 use Rattle.realm_model.specs.declared.event.Event.{Event}
 use Rattle.realm_door.specs.Steps.{next_count, begun}
 use Rattle.swift_requests.specs.Asks.{asked_of}
-use Rattle.swift_requests.specs.Bodies.{is_unread, closes}
+use Rattle.swift_requests.specs.Bodies.{is_unread, is_awaited}
 use Rattle.swift_requests.specs.declared.asked.Asked.{Asked}
 use Rattle.swift_requests.specs.declared.asked.Asked.TheVariants.{BadHost, Refused, Put, Get, Listing}
 use Rattle.swift_requests.specs.declared.body.BodyUse.{BodyUse}
-use Rattle.swift_requests.specs.declared.body.BodyUse.TheVariants.{Fed, Dropped, Unread}
-use Rattle.call_words.specs.Calls.{Ground, Call, call_text, actor_after}
-use Rattle.call_words.specs.Streams.{use_of, closes_at, form_of, IsRead, IsBody, TakesCall, IsEnd, IsStreamFrom}
-use Rattle.call_service.specs.Serving.{Site, Side, side, Acts, IsStopped}
+use Rattle.call_words.specs.Bodies.{Fate, read_whole, broken_off, unread}
+use Rattle.call_words.specs.Calls.{Ground, Call, whole_text, actor_after}
+use Rattle.call_words.specs.Streams.{use_of, form_of, at_close, at_cut, Taken, TakesCall, IsCutBody, IsCutRequest, IsEnd, IsStreamFrom}
+use Rattle.call_service.specs.Bodies.{BreaksIn}
+use Rattle.call_service.specs.Serving.{Site, Side, side, Acts, Asks, form_at, IsLeft, IsStopped}
+use Rattle.call_service.specs.Waiting.{IsBehindContinue, IsStoppedWaiting, IsPutStopped}
+use Rattle.call_service.proofs.Asking.{both_ask}
+use Rattle.task_words.specs.declared.command.PutCommand.{PutCommand}
+use Rattle.swift_requests.specs.declared.body.BodyUse.TheVariants as uses
 use Rattle.call_service.specs.declared.fault.ServeFault.{ServeFault}
 use Rattle.call_service.specs.declared.fault.ServeFault.TheVariants as faults
 use Rattle.gateway.specs.declared.serve.ConnEnd.TheVariants as conn
-use Rattle.gateway.specs.Texts.{closing_end}
+use Rattle.gateway.specs.Texts.{form_before, closing_end}
 use Rattle.gateway.specs.Calls.{MayBegin, IsSettled, AreSettled}
-use Rattle.gateway.specs.Requests.{IsReady, TakesBody, IsAnswered, IsLeftBy, IsUnanswered, Replies, IsCut, IsFailed, LeavesAsked, LeavesRequest, Stops}
+use Rattle.gateway.specs.Requests.{IsReady, TakesBody, IsAnswered, IsLeftBy, IsUnanswered, Replies, text_before, IsCut, IsFailed, LeavesAsked, LeavesRequest, Stops}
 use Rattle.gateway.specs.Serving.{RepliesTo, ServesFrom, FailsReading, ReadsHead, StopsFrom, LeavesAt}
 use Rattle.gateway.specs.Turns.{TakesReply, GoesOn}
 use Rattle.gateway.proofs.Growing.{advances_none}
-use Rattle.gateway.proofs.Heads.{use_read}
+use Rattle.gateway.proofs.Fates.{form_suits, open_whole, taken_body, no_body}
 use Rattle.gateway.proofs.Tasks.{left_by}
-
--- ---- a head and its body
-
-taken_body : (plan : BodyUse) (old new : IntakeState) (a b : Option (List ℕ)) (body : List ℕ) → ((n : ℕ) → IsRead plan n → old.body_left ≡ n) → TakesBody plan old new a b body
-    → (more : List ℕ) × Consumes a b more × IsBody plan (old.buffer ++ more) body new.buffer
-taken_body (Fed n) old new a b body due x =
-    (x.has_given.more, x.has_given.read, (x.has_given.bytes, omega (arith, x.has_given.due, x.whole, due n refl)))
-taken_body (Dropped n) old new a b body due x =
-    (x.has_given.more, x.has_given.read, (x.has_given.bytes, omega (arith, x.has_given.due, x.whole, due n refl)))
-taken_body Unread old new a b body due (none, same, read) =
-    ([], read, (none, ap (λ (i : IntakeState). i.buffer) same ∙ sym (append-nil old.buffer)))
-
-taken_ready : (plan : BodyUse) (old new : IntakeState) (a b : Option (List ℕ)) (body : List ℕ) → is_unread plan ≡ false → TakesBody plan old new a b body → IsReady new
-taken_ready (Fed n) old new a b body read x = (x.has_given.failed, (x.whole, x.has_given.chunked))
-taken_ready (Dropped n) old new a b body read x = (x.has_given.failed, (x.whole, x.has_given.chunked))
-taken_ready Unread old new a b body read x = absurd (cc)
-
-left_of_or : (a b : Bool) → (a || b) ≡ false → (a ≡ false) × (b ≡ false)
-left_of_or true b e = absurd (cc)
-left_of_or false b e = (refl, e)
-
-stays_read : (k : ℕ) (head : Head) (plan : BodyUse) → closes k head plan ≡ false → is_unread plan ≡ false
-unfolding closes
-stays_read k head plan e = (left_of_or (is_unread plan) _ e).0
 
 -- ---- what the history says of one call, or of none
 
@@ -91,31 +72,48 @@ same_left alone site d e may same = subst (IsLeftBy alone site d) (sym same) (id
 
 -- ---- what a task that was left made
 
-module _ (tells alone : Type 0) (site : Site) (form : ReplyForm) (found : List Event) where
-  stopped_acts : (asked : Asked) (x y : Side) (fault : ServeFault) → IsStopped tells alone site form asked found x y fault → tells
-      → (moments : List ℕ) × Acts alone site.settings x.door y.door moments
-  stopped_acts asked x y faults.ReadFault (body, fails, u) is = (u.asks.moments, u.asks.acts is)
-  stopped_acts asked x y faults.OutOfMemory (inl (given, has, more, u)) is = (u.asks.moments, u.asks.acts is)
-  stopped_acts asked x y faults.OutOfMemory (inr part) is = (part.asks.moments, part.asks.acts is)
-  stopped_acts asked x y faults.Worn (full, inl (given, has, more, u)) is = (u.asks.moments, u.asks.acts is)
-  stopped_acts asked x y faults.Worn (full, inr part) is = (part.asks.moments, part.asks.acts is)
-  stopped_acts asked x y faults.WriteFault (part, all) is = (part.asks.moments, part.asks.acts is)
-  stopped_acts asked x y (faults.Late read_at clock) (late, inl (given, has, u)) is = (u.asks.moments, u.asks.acts is)
-  stopped_acts asked x y (faults.Late read_at clock) (late, inr (part, all)) is = (part.asks.moments, part.asks.acts is)
+-- the clock was asked once for each event, and once more or not
+abbrev pub AsksSome : Type 0 → Type 0 → Site → Side → Side → Type 0
+AsksSome tells alone site x y = (more : Bool) × Asks tells alone site.settings more x.door y.door x.ends.told y.ends.told
 
-  task_left : (asked : Asked) (z y : Side) (b : DoorView) (fault : ServeFault) → MayBegin site.settings z.door → (tells → b ≡ begun z.door)
-      → IsStopped tells alone site form asked found (side b z.intake z.ends) y fault → tells → IsLeftBy alone site z.door y.door
-  task_left asked z y b fault may begins x is =
-      let acts = stopped_acts asked (side b z.intake z.ends) y fault x is in
-      left_by alone site z.door y.door acts.0 may (subst (λ (d : DoorView). Acts alone site.settings d y.door acts.0) (begins is) acts.1)
+module _ (tells alone : Type 0) (site : Site) (form : ReplyForm) (found : List Event) where
+  left_asks : (asked : Asked) (plan : BodyUse) (x y : Side) → IsLeft tells alone site form asked plan x y → AsksSome tells alone site x y
+  left_asks asked plan x y (inl (begun, more, u)) = (more, u.asks)
+  left_asks asked plan x y (inr part) = (part.more, part.asks)
+
+  pub stopped_asks : (asked : Asked) (plan : BodyUse) (x y : Side) (fault : ServeFault) → IsStopped tells alone site form asked plan found x y fault → AsksSome tells alone site x y
+  stopped_asks asked plan x y faults.ReadFault (read, fails, u) = (false, u.asks)
+  stopped_asks asked plan x y faults.OutOfMemory left = left_asks asked plan x y left
+  stopped_asks asked plan x y faults.Worn (full, left) = left_asks asked plan x y left
+  stopped_asks asked plan x y faults.WriteFault (part, all) = (part.more, part.asks)
+  stopped_asks asked plan x y (faults.Late read_at clock) (late, inl before) = (false, before.leaves.asks)
+  stopped_asks asked plan x y (faults.Late read_at clock) (late, inr (part, all)) = (part.more, part.asks)
+
+  behind_asks : (c : PutCommand) (x y : Side) (fault : ServeFault) → IsBehindContinue tells alone site c x (λ m. IsStopped tells alone site form (Put c) uses.Fed found m y fault) → AsksSome tells alone site x y
+  behind_asks c x y fault b =
+      let goes = stopped_asks (Put c) uses.Fed b.between y fault b.goes in
+      (goes.0, both_ask tells alone site.settings site.settings goes.0 x.door b.between.door y.door x.ends.told b.between.ends.told y.ends.told refl b.continues.asks goes.1)
+
+  waiting_asks : (c : PutCommand) (x y : Side) (fault : ServeFault) → IsStoppedWaiting tells alone site form c found x y fault → AsksSome tells alone site x y
+  waiting_asks c x y fault (inl stopped) = stopped_asks (Put c) uses.Unread x y fault stopped
+  waiting_asks c x y fault (inr (inl (is, front))) = (false, front.asks)
+  waiting_asks c x y fault (inr (inr b)) = behind_asks c x y fault b
+
+  pub put_asks : (waits : Bool) (c : PutCommand) (x y : Side) (fault : ServeFault) → IsPutStopped waits tells alone site form c found x y fault → AsksSome tells alone site x y
+  put_asks false c x y fault stopped = stopped_asks (Put c) uses.Fed x y fault stopped
+  put_asks true c x y fault stopped = waiting_asks c x y fault stopped
+
+  task_left : (z y : Side) (b : DoorView) → MayBegin site.settings z.door → (tells → b ≡ begun z.door) → AsksSome tells alone site (side b z.intake z.ends) y → tells → IsLeftBy alone site z.door y.door
+  task_left z y b may begins (more, asks) is =
+      left_by alone site z.door y.door asks.moments may (subst (λ (d : DoorView). Acts alone site.settings d y.door asks.moments) (begins is) (asks.acts is))
 
   asked_left : (asked : Asked) (plan : BodyUse) (z y : Side) (fault : ServeFault) → MayBegin site.settings z.door → LeavesAsked tells alone site form asked plan found z y fault → tells
       → IsLeftBy alone site z.door y.door
   asked_left BadHost plan z y fault may (left, idle) is = same_left alone site z.door y.door may idle.door
   asked_left (Refused w) plan z y fault may (left, idle) is = same_left alone site z.door y.door may idle.door
-  asked_left (Put c) plan z y fault may (b, begins, x) is = task_left (Put c) z y b fault may begins x is
-  asked_left (Get c) plan z y fault may (b, begins, x) is = task_left (Get c) z y b fault may begins x is
-  asked_left (Listing c l) plan z y fault may (b, begins, x) is = task_left (Listing c l) z y b fault may begins x is
+  asked_left (Put c) plan z y fault may (b, begins, x) is = task_left z y b may begins (put_asks (is_awaited plan) c (side b z.intake z.ends) y fault x) is
+  asked_left (Get c) plan z y fault may (b, begins, x) is = task_left z y b may begins (stopped_asks (Get c) plan (side b z.intake z.ends) y fault x) is
+  asked_left (Listing c l) plan z y fault may (b, begins, x) is = task_left z y b may begins (stopped_asks (Listing c l) plan (side b z.intake z.ends) y fault x) is
 
   request_left : (asked : Asked) (plan : BodyUse) (z y : Side) (fault : ServeFault) → MayBegin site.settings z.door → LeavesRequest tells alone site form asked plan found z y fault → tells
       → IsLeftBy alone site z.door y.door
@@ -124,64 +122,93 @@ module _ (tells alone : Type 0) (site : Site) (form : ReplyForm) (found : List E
 
 -- ---- the request, joined
 
-abbrev call_of : Head → List ℕ → List ℕ → Asked → Ground → Call
-call_of head body shown asked ground = record { request = record { head = head; body = body }; asked = asked; ground = ground; shown = shown }
+cut_request : (largest : ℕ) (bytes : List ℕ) (continued : Bool) → IsCutBody largest bytes continued → IsCutRequest largest bytes continued
+cut_request largest bytes false x = inr x
+cut_request largest bytes true x = x
 
-module _ (tells alone : Type 0) (site : Site) (k : ℕ) (x z y : Side) (head : Head) (reads : ReadsHead x z head) where
-  joined_taken : (body : List ℕ) → TakesBody (use_of site.settings.largest head) z.intake y.intake z.ends.left y.ends.left body
-      → (read : List ℕ) × Consumes x.ends.left y.ends.left read
-      × TakesCall site.settings.largest (x.intake.buffer ++ read) (record { head = head; body = body }) y.intake.buffer
-  joined_taken body taken =
-      let t = taken_body (use_of site.settings.largest head) z.intake y.intake z.ends.left y.ends.left body
-      (λ n is. reads.behind.body_left ∙ use_read site.settings.largest head (asked_of site.settings.largest head) n is) taken in (
+abbrev call_of : Head → List ℕ → List ℕ → Asked → Fate → Ground → Call
+call_of head body shown asked fate ground = record { request = record { head = head; body = body }; asked = asked; fate = fate; ground = ground; shown = shown }
+
+module _ (tells alone : Type 0) (site : Site) (k : ℕ) (x z y : Side) (head : Head) (reads : ReadsHead site.settings.largest x z head) where
+  abbrev asks : Asked
+  asks = asked_of site.settings.largest head
+
+  abbrev Replied : Fate → Type 0
+  Replied fate = Replies tells alone site head asks (use_of site.settings.largest head) (form_before site.settings.largest k head) fate z y
+
+  abbrev Takes : List ℕ → List ℕ → Fate → List ℕ → Type 0
+  Takes read body fate rest = TakesCall site.settings.largest (x.intake.buffer ++ read) (record { request = record { head = head; body = body }; fate = fate }) rest
+
+  joined_taken : (fate : Fate) (body : List ℕ) → TakesBody (use_of site.settings.largest head) fate z.intake y.intake z.ends.left y.ends.left body
+      → (read : List ℕ) × (rest : List ℕ) × Consumes x.ends.left y.ends.left read × Takes read body fate rest × (fate ≡ read_whole → rest ≡ y.intake.buffer)
+  joined_taken fate body taken =
+      let t = taken_body site.settings.largest z.intake head reads.behind (use_of site.settings.largest head) fate y.intake z.ends.left y.ends.left body taken in (
         reads.more ++ t.0,
-        Consumes-trans x.ends.left z.ends.left y.ends.left reads.more t.0 reads.read t.1,
+        t.1,
+        Consumes-trans x.ends.left z.ends.left y.ends.left reads.more t.0 reads.read t.2,
         record {
           after = z.intake.buffer ++ t.0;
           head = subst (λ l. BeginsWith l head (z.intake.buffer ++ t.0)) (append_assoc x.intake.buffer reads.more t.0)
               (more_head (x.intake.buffer ++ reads.more) head z.intake.buffer t.0 reads.begins);
-          body = t.2;
+          suits = taken.0;
+          body = t.3;
         },
+        t.4,
       )
 
-  joined_reply : (r : Replies tells alone site head (asked_of site.settings.largest head) (use_of site.settings.largest head) (form_of site.settings.largest k head) z y)
-      → TakesReply tells alone site k x.intake.buffer y.intake.buffer x.door y.door x.ends y.ends (call_of head r.body r.shown (asked_of site.settings.largest head) r.ground)
-  joined_reply r =
-      let t = joined_taken r.body r.taken in
-      let form = form_of site.settings.largest k head in
-      let one = subst (λ (d : DoorView). IsAnswered tells alone site form d y.door z.ends.taken y.ends.taken z.ends.told y.ends.told (call_of head r.body r.shown (asked_of site.settings.largest head) r.ground)) reads.door r.answered in
-      let two = subst (λ (l : Option (List ℕ)). IsAnswered tells alone site form x.door y.door l y.ends.taken z.ends.told y.ends.told (call_of head r.body r.shown (asked_of site.settings.largest head) r.ground)) reads.taken one in
-      record {
-        read = t.0;
-        consumed = t.1;
-        asked = refl;
-        takes = t.2;
-        answered = subst (λ (l : Option (List ℕ)). IsAnswered tells alone site form x.door y.door x.ends.taken y.ends.taken l y.ends.told (call_of head r.body r.shown (asked_of site.settings.largest head) r.ground)) reads.told two;
-      }
+  abbrev Answered : (fate : Fate) → Replied fate → ReplyForm → Type 0
+  Answered fate r form = IsAnswered tells alone site form x.door y.door x.ends.taken y.ends.taken x.ends.told y.ends.told (call_of head r.body r.shown asks fate r.ground)
+
+  joined_answer : (fate : Fate) (r : Replied fate) → Answered fate r (form_of k head fate)
+  joined_answer fate r =
+      let call = call_of head r.body r.shown asks fate r.ground in
+      let form = form_at (form_before site.settings.largest k head) fate in
+      let one = subst (λ (d : DoorView). IsAnswered tells alone site form d y.door z.ends.taken y.ends.taken z.ends.told y.ends.told call) reads.door r.answered in
+      let two = subst (λ (l : Option (List ℕ)). IsAnswered tells alone site form x.door y.door l y.ends.taken z.ends.told y.ends.told call) reads.taken one in
+      let three = subst (λ (l : Option (List ℕ)). IsAnswered tells alone site form x.door y.door x.ends.taken y.ends.taken l y.ends.told call) reads.told two in
+      subst (Answered fate r) (form_suits (is_bodiless head.method) k head (use_of site.settings.largest head) fate r.taken.0) three
+
+  joined_reply : (fate : Fate) (r : Replied fate)
+      → (rest : List ℕ) × TakesReply tells alone site k x.intake.buffer rest x.door y.door x.ends y.ends (call_of head r.body r.shown asks fate r.ground) × (fate ≡ read_whole → rest ≡ y.intake.buffer)
+  joined_reply fate r =
+      let t = joined_taken fate r.body r.taken in
+      (t.1, record { read = t.0; consumed = t.2; asked = refl; takes = t.3; answered = joined_answer fate r }, t.4)
 
   -- another request may follow
-  pub goes_on : Replies tells alone site head (asked_of site.settings.largest head) (use_of site.settings.largest head) (form_of site.settings.largest k head) z y
-      → closes_at site.settings.largest k head ≡ false
-      → GoesOn tells alone site k x.intake.buffer y.intake.buffer x.door y.door x.ends y.ends × IsReady y.intake
-  goes_on r stays = (
-    record { call = call_of head r.body r.shown (asked_of site.settings.largest head) r.ground; replied = joined_reply r; stays_open = stays },
-    taken_ready (use_of site.settings.largest head) z.intake y.intake z.ends.left y.ends.left r.body (stays_read k head (use_of site.settings.largest head) stays) r.taken,
-  )
+  whole_on : (r : Replied read_whole) → (form_of k head read_whole).close ≡ false
+      → GoesOn tells alone site k x.intake.buffer y.intake.buffer x.door y.door x.ends y.ends × IsReady site.settings.largest y.intake
+  whole_on r stays =
+      let call = call_of head r.body r.shown asks read_whole r.ground in
+      let joined = joined_reply read_whole r in
+      let has = r.taken.1.has_given in (
+        record {
+          call = call;
+          replied = subst (λ l. TakesReply tells alone site k x.intake.buffer l x.door y.door x.ends y.ends call) (joined.2 refl) joined.1;
+          stays_open = stays;
+        },
+        (has.failed, r.taken.1.whole, has.largest ∙ reads.behind.largest_is),
+      )
 
-  closed_replies : (call : Call) → call.request.head ≡ head → TakesReply tells alone site k x.intake.buffer y.intake.buffer x.door y.door x.ends y.ends call
-      → closes_at site.settings.largest k call.request.head ≡ true
-      → RepliesTo tells alone site k x.intake.buffer x.door y.door x.ends y.ends (call ∷ []) Ends.Closed
-  closed_replies call same t closed = record {
+  pub goes_on : (fate : Fate) (r : Replied fate) → (form_of k head fate).close ≡ false
+      → GoesOn tells alone site k x.intake.buffer y.intake.buffer x.door y.door x.ends y.ends × IsReady site.settings.largest y.intake
+  goes_on read_whole r stays = whole_on r stays
+  goes_on (broken_off why) r stays = let clash : broken_off why ≡ read_whole = open_whole k head (broken_off why) stays in absurd (cc)
+  goes_on unread r stays = let clash : unread ≡ read_whole = open_whole k head unread stays in absurd (cc)
+
+  closed_replies : (call : Call) (rest : List ℕ) → TakesReply tells alone site k x.intake.buffer rest x.door y.door x.ends y.ends call
+      → (form_of k call.request.head call.fate).close ≡ true
+      → RepliesTo tells alone site k x.intake.buffer x.door y.door x.ends y.ends (call ∷ []) at_close
+  closed_replies call rest t closed = record {
     read = t.read;
     consumed = t.consumed;
     asked = (t.asked, tt);
     stream = (
-      y.intake.buffer,
+      rest,
       t.takes,
-      subst (λ b. MatchBool b ((◌≡◌ {A = List Request} [] []) × (Ends.Closed ≡ Ends.Closed)) (IsStreamFrom site.settings.largest (suc k) y.intake.buffer [] Ends.Closed)) (sym closed) (refl, refl),
+      subst (λ b. MatchBool b ((◌≡◌ {A = List Taken} [] []) × (at_close ≡ at_close)) (IsStreamFrom site.settings.largest (suc k) rest [] at_close)) (sym closed) (refl, refl),
     );
     written =
-        let text = call_text (form_of site.settings.largest k call.request.head) call in
+        let text = whole_text (form_of k call.request.head call.fate) call in
         subst (Appends x.ends.taken y.ends.taken) (sym (append-nil (text ++ []) ∙ append-nil text)) t.answered.written;
     last = actor_after (next_count x.door) call.ground;
     moments = t.answered.moments;
@@ -193,38 +220,45 @@ module _ (tells alone : Type 0) (site : Site) (k : ℕ) (x z y : Side) (head : H
   }
 
   -- the connection is closed
-  pub closes_behind : Replies tells alone site head (asked_of site.settings.largest head) (use_of site.settings.largest head) (form_of site.settings.largest k head) z y
-      → closes_at site.settings.largest k head ≡ true
-      → ServesFrom tells alone site k x.intake.buffer x.door y.door x.ends y.ends 1 (closing_end (asked_of site.settings.largest head))
-  closes_behind r closed = record {
-    calls = call_of head r.body r.shown (asked_of site.settings.largest head) r.ground ∷ [];
-    stream_end = Ends.Closed;
-    replied = closed_replies (call_of head r.body r.shown (asked_of site.settings.largest head) r.ground) refl (joined_reply r) closed;
-    read_out = tt;
-    counted = refl;
-    ended = refl;
-  }
+  pub closes_behind : (fate : Fate) (r : Replied fate) → (form_of k head fate).close ≡ true
+      → ServesFrom tells alone site k x.intake.buffer x.door y.door x.ends y.ends 1 (closing_end asks r.ground)
+  closes_behind fate r closed =
+      let call = call_of head r.body r.shown asks fate r.ground in
+      let joined = joined_reply fate r in
+      record {
+        calls = call ∷ [];
+        stream_end = at_close;
+        replied = closed_replies call joined.0 joined.1 closed;
+        read_out = tt;
+        counted = refl;
+        ended = refl;
+      }
+
+  -- a 100 is written before the body
+  abbrev waits_for : Bool
+  waits_for = is_awaited (use_of site.settings.largest head)
 
   -- the body is not there whole
-  joined_cut : (more body : List ℕ) → IsRead (use_of site.settings.largest head) z.intake.body_left → z.intake.buffer ++ more ≡ body → length body < z.intake.body_left
-      → IsEnd site.settings.largest (x.intake.buffer ++ (reads.more ++ more)) Ends.Cut
-  joined_cut more body is_read bytes short =
+  joined_cut : (more : List ℕ) → is_unread (use_of site.settings.largest head) ≡ false → IsBroken z.intake (z.intake.buffer ++ more) Body.Cut
+      → IsEnd site.settings.largest (x.intake.buffer ++ (reads.more ++ more)) (at_cut waits_for)
+  joined_cut more is_read broken =
       let begins = more_head (x.intake.buffer ++ reads.more) head z.intake.buffer more reads.begins in
       let all = (x.intake.buffer ++ reads.more) ++ more in
-      subst (λ l. IsEnd site.settings.largest l Ends.Cut) (append_assoc x.intake.buffer reads.more more) (
+      subst (λ l. IsEnd site.settings.largest l (at_cut waits_for)) (append_assoc x.intake.buffer reads.more more) (
         begun_not_blank all begins.0 (z.intake.buffer ++ more) begins.1,
-        inr (head, z.intake.buffer ++ more, z.intake.body_left, begins, is_read, subst (λ l. length l < z.intake.body_left) (sym bytes) short),
+        cut_request site.settings.largest all waits_for
+            (head, z.intake.buffer ++ more, begins, is_read, refl, no_body site.settings.largest z.intake head reads.behind (z.intake.buffer ++ more) Body.Cut broken),
       )
 
-  cut_replies : (more body : List ℕ) → Consumes z.ends.left y.ends.left more → IsRead (use_of site.settings.largest head) z.intake.body_left → z.intake.buffer ++ more ≡ body → length body < z.intake.body_left
-      → IsUnanswered tells alone site x.door y.door x.ends.taken y.ends.taken x.ends.told y.ends.told
-      → RepliesTo tells alone site k x.intake.buffer x.door y.door x.ends y.ends [] Ends.Cut
-  cut_replies more body read is_read bytes short u = record {
-    read = reads.more ++ more;
-    consumed = Consumes-trans x.ends.left z.ends.left y.ends.left reads.more more reads.read read;
+  cut_replies : BreaksIn z.intake z.ends.left y.ends.left Body.Cut → is_unread (use_of site.settings.largest head) ≡ false
+      → IsUnanswered tells alone site (text_before (use_of site.settings.largest head)) x.door y.door x.ends.taken y.ends.taken x.ends.told y.ends.told
+      → RepliesTo tells alone site k x.intake.buffer x.door y.door x.ends y.ends [] (at_cut waits_for)
+  cut_replies breaks is_read u = record {
+    read = reads.more ++ breaks.more;
+    consumed = Consumes-trans x.ends.left z.ends.left y.ends.left reads.more breaks.more reads.read breaks.read;
     asked = tt;
-    stream = joined_cut more body is_read bytes short;
-    written = u.unwritten;
+    stream = joined_cut breaks.more is_read breaks.broken;
+    written = u.written;
     last = next_count x.door;
     moments = u.moments;
     later = u.moments;
@@ -234,20 +268,20 @@ module _ (tells alone : Type 0) (site : Site) (k : ℕ) (x z y : Side) (head : H
     settled = λ is. none_settled alone site x.door y.door (u.left_by is);
   }
 
-  moved_unanswered : IsUnanswered tells alone site z.door y.door z.ends.taken y.ends.taken z.ends.told y.ends.told
-      → IsUnanswered tells alone site x.door y.door x.ends.taken y.ends.taken x.ends.told y.ends.told
-  moved_unanswered u =
-      let one = subst (λ (d : DoorView). IsUnanswered tells alone site d y.door z.ends.taken y.ends.taken z.ends.told y.ends.told) reads.door u in
-      let two = subst (λ (l : Option (List ℕ)). IsUnanswered tells alone site x.door y.door l y.ends.taken z.ends.told y.ends.told) reads.taken one in
-      subst (λ (l : Option (List ℕ)). IsUnanswered tells alone site x.door y.door x.ends.taken y.ends.taken l y.ends.told) reads.told two
+  moved_unanswered : (text : List ℕ) → IsUnanswered tells alone site text z.door y.door z.ends.taken y.ends.taken z.ends.told y.ends.told
+      → IsUnanswered tells alone site text x.door y.door x.ends.taken y.ends.taken x.ends.told y.ends.told
+  moved_unanswered text u =
+      let one = subst (λ (d : DoorView). IsUnanswered tells alone site text d y.door z.ends.taken y.ends.taken z.ends.told y.ends.told) reads.door u in
+      let two = subst (λ (l : Option (List ℕ)). IsUnanswered tells alone site text x.door y.door l y.ends.taken z.ends.told y.ends.told) reads.taken one in
+      subst (λ (l : Option (List ℕ)). IsUnanswered tells alone site text x.door y.door x.ends.taken y.ends.taken l y.ends.told) reads.told two
 
   -- the input ended inside the body
   pub cut_behind : IsCut tells alone site (use_of site.settings.largest head) z y → ServesFrom tells alone site k x.intake.buffer x.door y.door x.ends y.ends 0 conn.Cut
   cut_behind c = record {
     calls = [];
-    stream_end = Ends.Cut;
-    replied = cut_replies c.cut.more c.body c.cut.read c.is_read c.cut.bytes c.cut.short (moved_unanswered c.unanswered);
-    read_out = c.cut.ended;
+    stream_end = at_cut waits_for;
+    replied = cut_replies c.cut.0 c.is_read (moved_unanswered (text_before (use_of site.settings.largest head)) c.unanswered);
+    read_out = c.cut.1;
     counted = refl;
     ended = refl;
   }
@@ -255,13 +289,13 @@ module _ (tells alone : Type 0) (site : Site) (k : ℕ) (x z y : Side) (head : H
   fails_behind : IsFailed tells alone site (use_of site.settings.largest head) z y → FailsReading tells alone site k x.intake.buffer x.door y.door x.ends y.ends
   fails_behind c = record {
     calls = [];
-    stream_end = Ends.Cut;
-    replied = cut_replies c.fails.more c.body c.fails.read c.is_read c.fails.bytes c.fails.short (moved_unanswered c.unanswered);
+    stream_end = at_cut waits_for;
+    replied = cut_replies c.fails c.is_read (moved_unanswered (text_before (use_of site.settings.largest head)) c.unanswered);
     waits = tt;
   }
 
   module _ (found : List Event) (may : tells → MayBegin site.settings z.door) where
-    stops_behind : (fault : ServeFault) → LeavesRequest tells alone site (form_of site.settings.largest k head) (asked_of site.settings.largest head) (use_of site.settings.largest head) found z y fault
+    stops_behind : (fault : ServeFault) → LeavesRequest tells alone site (form_before site.settings.largest k head) asks (use_of site.settings.largest head) found z y fault
         → StopsFrom tells alone site k found x y fault
     stops_behind fault left = record {
       calls = [];
@@ -278,12 +312,12 @@ module _ (tells alone : Type 0) (site : Site) (k : ℕ) (x z y : Side) (head : H
       settled = λ is.
           none_settled alone site x.door y.door
           (subst (λ (d : DoorView). IsLeftBy alone site d y.door) reads.door
-          (request_left tells alone site (form_of site.settings.largest k head) found (asked_of site.settings.largest head) (use_of site.settings.largest head) z y fault (may is) left is));
+          (request_left tells alone site (form_before site.settings.largest k head) found asks (use_of site.settings.largest head) z y fault (may is) left is));
       left = inr (head, z, reads, left);
     }
 
     -- a fault behind the head
-    pub leaves_behind : (fault : ServeFault) → Stops tells alone site (form_of site.settings.largest k head) (asked_of site.settings.largest head) (use_of site.settings.largest head) found z y fault
+    pub leaves_behind : (fault : ServeFault) → Stops tells alone site (form_before site.settings.largest k head) asks (use_of site.settings.largest head) found z y fault
         → LeavesAt tells alone site k found x y fault
     leaves_behind faults.ReadFault x = fails_behind x
     leaves_behind faults.OutOfMemory x = stops_behind faults.OutOfMemory x

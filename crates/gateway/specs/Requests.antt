@@ -1,6 +1,6 @@
 -- What serving one request comes to, from the moment when its head was read.
 use Rattle.std.specs.Prelude.{◌≡◌, ◌⊎◌, ℕ, ◌+◌, ◌≤◌, Bool, true, false, List, [], ◌++◌, Option, Some, None}
-use Rattle.std.specs.Io.KnownBytes.{Consumes, Appends}
+use Rattle.std.specs.Io.KnownBytes.{Appends}
 use Rattle.http_intake.specs.Intake.{IntakeState, IsBetween, is_in_chunks}
 use Rattle.http_model.specs.declared.head.Head.{Head}
 use Rattle.http_model.specs.declared.reply.ReplyForm.{ReplyForm}
@@ -12,70 +12,91 @@ use Rattle.realm_door.specs.Steps.{begun, next_count, actor_of_pass}
 use Rattle.swift_requests.specs.declared.asked.Asked.{Asked}
 use Rattle.swift_requests.specs.declared.asked.Asked.TheVariants.{BadHost, Refused, Put, Get, Listing}
 use Rattle.swift_requests.specs.declared.body.BodyUse.{BodyUse}
-use Rattle.swift_requests.specs.declared.body.BodyUse.TheVariants.{Fed, Dropped, Unread}
-use Rattle.call_words.specs.Calls.{Ground, alone as by_itself, Call, text_by, call_text}
-use Rattle.call_words.specs.Streams.{IsRead}
-use Rattle.call_service.specs.Bodies.{HasGivenAll, IsCutIn, FailsIn}
-use Rattle.call_service.specs.Serving.{Site, Side, side, own_moments, AppendsFront, IsStopped}
+use Rattle.swift_requests.specs.Bodies.{is_unread, is_awaited}
+use Rattle.http_chunks.specs.declared.body.BodyEnd.{BodyEnd}
+use Rattle.http_chunks.specs.declared.body.BodyEnd.TheVariants as Body
+use Rattle.task_words.specs.declared.command.PutCommand.{PutCommand}
+use Rattle.call_words.specs.Calls.{Ground, alone as by_itself, Call, text_by, whole_text}
+use Rattle.call_words.specs.Bodies.{Fate, read_whole, broken_off, unread, is_left, is_broken, Suits}
+use Rattle.call_words.specs.Texts.{continue_if}
+use Rattle.call_service.specs.Bodies.{IsCutIn, FailsIn, HasFate}
+use Rattle.call_service.specs.Serving.{Site, Side, side, own_moments, AppendsFront, form_at, IsStopped}
 use Rattle.call_service.specs.declared.fault.ServeFault.{ServeFault}
 use Rattle.call_service.specs.declared.fault.ServeFault.TheVariants as faults
 use Rattle.call_service.specs.declared.served.Served.{Served}
 use Rattle.call_service.specs.declared.served.Served.TheVariants as services
 use Rattle.gateway.specs.Moments.{AreToldFor}
+use Rattle.call_service.specs.Waiting.{IsPutStopped}
+use Rattle.gateway.specs.Texts.{is_failing, is_refusing}
 use Rattle.call_words.specs.Made.{AreBy}
 use Rattle.gateway.specs.Calls.{Advances, IsSettled}
 
 -- ---- the intake
 
 -- the intake stands before the next request
-abbrev pub IsReady : IntakeState → Type 0
-IsReady intake = (intake.failed ≡ None) × IsBetween intake
+abbrev pub IsReady : ℕ → IntakeState → Type 0
+IsReady largest intake = (intake.failed ≡ None) × IsBetween intake × (intake.largest ≡ largest)
 
 -- the intake stands right behind this head
-pub record IsBehindHead (intake : IntakeState) (head : Head) : Type 0 where
+pub record IsBehindHead (largest : ℕ) (intake : IntakeState) (head : Head) : Type 0 where
   pub failed : intake.failed ≡ None
   pub body_left : intake.body_left ≡ content_length head.framing
   pub chunked : intake.chunked ≡ is_in_chunks head.framing
+  pub behind : intake.behind ≡ false
+  pub room : intake.room ≡ largest
+  pub largest_is : intake.largest ≡ largest
   pub framed : framing_of head.minor head.fields ≡ Some head.framing
 
--- the body was read by its use; what is left unread is no body
-abbrev pub TakesBody : BodyUse → IntakeState → IntakeState → Option (List ℕ) → Option (List ℕ) → List ℕ → Type 0
-TakesBody (Fed n) old new before after body = HasGivenAll old new before after body
-TakesBody (Dropped n) old new before after body = HasGivenAll old new before after body
-TakesBody Unread old new before after body = (body ≡ []) × (new ≡ old) × Consumes before after []
+-- the body had that fate, which suits its use
+abbrev pub TakesBody : BodyUse → Fate → IntakeState → IntakeState → Option (List ℕ) → Option (List ℕ) → List ℕ → Type 0
+TakesBody plan fate old new before after body = Suits plan fate × HasFate fate old new before after body
 
--- the body was read by its use, or the input ended inside it
-abbrev pub UsesBody : BodyUse → IntakeState → IntakeState → Option (List ℕ) → Option (List ℕ) → Bool → Type 0
-UsesBody plan old new before after true = (body : List ℕ) × TakesBody plan old new before after body
-UsesBody plan old new before after false = IsRead plan old.body_left × (body : List ℕ) × IsCutIn old before after body
+-- what became of a body that was read to where it ended so, or not read
+abbrev pub fate_by : Option BodyEnd → Fate
+fate_by None = unread
+fate_by (Some Body.Whole) = read_whole
+fate_by (Some end) = broken_off end
+
+-- the input ended inside it
+abbrev pub is_cut : Option BodyEnd → Bool
+is_cut (Some Body.Cut) = true
+is_cut end = false
+
+-- the body was used, or the input ended inside it
+abbrev pub UsesBody : BodyUse → IntakeState → IntakeState → Option (List ℕ) → Option (List ℕ) → Option BodyEnd → Type 0
+UsesBody plan old new before after (Some Body.Cut) = (is_unread plan ≡ false) × IsCutIn old before after
+UsesBody plan old new before after end = (body : List ℕ) × TakesBody plan (fate_by end) old new before after body
 
 -- a read failed inside the body; nothing else ends it early
 abbrev pub LeavesBody : BodyUse → IntakeState → Option (List ℕ) → Option (List ℕ) → ServeFault → Type 0
-LeavesBody plan old before after faults.ReadFault = IsRead plan old.body_left × (body : List ℕ) × FailsIn old before after body
+LeavesBody plan old before after faults.ReadFault = (is_unread plan ≡ false) × FailsIn old before after
 LeavesBody plan old before after fault = ⊥
-
--- where its body is read, the intake has all of it before it, not in chunks
-pub record IsBeforeBody (intake : IntakeState) (plan : BodyUse) : Type 0 where
-  pub failed : intake.failed ≡ None
-  pub due : (count : ℕ) → IsRead plan count → (intake.body_left ≡ count) × (intake.chunked ≡ false)
 
 -- ---- refusals before any name is looked at
 
--- the body was read by its use and the text of the refusal written, or the input ended inside the body and nothing was written
+-- the body had that fate, and the text of the refusal was written in the form for it
+abbrev pub RefusesAt : ReplyForm → Asked → BodyUse → Fate → IntakeState → IntakeState → Option (List ℕ) → Option (List ℕ) → (List ℕ → Type 0) → Type 0
+RefusesAt form asked plan fate old new left left' grown =
+    ((body : List ℕ) × TakesBody plan fate old new left left' body) × grown (text_by (form_at form fate) asked fate by_itself [])
+
+-- the refusal was written behind the body, or behind what was read of one that broke off; or the input ended inside it
 abbrev pub Refuses : ReplyForm → Asked → BodyUse → IntakeState → IntakeState → Option (List ℕ) → Option (List ℕ) → Option (List ℕ) → Option (List ℕ) → Served → Type 0
 Refuses form asked plan old new left left' taken taken' services.Replied =
-    UsesBody plan old new left left' true × Appends taken taken' (text_by form asked by_itself [])
+    (fate : Fate) × (is_broken fate ≡ false) × RefusesAt form asked plan fate old new left left' (Appends taken taken')
+Refuses form asked plan old new left left' taken taken' services.Closed =
+    (why : BodyEnd) × RefusesAt form asked plan (broken_off why) old new left left' (Appends taken taken')
+Refuses form asked plan old new left left' taken taken' services.Refused = ⊥
 Refuses form asked plan old new left left' taken taken' services.Cut =
-    UsesBody plan old new left left' false × Appends taken taken' []
+    ((is_unread plan ≡ false) × IsCutIn old left left') × Appends taken taken' []
 
 -- the text was not made, or not written whole; or a read failed inside the body
 abbrev pub LeavesRefusal : ReplyForm → Asked → BodyUse → IntakeState → IntakeState → Option (List ℕ) → Option (List ℕ) → Option (List ℕ) → Option (List ℕ) → ServeFault → Type 0
 LeavesRefusal form asked plan old new left left' taken taken' faults.OutOfMemory =
-    UsesBody plan old new left left' true × Appends taken taken' []
+    ((fate : Fate) × (body : List ℕ) × TakesBody plan fate old new left left' body) × Appends taken taken' []
 LeavesRefusal form asked plan old new left left' taken taken' faults.ReadFault =
     LeavesBody plan old left left' faults.ReadFault × Appends taken taken' []
 LeavesRefusal form asked plan old new left left' taken taken' faults.WriteFault =
-    UsesBody plan old new left left' true × AppendsFront taken taken' (text_by form asked by_itself [])
+    (fate : Fate) × RefusesAt form asked plan fate old new left left' (AppendsFront taken taken')
 LeavesRefusal form asked plan old new left left' taken taken' faults.Worn = ⊥
 LeavesRefusal form asked plan old new left left' taken taken' (faults.Late read_at clock) = ⊥
 
@@ -83,7 +104,7 @@ LeavesRefusal form asked plan old new left left' taken taken' (faults.Late read_
 
 -- a request was replied: what was written and told for it, and what the history says
 pub record IsAnswered (tells alone : Type 0) (site : Site) (form : ReplyForm) (d e : DoorView) (taken taken' told told' : Option (List ℕ)) (call : Call) : Type 0 where
-  pub written : Appends taken taken' (call_text form call)
+  pub written : Appends taken taken' (whole_text form call)
   pub moments : List ℕ
   pub asked_clock : Appends told told' moments
   pub each : AreToldFor tells e.seen d.pass call.ground moments
@@ -95,43 +116,52 @@ pub record IsLeftBy (alone : Type 0) (site : Site) (d e : DoorView) : Type 0 whe
   pub advances : Advances site.settings d e
   pub only : alone → (more : List Event) × (e.seen ≡ d.seen ++ more) × AreBy d.pass (next_count d) more
 
--- nothing was written for a request; the moments that were told are those of the next actor's events
-pub record IsUnanswered (tells alone : Type 0) (site : Site) (d e : DoorView) (taken taken' told told' : Option (List ℕ)) : Type 0 where
-  pub unwritten : Appends taken taken' []
+-- of a request nothing but this was written; the moments that were told are those of the next actor's events
+pub record IsUnanswered (tells alone : Type 0) (site : Site) (text : List ℕ) (d e : DoorView) (taken taken' told told' : Option (List ℕ)) : Type 0 where
+  pub written : Appends taken taken' text
   pub moments : List ℕ
   pub asked_clock : Appends told told' moments
   pub each : tells → moments ≡ own_moments e.seen (actor_of_pass d.pass (next_count d))
   pub left_by : tells → IsLeftBy alone site d e
 
--- the body was read by its use, and the whole reply was written
-pub record Replies (tells alone : Type 0) (site : Site) (head : Head) (asked : Asked) (plan : BodyUse) (form : ReplyForm) (z y : Side) : Type 0 where
+-- the body had that fate, and the whole reply was written
+pub record Replies (tells alone : Type 0) (site : Site) (head : Head) (asked : Asked) (plan : BodyUse) (form : ReplyForm) (fate : Fate) (z y : Side) : Type 0 where
   pub body : List ℕ
-  pub taken : TakesBody plan z.intake y.intake z.ends.left y.ends.left body
+  pub taken : TakesBody plan fate z.intake y.intake z.ends.left y.ends.left body
   pub ground : Ground
   pub shown : List ℕ
-  pub answered : IsAnswered tells alone site form z.door y.door z.ends.taken y.ends.taken z.ends.told y.ends.told
-      (record { request = record { head = head; body = body }; asked = asked; ground = ground; shown = shown })
+  pub answered : IsAnswered tells alone site (form_at form fate) z.door y.door z.ends.taken y.ends.taken z.ends.told y.ends.told
+      (record { request = record { head = head; body = body }; asked = asked; fate = fate; ground = ground; shown = shown })
 
--- the input ended inside the body, and nothing was written
+-- what is written before a body that is read: the 100 for a client that waits for it
+abbrev pub text_before : BodyUse → List ℕ
+text_before plan = continue_if (is_awaited plan) read_whole
+
+-- the input ended inside the body, and no reply was written
 pub record IsCut (tells alone : Type 0) (site : Site) (plan : BodyUse) (z y : Side) : Type 0 where
-  pub is_read : IsRead plan z.intake.body_left
-  pub body : List ℕ
-  pub cut : IsCutIn z.intake z.ends.left y.ends.left body
-  pub unanswered : IsUnanswered tells alone site z.door y.door z.ends.taken y.ends.taken z.ends.told y.ends.told
+  pub is_read : is_unread plan ≡ false
+  pub cut : IsCutIn z.intake z.ends.left y.ends.left
+  pub unanswered : IsUnanswered tells alone site (text_before plan) z.door y.door z.ends.taken y.ends.taken z.ends.told y.ends.told
 
 -- how a request was served
 abbrev pub Serves : Type 0 → Type 0 → Site → Head → Asked → BodyUse → ReplyForm → Side → Side → Served → Type 0
-Serves tells alone site head asked plan form z y services.Replied = Replies tells alone site head asked plan form z y
+Serves tells alone site head asked plan form z y services.Replied =
+    (fate : Fate) × (is_broken fate ≡ false) × (is_left fate ≡ true → form.close ≡ true)
+    × (r : Replies tells alone site head asked plan form fate z y) × (is_failing r.ground ≡ false)
+Serves tells alone site head asked plan form z y services.Closed =
+    (fate : Fate) × (is_left fate ≡ true) × (is_refusing asked ≡ false)
+    × (r : Replies tells alone site head asked plan form fate z y) × (is_failing r.ground ≡ false)
+Serves tells alone site head asked plan form z y services.Refused =
+    (why : BodyEnd) × (r : Replies tells alone site head asked plan form (broken_off why) z y) × (is_failing r.ground ≡ true)
 Serves tells alone site head asked plan form z y services.Cut = IsCut tells alone site plan z y
 
 -- ---- faults
 
--- a read failed inside the body, and nothing was written
+-- a read failed inside the body, and no reply was written
 pub record IsFailed (tells alone : Type 0) (site : Site) (plan : BodyUse) (z y : Side) : Type 0 where
-  pub is_read : IsRead plan z.intake.body_left
-  pub body : List ℕ
-  pub fails : FailsIn z.intake z.ends.left y.ends.left body
-  pub unanswered : IsUnanswered tells alone site z.door y.door z.ends.taken y.ends.taken z.ends.told y.ends.told
+  pub is_read : is_unread plan ≡ false
+  pub fails : FailsIn z.intake z.ends.left y.ends.left
+  pub unanswered : IsUnanswered tells alone site (text_before plan) z.door y.door z.ends.taken y.ends.taken z.ends.told y.ends.told
 
 -- no actor began, and no moment was told
 pub record IsIdle (z y : Side) : Type 0 where
@@ -143,18 +173,25 @@ abbrev pub LeavesRefused : ReplyForm → Asked → BodyUse → Side → Side →
 LeavesRefused form asked plan z y fault =
     LeavesRefusal form asked plan z.intake y.intake z.ends.left y.ends.left z.ends.taken y.ends.taken fault × IsIdle z y
 
--- the next actor began, and its task was left
-abbrev pub LeavesTask : Type 0 → Type 0 → Site → ReplyForm → Asked → List Event → Side → Side → ServeFault → Type 0
-LeavesTask tells alone site form asked found z y fault =
-    (d : DoorView) × (tells → d ≡ begun z.door)
-    × IsStopped tells alone site form asked found (side d z.intake z.ends) y fault
+-- the next actor began, and its task was left so
+abbrev pub IsLeftFrom : Type 0 → Side → (Side → Type 0) → Type 0
+IsLeftFrom tells z IsLeftThere = (d : DoorView) × (tells → d ≡ begun z.door) × IsLeftThere (side d z.intake z.ends)
+
+abbrev pub LeavesTask : Type 0 → Type 0 → Site → ReplyForm → Asked → BodyUse → List Event → Side → Side → ServeFault → Type 0
+LeavesTask tells alone site form asked plan found z y fault =
+    IsLeftFrom tells z (λ x. IsStopped tells alone site form asked plan found x y fault)
+
+-- that of a PUT, whose client waits for a 100 or not
+abbrev pub LeavesPut : Type 0 → Type 0 → Site → ReplyForm → PutCommand → BodyUse → List Event → Side → Side → ServeFault → Type 0
+LeavesPut tells alone site form c plan found z y fault =
+    IsLeftFrom tells z (λ x. IsPutStopped (is_awaited plan) tells alone site form c found x y fault)
 
 abbrev pub LeavesAsked : Type 0 → Type 0 → Site → ReplyForm → Asked → BodyUse → List Event → Side → Side → ServeFault → Type 0
 LeavesAsked tells alone site form BadHost plan found z y fault = LeavesRefused form BadHost plan z y fault
 LeavesAsked tells alone site form (Refused why) plan found z y fault = LeavesRefused form (Refused why) plan z y fault
-LeavesAsked tells alone site form (Put c) plan found z y fault = LeavesTask tells alone site form (Put c) found z y fault
-LeavesAsked tells alone site form (Get c) plan found z y fault = LeavesTask tells alone site form (Get c) found z y fault
-LeavesAsked tells alone site form (Listing c l) plan found z y fault = LeavesTask tells alone site form (Listing c l) found z y fault
+LeavesAsked tells alone site form (Put c) plan found z y fault = LeavesPut tells alone site form c plan found z y fault
+LeavesAsked tells alone site form (Get c) plan found z y fault = LeavesTask tells alone site form (Get c) plan found z y fault
+LeavesAsked tells alone site form (Listing c l) plan found z y fault = LeavesTask tells alone site form (Listing c l) plan found z y fault
 
 -- what a fault other than a failed read leaves behind a head: memory was wanting before anything was done, or the refusal or
 -- the task was left
@@ -165,15 +202,3 @@ LeavesRequest tells alone site form asked plan found z y fault =
 abbrev pub Stops : Type 0 → Type 0 → Site → ReplyForm → Asked → BodyUse → List Event → Side → Side → ServeFault → Type 0
 Stops tells alone site form asked plan found z y faults.ReadFault = IsFailed tells alone site plan z y
 Stops tells alone site form asked plan found z y fault = LeavesRequest tells alone site form asked plan found z y fault
-
--- ---- tasks
-
--- how the task of a request was served, whose body is read
-abbrev pub ServesTask : Type 0 → Type 0 → Site → Asked → ReplyForm → Side → Side → Served → Type 0
-ServesTask tells alone site asked form z y served =
-    (head : Head) (plan : BodyUse) → IsRead plan z.intake.body_left → Serves tells alone site head asked plan form z y served
-
--- or left
-abbrev pub StopsTask : Type 0 → Type 0 → Site → ReplyForm → Asked → List Event → Side → Side → ServeFault → Type 0
-StopsTask tells alone site form asked found z y fault =
-    (plan : BodyUse) → IsRead plan z.intake.body_left → Stops tells alone site form asked plan found z y fault

@@ -6,10 +6,7 @@ use Rattle.std.specs.Io.KnownBytes.{IsAtEnd, Consumes, Appends}
 use Rattle.gw_io.specs.Ends.{EndsState}
 use Rattle.http_intake.specs.Intake.{IntakeState, fresh}
 use Rattle.http_model.specs.declared.head.Head.{Head}
-use Rattle.http_model.specs.declared.head.Request.{Request}
 use Rattle.http_model.specs.declared.reply.BadRequest.{BadRequest}
-use Rattle.http_model.specs.declared.reply.StreamEnd.{StreamEnd}
-use Rattle.http_model.specs.declared.reply.StreamEnd.TheVariants as Ends
 use Rattle.http_model.specs.Heads.{BeginsWith}
 use Rattle.http_model.specs.Replies.{bad_request_text}
 use Rattle.http_model.specs.Streams.{BreaksGrammar}
@@ -18,21 +15,24 @@ use Rattle.realm_model.specs.declared.event.Event.{Event}
 use Rattle.realm_door.specs.Steps.{next_count, actor_of_pass}
 use Rattle.swift_requests.specs.Asks.{asked_of}
 use Rattle.call_words.specs.Calls.{Call}
-use Rattle.call_words.specs.Streams.{use_of, form_of, IsStreamFrom, IsFrontFrom}
+use Rattle.call_words.specs.Streams.{use_of, CallsEnd, at_clean, at_close, at_cut, at_bad, Taken, IsStreamFrom, IsFrontFrom}
 use Rattle.call_service.specs.Serving.{Site, Side, side, own_moments, AppendsFront, HasServeCause}
 use Rattle.call_service.specs.declared.fault.ServeFault.{ServeFault}
 use Rattle.call_service.specs.declared.fault.ServeFault.TheVariants as faults
 use Rattle.gateway.specs.declared.serve.ConnEnd.{ConnEnd}
 use Rattle.gateway.specs.declared.serve.Served.{Served}
 use Rattle.gateway.specs.Moments.{AreTold}
-use Rattle.gateway.specs.Texts.{texts_from, place_after, closing, end_text, end_replies, connection_end}
+use Rattle.gateway.specs.Texts.{form_before, texts_from, place_after, closing, end_text, end_replies, connection_end}
 use Rattle.gateway.specs.Calls.{Advances, AreSettled}
 use Rattle.gateway.specs.Requests.{IsBehindHead, IsIdle, LeavesRequest}
 
 -- ---- calls
 
-abbrev pub requests_of : List Call → List Request
-requests_of calls = map (λ call. call.request) calls
+abbrev pub taken_of : Call → Taken
+taken_of call = record { request = call.request; fate = call.fate }
+
+abbrev pub requests_of : List Call → List Taken
+requests_of calls = map taken_of calls
 
 -- each call is what its head asks
 abbrev pub AreAsked : ℕ → List Call → Type 0
@@ -41,43 +41,40 @@ AreAsked largest calls = AllByRecursion (λ call. call.asked ≡ asked_of larges
 -- ---- ends
 
 -- where the requests end with the input, the input was read to its end
-abbrev pub ReadsOut : StreamEnd → Option (List ℕ) → Type 0
-ReadsOut Ends.Clean left = IsAtEnd left
-ReadsOut Ends.Closed left = ⊤
-ReadsOut Ends.Cut left = IsAtEnd left
-ReadsOut (Ends.Refused word bodiless) left = ⊤
-ReadsOut (Ends.NotBuilt bodiless) left = ⊤
+abbrev pub ReadsOut : CallsEnd → Option (List ℕ) → Type 0
+ReadsOut at_clean left = IsAtEnd left
+ReadsOut at_close left = ⊤
+ReadsOut (at_cut continued) left = IsAtEnd left
+ReadsOut (at_bad word bodiless) left = ⊤
 
 -- the requests end there only if the input does
-abbrev pub IsOpen : StreamEnd → Type 0
-IsOpen Ends.Clean = ⊤
-IsOpen Ends.Closed = ⊥
-IsOpen Ends.Cut = ⊤
-IsOpen (Ends.Refused word bodiless) = ⊥
-IsOpen (Ends.NotBuilt bodiless) = ⊥
+abbrev pub IsOpen : CallsEnd → Type 0
+IsOpen at_clean = ⊤
+IsOpen at_close = ⊥
+IsOpen (at_cut continued) = ⊤
+IsOpen (at_bad word bodiless) = ⊥
 
 -- no moment was told behind the calls, and no actor began
 abbrev pub IsDone : Type 0 → DoorView → ℕ → List ℕ → Type 0
 IsDone tells e last later = (later ≡ []) × (tells → next_count e ≡ last)
 
 -- what was told behind the calls: only a request that was cut off has an actor of its own, the moments of whose events were told
-abbrev pub IsTidy : Type 0 → DoorView → ℕ → ℕ → List ℕ → StreamEnd → Type 0
-IsTidy tells e pass last later Ends.Clean = IsDone tells e last later
-IsTidy tells e pass last later Ends.Closed = IsDone tells e last later
-IsTidy tells e pass last later Ends.Cut = tells → later ≡ own_moments e.seen (actor_of_pass pass last)
-IsTidy tells e pass last later (Ends.Refused word bodiless) = IsDone tells e last later
-IsTidy tells e pass last later (Ends.NotBuilt bodiless) = IsDone tells e last later
+abbrev pub IsTidy : Type 0 → DoorView → ℕ → ℕ → List ℕ → CallsEnd → Type 0
+IsTidy tells e pass last later at_clean = IsDone tells e last later
+IsTidy tells e pass last later at_close = IsDone tells e last later
+IsTidy tells e pass last later (at_cut continued) = tells → later ≡ own_moments e.seen (actor_of_pass pass last)
+IsTidy tells e pass last later (at_bad word bodiless) = IsDone tells e last later
 
 -- ---- served to an end
 
 -- What waited and what was read are the requests of these calls and that end; what was written are the texts of their replies;
 -- each moment was told for an event, or for the end of a body; and the history bears the replies out.
-pub record RepliesTo (tells alone : Type 0) (site : Site) (k : ℕ) (buffer : List ℕ) (d e : DoorView) (old new : EndsState) (calls : List Call) (stream_end : StreamEnd) : Type 0 where
+pub record RepliesTo (tells alone : Type 0) (site : Site) (k : ℕ) (buffer : List ℕ) (d e : DoorView) (old new : EndsState) (calls : List Call) (stream_end : CallsEnd) : Type 0 where
   pub read : List ℕ
   pub consumed : Consumes old.left new.left read
   pub asked : AreAsked site.settings.largest calls
   pub stream : IsStreamFrom site.settings.largest k (buffer ++ read) (requests_of calls) stream_end
-  pub written : Appends old.taken new.taken (texts_from site.settings.largest k calls ++ end_text stream_end)
+  pub written : Appends old.taken new.taken (texts_from k calls ++ end_text stream_end)
   pub last : ℕ
   pub moments : List ℕ
   pub later : List ℕ
@@ -89,7 +86,7 @@ pub record RepliesTo (tells alone : Type 0) (site : Site) (k : ℕ) (buffer : Li
 -- the requests were served to their end
 pub record ServesFrom (tells alone : Type 0) (site : Site) (k : ℕ) (buffer : List ℕ) (d e : DoorView) (old new : EndsState) (replies : ℕ) (ended_so : ConnEnd) : Type 0 where
   pub calls : List Call
-  pub stream_end : StreamEnd
+  pub stream_end : CallsEnd
   pub replied : RepliesTo tells alone site k buffer d e old new calls stream_end
   pub read_out : ReadsOut stream_end new.left
   pub counted : replies ≡ length calls + end_replies stream_end
@@ -100,16 +97,16 @@ pub record ServesFrom (tells alone : Type 0) (site : Site) (k : ℕ) (buffer : L
 -- A read failed: all is as if the input ended there.
 pub record FailsReading (tells alone : Type 0) (site : Site) (k : ℕ) (buffer : List ℕ) (d e : DoorView) (old new : EndsState) : Type 0 where
   pub calls : List Call
-  pub stream_end : StreamEnd
+  pub stream_end : CallsEnd
   pub replied : RepliesTo tells alone site k buffer d e old new calls stream_end
   pub waits : IsOpen stream_end
 
 -- the next head was read, and nothing behind it
-pub record ReadsHead (x z : Side) (head : Head) : Type 0 where
+pub record ReadsHead (largest : ℕ) (x z : Side) (head : Head) : Type 0 where
   pub more : List ℕ
   pub read : Consumes x.ends.left z.ends.left more
   pub begins : BeginsWith (x.intake.buffer ++ more) head z.intake.buffer
-  pub behind : IsBehindHead z.intake head
+  pub behind : IsBehindHead largest z.intake head
   pub door : z.door ≡ x.door
   pub taken : z.ends.taken ≡ x.ends.taken
   pub told : z.ends.told ≡ x.ends.told
@@ -130,8 +127,8 @@ LeavesHead x y (faults.Late read_at clock) = ⊥
 abbrev pub LeavesNext : Type 0 → Type 0 → Site → ℕ → List Event → Side → Side → ServeFault → Type 0
 LeavesNext tells alone site k found x y fault =
     LeavesHead x y fault
-    ⊎ ((head : Head) × (z : Side) × ReadsHead x z head
-    × LeavesRequest tells alone site (form_of site.settings.largest k head) (asked_of site.settings.largest head) (use_of site.settings.largest head) found z y fault)
+    ⊎ ((head : Head) × (z : Side) × ReadsHead site.settings.largest x z head
+    × LeavesRequest tells alone site (form_before site.settings.largest k head) (asked_of site.settings.largest head) (use_of site.settings.largest head) found z y fault)
 
 -- Some requests were replied whole, and behind them at most one was begun. The history bears the replies out, also where it
 -- grew since.
@@ -142,7 +139,7 @@ pub record StopsFrom (tells alone : Type 0) (site : Site) (k : ℕ) (found : Lis
   pub consumed : Consumes x.ends.left between.ends.left read
   pub asked : AreAsked site.settings.largest calls
   pub front : IsFrontFrom site.settings.largest k (x.intake.buffer ++ read) (requests_of calls) between.intake.buffer
-  pub written : Appends x.ends.taken between.ends.taken (texts_from site.settings.largest k calls)
+  pub written : Appends x.ends.taken between.ends.taken (texts_from k calls)
   pub moments : List ℕ
   pub asked_clock : Appends x.ends.told between.ends.told moments
   pub told : AreTold tells y.door.seen x.door.pass calls moments []

@@ -6,14 +6,12 @@ use Rattle.http_intake.specs.declared.fault.IntakeFault.TheVariants as intake
 use Rattle.http_model.specs.declared.reply.BadRequest.{BadRequest}
 use Rattle.http_model.specs.declared.reply.BadRequest.TheVariants as Word
 use Rattle.http_model.specs.Replies.{bad_request_text}
-use Rattle.http_model.specs.declared.reply.StreamEnd.{StreamEnd}
-use Rattle.http_model.specs.declared.reply.StreamEnd.TheVariants as Ends
 use Rattle.gw_io.specs.Ends.{EndsState}
 use Rattle.realm_model.specs.Doors.{DoorView}
 use Rattle.realm_model.specs.declared.event.Event.{Event}
 use Rattle.swift_requests.specs.Asks.{asked_of}
 use Rattle.call_words.specs.Calls.{Call}
-use Rattle.call_words.specs.Streams.{closes_at, form_of, TakesCall}
+use Rattle.call_words.specs.Streams.{form_of, CallsEnd, at_cut, at_bad, TakesCall}
 use Rattle.call_service.specs.Serving.{Site, Side, AppendsFront, HasServeCause}
 use Rattle.call_service.specs.declared.fault.ServeFault.{ServeFault}
 use Rattle.call_service.specs.declared.fault.ServeFault.TheVariants as faults
@@ -21,24 +19,24 @@ use Rattle.gateway.specs.declared.turn.Turn.{Turn}
 use Rattle.gateway.specs.declared.turn.Turn.TheVariants.{Further, Over}
 use Rattle.gateway.specs.Requests.{IsReady, IsAnswered}
 use Rattle.gateway.specs.Texts.{closing, end_text, end_replies, connection_end}
-use Rattle.gateway.specs.Serving.{ServesFrom, LeavesAt}
+use Rattle.gateway.specs.Serving.{taken_of, ServesFrom, LeavesAt}
 
 -- one request was taken from the bytes and replied
 pub record TakesReply (tells alone : Type 0) (site : Site) (k : ℕ) (buffer left : List ℕ) (d e : DoorView) (old new : EndsState) (call : Call) : Type 0 where
   pub read : List ℕ
   pub consumed : Consumes old.left new.left read
   pub asked : call.asked ≡ asked_of site.settings.largest call.request.head
-  pub takes : TakesCall site.settings.largest (buffer ++ read) call.request left
-  pub answered : IsAnswered tells alone site (form_of site.settings.largest k call.request.head) d e old.taken new.taken old.told new.told call
+  pub takes : TakesCall site.settings.largest (buffer ++ read) (taken_of call) left
+  pub answered : IsAnswered tells alone site (form_of k call.request.head call.fate) d e old.taken new.taken old.told new.told call
 
 -- and the connection goes on
 pub record GoesOn (tells alone : Type 0) (site : Site) (k : ℕ) (buffer left : List ℕ) (d e : DoorView) (old new : EndsState) : Type 0 where
   pub call : Call
   pub replied : TakesReply tells alone site k buffer left d e old new call
-  pub stays_open : closes_at site.settings.largest k call.request.head ≡ false
+  pub stays_open : (form_of k call.request.head call.fate).close ≡ false
 
 abbrev pub ComesTo : Type 0 → Type 0 → Site → ℕ → List Event → Side → Side → Result Turn ServeFault → Type 0
-ComesTo tells alone site k found x y (Ok Further) = GoesOn tells alone site k x.intake.buffer y.intake.buffer x.door y.door x.ends y.ends × IsReady y.intake
+ComesTo tells alone site k found x y (Ok Further) = GoesOn tells alone site k x.intake.buffer y.intake.buffer x.door y.door x.ends y.ends × IsReady site.settings.largest y.intake
 ComesTo tells alone site k found x y (Ok (Over replies end)) = ServesFrom tells alone site k x.intake.buffer x.door y.door x.ends y.ends replies end
 ComesTo tells alone site k found x y (Err fault) = LeavesAt tells alone site k found x y fault
 
@@ -61,17 +59,17 @@ EndsHeads intake.BodyTooLarge = ⊥
 EndsHeads fault = ⊤
 
 -- how the requests end for such a cause; none where it is a fault of the connection
-abbrev pub end_for : IntakeFault → Option StreamEnd
-end_for intake.Cut = Some Ends.Cut
-end_for intake.BadHead = Some (Ends.Refused Word.Head false)
-end_for intake.HeadTooLarge = Some (Ends.Refused Word.Size false)
-end_for (intake.BadFraming bodiless) = Some (Ends.Refused Word.Framing bodiless)
+abbrev pub end_for : IntakeFault → Option CallsEnd
+end_for intake.Cut = Some (at_cut false)
+end_for intake.BadHead = Some (at_bad Word.Head false)
+end_for intake.HeadTooLarge = Some (at_bad Word.Size false)
+end_for (intake.BadFraming bodiless) = Some (at_bad Word.Framing bodiless)
 end_for fault = None
 
 -- the text for that end was written, and with it the connection is over
 abbrev pub EndsSo : Option (List ℕ) → Option (List ℕ) → IntakeFault → Turn → Type 0
 EndsSo taken taken' fault turn =
-    (end : StreamEnd) × (end_for fault ≡ Some end) × (turn ≡ Over (end_replies end) (connection_end [] end))
+    (end : CallsEnd) × (end_for fault ≡ Some end) × (turn ≡ Over (end_replies end) (connection_end [] end))
     × Appends taken taken' (end_text end)
 
 -- or it was not: memory was wanting, or a read or a write failed
@@ -79,6 +77,6 @@ abbrev pub LeavesSo : Option (List ℕ) → Option (List ℕ) → IntakeFault �
 LeavesSo taken taken' fault faults.ReadFault = (fault ≡ intake.ReadFault) × Appends taken taken' []
 LeavesSo taken taken' fault faults.OutOfMemory = (fault ≢ intake.ReadFault) × Appends taken taken' []
 LeavesSo taken taken' fault faults.WriteFault =
-    (word : BadRequest) × (bodiless : Bool) × (end_for fault ≡ Some (Ends.Refused word bodiless))
+    (word : BadRequest) × (bodiless : Bool) × (end_for fault ≡ Some (at_bad word bodiless))
     × AppendsFront taken taken' (bad_request_text (closing bodiless) word)
 LeavesSo taken taken' fault other = ⊥

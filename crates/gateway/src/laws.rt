@@ -1,12 +1,12 @@
 //! A law of the definitions: the function does nothing.
-ghost use Rattle.std.specs.Prelude.{◌≡◌, ℕ, List};
-ghost use Rattle.http_model.specs.declared.head.Request.{Request as RequestOf};
-ghost use Rattle.http_model.specs.declared.reply.StreamEnd.{StreamEnd as EndOf};
-ghost use Rattle.call_words.specs.Streams.{IsStreamFrom};
+ghost use Rattle.std.specs.Prelude.{◌≡◌, ℕ, Bool, List};
+ghost use Rattle.call_words.specs.Streams.{CallsEnd, Taken, IsStreamFrom, AreLeft};
 
-/// The bytes of a connection are one list of requests with one end.
+/// The bytes of a connection are one list of requests, whose bodies each have one fate, with one end, once it is
+/// known for which of the clients that wait no 100 is written.
 pub fn a_connection_has_one_reading()
-    ensures { (largest k : ℕ) (bytes : List ℕ) (requests others : List RequestOf) (end other : EndOf)
-        → IsStreamFrom largest k bytes requests end → IsStreamFrom largest k bytes others other
+    ensures { (left : ℕ → Bool) (largest k : ℕ) (bytes : List ℕ) (requests others : List Taken) (end other : CallsEnd)
+        → IsStreamFrom largest k bytes requests end → AreLeft left largest k requests end
+        → IsStreamFrom largest k bytes others other → AreLeft left largest k others other
         → (requests ≡ others) × (end ≡ other) }
 {}

@@ -1,16 +1,19 @@
 //! Replies that rest on the request alone.
-ghost use Rattle.std.specs.Prelude.{◌≡◌, ◌<◌, ◌++◌, IfOk, OnOk, OnErr, IfErr, length, [], true};
+ghost use Rattle.std.specs.Prelude.{◌≡◌, ◌<◌, ◌++◌, None, false, IfOk, OnOk, IfErr, length, [], true};
 ghost use Rattle.std.specs.Io.KnownBytes.{Appends};
 ghost use Rattle.http_model.specs.Replies.{bad_request_text};
+ghost use Rattle.swift_requests.specs.Bodies.{is_unread, is_awaited};
+ghost use Rattle.call_words.specs.Bodies.{read_whole, is_broken};
 ghost use Rattle.call_words.specs.Calls.{alone, text_by, IsRefused};
 ghost use Rattle.call_service.specs.Bodies.{ReadsAtFault};
-ghost use Rattle.call_service.specs.Serving.{AppendsFront, WritesAtFault, LeavesText};
+ghost use Rattle.call_service.specs.Serving.{WritesAtFault, LeavesText};
 ghost use Rattle.call_service.specs.declared.fault.ServeFault.TheVariants as faults;
 ghost use Rattle.gateway.specs.Texts.{closing};
-ghost use Rattle.gateway.specs.Requests.{IsBeforeBody, UsesBody, LeavesBody, Refuses, LeavesRefusal};
+ghost use Rattle.gateway.specs.Requests.{UsesBody, LeavesBody, Refuses, LeavesRefusal, is_cut, fate_by};
 
-use call_service::{ServeFault, Served, drop_body, send};
+use call_service::{ServeFault, Served, closing, drop_body, send};
 use gw_io::{Sink, Source};
+use http_chunks::BodyEnd;
 use http_intake::Intake;
 use http_model::{BadRequest, ReplyForm};
 use std::alloc::AllocError;
@@ -20,7 +23,7 @@ use swift_requests::{Asked, BodyUse};
 /// Adds the text of a refusal before any name is looked at.
 fn push_refused(out: &mut Vec<u8>, asked: &Asked, form: ReplyForm) -> Result<(), AllocError>
     requires { IsRefused asked.now }
-    ensures { OnOk result (out.new.items ≡ out.old.items ++ text_by form asked.now alone []) }
+    ensures { OnOk result (out.new.items ≡ out.old.items ++ text_by form asked.now read_whole alone []) }
 {
     match asked {
         Asked::BadHost => push_bad_request(out, BadRequest::Host, form),
@@ -37,8 +40,8 @@ fn send_refused<K: Sink>(
     form: ReplyForm,
 ) -> Result<(), ServeFault>
     requires { IsRefused asked.now }
-    ensures ok { OnOk result (Appends (K.taken sink.old) (K.taken sink.new) (text_by form asked.now alone [])) }
-    ensures err { IfErr result (LeavesText (K.taken sink.old) (K.taken sink.new) (text_by form asked.now alone [])) }
+    ensures ok { OnOk result (Appends (K.taken sink.old) (K.taken sink.new) (text_by form asked.now read_whole alone [])) }
+    ensures err { IfErr result (LeavesText (K.taken sink.old) (K.taken sink.new) (text_by form asked.now read_whole alone [])) }
     ensures cause { WritesAtFault (K.faults sink.old) (K.faults sink.new) result }
 {
     out.clear();
@@ -64,28 +67,44 @@ pub(crate) fn send_bad_request<K: Sink>(
     send(sink, out.as_slice())
 }
 
-/// Reads a body that is not wanted, where it is read. False where the input ends inside it.
+/// Reads a body that is not wanted, where it is read, and says how it ended; none where it is not.
 fn use_body<S: Source>(
     plan: BodyUse,
     intake: &mut Intake,
     source: &mut S,
     buffer: &mut [u8],
-) -> Result<bool, ServeFault>
+) -> Result<Option<BodyEnd>, ServeFault>
     requires room { 0 < length buffer.old }
-    requires before { IsBeforeBody intake.old plan }
+    requires sound { intake.old.failed ≡ None }
     ensures used { IfOk result (UsesBody plan intake.old intake.new (S.left source.old) (S.left source.new)) }
     ensures err { IfErr result (LeavesBody plan intake.old (S.left source.old) (S.left source.new)) }
     ensures cause { ReadsAtFault (S.faults source.old) (S.faults source.new) result }
     ensures kept { length buffer.new ≡ length buffer.old }
 {
-    match plan {
-        BodyUse::Fed(_) => drop_body(intake, source, buffer),
-        BodyUse::Dropped(_) => drop_body(intake, source, buffer),
-        BodyUse::Unread => Ok(true),
+    if plan.is_unread() {
+        return Ok(None);
     }
+    let end = drop_body(intake, source, buffer)?;
+    Ok(Some(end))
 }
 
-/// Replies to a request that is refused before any name is looked at, behind its body.
+/// Whether the input ended inside the body.
+fn is_cut(end: Option<BodyEnd>) -> bool
+    ensures { result ≡ is_cut end }
+{
+    matches!(end, Some(BodyEnd::Cut))
+}
+
+/// Whether the body's chunks went wrong.
+fn is_broken(end: Option<BodyEnd>) -> bool
+    requires { is_cut end ≡ false }
+    ensures { result ≡ is_broken (fate_by end) }
+{
+    matches!(end, Some(BodyEnd::BadChunk | BodyEnd::TooLarge))
+}
+
+/// Replies to a request that is refused before any name is looked at, behind its body, or behind what was read
+/// of one whose chunks go wrong.
 pub(crate) fn serve_refused<S: Source, K: Sink>(
     asked: &Asked,
     plan: BodyUse,
@@ -98,7 +117,9 @@ pub(crate) fn serve_refused<S: Source, K: Sink>(
 ) -> Result<Served, ServeFault>
     requires refused { IsRefused asked.now }
     requires room { 0 < length buffer.old }
-    requires before { IsBeforeBody intake.old plan }
+    requires sound { intake.old.failed ≡ None }
+    requires quiet { is_awaited plan ≡ false }
+    requires shut { is_unread plan ≡ true → form.close ≡ true }
     ensures served { IfOk result (Refuses form asked.now plan intake.old intake.new
         (S.left source.old) (S.left source.new) (K.taken sink.old) (K.taken sink.new)) }
     ensures left { IfErr result (LeavesRefusal form asked.now plan intake.old intake.new
@@ -107,8 +128,13 @@ pub(crate) fn serve_refused<S: Source, K: Sink>(
     ensures writes { WritesAtFault (K.faults sink.old) (K.faults sink.new) result }
     ensures kept { length buffer.new ≡ length buffer.old }
 {
-    if !use_body(plan, intake, source, buffer)? {
+    let end = use_body(plan, intake, source, buffer)?;
+    if is_cut(end) {
         return Ok(Served::Cut);
+    }
+    if is_broken(end) {
+        send_refused(sink, out, asked, closing(form))?;
+        return Ok(Served::Closed);
     }
     send_refused(sink, out, asked, form)?;
     Ok(Served::Replied)

@@ -1,13 +1,15 @@
 //! One request whose head was read: its reply, and what it leaves of the connection.
-ghost use Rattle.std.specs.Prelude.{◌≡◌, ◌≤◌, ◌<◌, length, IfOk, IfErr};
+ghost use Rattle.std.specs.Prelude.{◌≡◌, ◌≤◌, ◌<◌, true, false, length, IfOk, IfErr};
 ghost use Rattle.swift_requests.specs.Asks.{asked_of};
+ghost use Rattle.swift_requests.specs.Bodies.{is_unread};
 ghost use Rattle.call_words.specs.Streams.{use_of};
 ghost use Rattle.http_model.specs.Forms.{is_bodiless};
 ghost use Rattle.call_service.specs.Serving.{Side, HasServeCause, side};
 ghost use Rattle.gateway.specs.Calls.{MayBegin, IsSite, site_of};
 ghost use Rattle.gateway.specs.Requests.{IsBehindHead, Serves, Stops};
 ghost use Rattle.gateway.specs.Serving.{ReadsHead};
-ghost use Rattle.gateway.specs.Texts.{closing_end};
+ghost use Rattle.call_words.specs.Calls.{Ground};
+ghost use Rattle.gateway.specs.Texts.{is_failing, closing_end};
 ghost use Rattle.gateway.specs.Turns.{ComesTo, WritesFew};
 
 use crate::ConnEnd;
@@ -26,13 +28,13 @@ use realm_model::Settings;
 use std::alloc::Global;
 use swift_auth::User;
 use swift_reply::SwiftRefusal;
-use swift_requests::{Asked, body_use, closes, read_asked};
+use swift_requests::{Asked, BodyUse, body_use, closes, read_asked};
 use task_get::GetRequest;
 use task_list::ListRequest;
 
-/// How a connection ends behind a reply that closes it.
+/// How a connection ends behind a reply that closes it, and does not say that a body broke off.
 fn closing_end(asked: &Asked) -> ConnEnd
-    ensures { result ≡ closing_end asked.now }
+    ensures { (basis : Ground) → is_failing basis ≡ false → result ≡ closing_end asked.now basis }
 {
     match asked {
         Asked::Refused(SwiftRefusal::NotBuilt | SwiftRefusal::TooLarge) => ConnEnd::Refused,
@@ -48,6 +50,7 @@ fn serve_asked<D: Door, S: Source, K: Sink, C: Clock>(
     user: &User,
     head: &Head,
     asked: Asked,
+    plan: BodyUse,
     form: ReplyForm,
     door: &mut D,
     clock: &mut C,
@@ -59,10 +62,12 @@ fn serve_asked<D: Door, S: Source, K: Sink, C: Clock>(
 ) -> Result<Served, ServeFault>
     requires room { 0 < length buffer.old }
     requires site { IsSite settings.now (D.settings door.old) zone user.now }
-    requires behind { IsBehindHead intake.old head.now }
+    requires behind { IsBehindHead settings.now.largest intake.old head.now }
     requires most { settings.now.largest ≤ 5368709120 }
     requires asks { asked ≡ asked_of settings.now.largest head.now }
+    requires used { plan ≡ use_of settings.now.largest head.now }
     requires form { form.bodiless ≡ is_bodiless head.now.method }
+    requires shut { is_unread (use_of settings.now.largest head.now) ≡ true → form.close ≡ true }
     requires may { D.tells → MayBegin settings.now (D.told door.old) }
     ensures served { IfOk result (Serves D.tells D.alone (site_of settings.now zone) head.now asked (use_of settings.now.largest head.now) form
         (side (D.told door.old) intake.old (⟦<(S, K, C) as Ends>⟧.ends (source.old, sink.old, clock.old)))
@@ -77,13 +82,15 @@ fn serve_asked<D: Door, S: Source, K: Sink, C: Clock>(
     ensures home { D.home door.new ≡ D.home door.old }
     ensures kept { length buffer.new ≡ length buffer.old }
 {
+    let read = !plan.is_unread();
     match asked {
         Asked::Put(put) => {
             let asker = asker_of(user)?;
+            let waits = plan.is_awaited();
             door.begin();
             serve_put(
-                alloc, settings, zone, asker, put, form, door, clock, intake, source, sink, buffer,
-                out,
+                alloc, settings, zone, asker, put, form, waits, door, clock, intake, source, sink,
+                buffer, out,
             )
         }
         Asked::Get(get) => {
@@ -91,7 +98,7 @@ fn serve_asked<D: Door, S: Source, K: Sink, C: Clock>(
             let request = GetRequest { zone, asker, get };
             door.begin();
             serve_get(
-                alloc, request, form, door, clock, intake, source, sink, buffer, out,
+                alloc, request, form, read, door, clock, intake, source, sink, buffer, out,
             )
         }
         Asked::Listing(command, listing) => {
@@ -103,13 +110,10 @@ fn serve_asked<D: Door, S: Source, K: Sink, C: Clock>(
             };
             door.begin();
             serve_listing(
-                alloc, request, listing, form, door, clock, intake, source, sink, buffer, out,
+                alloc, request, listing, form, read, door, clock, intake, source, sink, buffer, out,
             )
         }
-        refused => {
-            let plan = body_use(settings.largest, head, &refused);
-            serve_refused(&refused, plan, form, intake, source, sink, buffer, out)
-        }
+        refused => serve_refused(&refused, plan, form, intake, source, sink, buffer, out),
     }
 }
 
@@ -131,12 +135,12 @@ pub(crate) fn serve_request<D: Door, S: Source, K: Sink, C: Clock>(
 ) -> Result<Turn, ServeFault>
     requires room { 0 < length buffer.old }
     requires site { IsSite settings.now (D.settings door.old) zone user.now }
-    requires behind { IsBehindHead intake.old head.now }
+    requires behind { IsBehindHead settings.now.largest intake.old head.now }
     requires may { D.tells → MayBegin settings.now (D.told door.old) }
 
     // Whatever was read before the head: with it, this is a turn.
     ensures turn { (x : Side)
-        → ReadsHead x (side (D.told door.old) intake.old (⟦<(S, K, C) as Ends>⟧.ends (source.old, sink.old, clock.old))) head.now
+        → ReadsHead settings.now.largest x (side (D.told door.old) intake.old (⟦<(S, K, C) as Ends>⟧.ends (source.old, sink.old, clock.old))) head.now
         → ComesTo D.tells D.alone (site_of settings.now zone) k (D.found door.new) x
         (side (D.told door.new) intake.new (⟦<(S, K, C) as Ends>⟧.ends (source.new, sink.new, clock.new))) result }
     ensures few { IfOk result WritesFew }
@@ -152,16 +156,18 @@ pub(crate) fn serve_request<D: Door, S: Source, K: Sink, C: Clock>(
         Err(_) => return Err(ServeFault::OutOfMemory),
     };
     let plan = body_use(settings.largest, head, &asked);
-    let close = closes(k, head, plan);
+    let close = closes(k, head, plan.is_unread());
     let bodiless = head.is_bodiless();
     let form = ReplyForm { bodiless, close };
     let end = closing_end(&asked);
     match serve_asked(
-        alloc, settings, zone, user, head, asked, form, door, clock, intake, source, sink, buffer,
-        out,
+        alloc, settings, zone, user, head, asked, plan, form, door, clock, intake, source, sink,
+        buffer, out,
     ) {
         Err(fault) => Err(fault),
         Ok(Served::Cut) => Ok(Turn::Over(0, ConnEnd::Cut)),
+        Ok(Served::Closed) => Ok(Turn::Over(1, ConnEnd::Closed)),
+        Ok(Served::Refused) => Ok(Turn::Over(1, ConnEnd::Refused)),
         Ok(Served::Replied) if close => Ok(Turn::Over(1, end)),
         Ok(Served::Replied) => Ok(Turn::Further),
     }

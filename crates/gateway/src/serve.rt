@@ -22,7 +22,7 @@ pub enum ConnEnd {
     Closed,
     /// The input ended inside a request, and nothing was written for it.
     Cut,
-    /// A 400 with the word `head`, `size` or `framing`, a 413 or a 501 was written last.
+    /// A 400 with the word `head`, `size`, `framing` or `chunk`, a 413 or a 501 was written last.
     Refused,
 }
 

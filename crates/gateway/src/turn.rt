@@ -1,6 +1,6 @@
 //! One turn of a connection: the next request is read and replied to.
 ghost use Rattle.std.specs.Prelude.{◌≡◌, ◌<◌, length, IfOk, IfErr};
-ghost use Rattle.call_service.specs.Serving.{side, WritesAtFault, HasServeCause, LeavesText};
+ghost use Rattle.call_service.specs.Serving.{side, WritesAtFault, LeavesText};
 ghost use Rattle.std.specs.Io.KnownBytes.{Appends};
 ghost use Rattle.http_model.specs.Replies.{bad_request_text};
 ghost use Rattle.gateway.specs.declared.serve.ConnEnd.TheVariants as ends;
@@ -84,7 +84,7 @@ pub(crate) fn take_turn<D: Door, S: Source, K: Sink, C: Clock>(
 ) -> Result<Turn, ServeFault>
     requires room { 0 < length buffer.old }
     requires site { IsSite settings.now (D.settings door.old) zone user.now }
-    requires ready { IsReady intake.old }
+    requires ready { IsReady settings.now.largest intake.old }
     requires may { D.tells → MayBegin settings.now (D.told door.old) }
     ensures turn { TakesTurn D.tells D.alone (site_of settings.now zone) k (D.found door.new)
         (side (D.told door.old) intake.old (⟦<(S, K, C) as Ends>⟧.ends (source.old, sink.old, clock.old)))

@@ -2,7 +2,7 @@
 
 use anyhow::Context;
 use container_preset::preset_bucket;
-use gateway::serve_connection;
+use gateway::{Served, serve_connection};
 use gw_io::{SliceSource, StepClock, VecSink};
 use object_words::BucketName;
 use realm_model::Settings;
@@ -19,12 +19,21 @@ const PIECE: usize = 7;
 
 /// Stripes and frames of 16 bytes, so many frames, and one shard.
 pub fn small(frames: u32) -> anyhow::Result<Settings> {
+    sharded(frames, 1)
+}
+
+/// The same with eleven shards.
+pub fn many(frames: u32) -> anyhow::Result<Settings> {
+    sharded(frames, 11)
+}
+
+fn sharded(frames: u32, shards: u32) -> anyhow::Result<Settings> {
     let settings = Settings::new(
         1,
         16,
         16,
         frames,
-        1,
+        shards,
         120_000_000,
         7_200_000_000,
         5_368_709_120,
@@ -44,13 +53,12 @@ pub fn realm_with_box(alloc: Global, settings: &Settings) -> anyhow::Result<Real
     Ok(stage)
 }
 
-/// Serves one connection, and prints what was written to it and how it ended.
-pub fn serve<R: Print>(
-    rt: &R,
+/// Serves one connection: what was written to it, and how it ended.
+pub fn replies(
     alloc: Global,
     stage: &mut RealmStage,
     bytes: &[u8],
-) -> anyhow::Result<()> {
+) -> anyhow::Result<(Vec<u8>, Served)> {
     let settings = stage.settings();
     settings.has_zone_one();
     let mut source = SliceSource::new(bytes, PIECE, &[]);
@@ -65,7 +73,17 @@ pub fn serve<R: Print>(
         &mut sink,
         &mut clock,
     )?;
-    let written = sink.into_bytes();
+    Ok((sink.into_bytes(), served))
+}
+
+/// Serves one connection, and prints what was written to it and how it ended.
+pub fn serve<R: Print>(
+    rt: &R,
+    alloc: Global,
+    stage: &mut RealmStage,
+    bytes: &[u8],
+) -> anyhow::Result<()> {
+    let (written, served) = replies(alloc, stage, bytes)?;
     let text = str::from_utf8(&written).context("replies in UTF-8")?;
     println!(rt; "{text}")?;
     let requests = served.requests;

@@ -2,8 +2,10 @@
 #![tactic(auto)]
 
 mod host;
+mod many;
 mod scenes;
 
 fn main(rt: HostRuntime) -> anyhow::Result<()> {
-    scenes::serve_scenes(&rt, rt.alloc())
+    scenes::serve_scenes(&rt, rt.alloc())?;
+    many::list_many(&rt, rt.alloc())
 }

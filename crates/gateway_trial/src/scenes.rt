@@ -107,6 +107,31 @@ const SCENES: &[Scene] = &[
             b"GET /swift/v1/AUTH_acme/box?limit=0 HTTP/1.1\r\nHost: h\r\nX-Auth-Token: AUTH_tk1\r\n\r\nGET /swift/v1/AUTH_acme/box?limit=ten HTTP/1.1\r\nHost: h\r\nX-Auth-Token: AUTH_tk1\r\n\r\nGET /swift/v1/AUTH_acme/box?format=xml HTTP/1.1\r\nHost: h\r\nX-Auth-Token: AUTH_tk1\r\n\r\n",
         ],
     },
+    Scene {
+        title: "bodies in chunks, and chunks that go wrong",
+        frames: 64,
+        connections: &[
+            b"PUT /swift/v1/AUTH_acme/box/k HTTP/1.1\r\nHost: h\r\nX-Auth-Token: AUTH_tk1\r\nContent-Type: text/plain\r\nTransfer-Encoding: chunked\r\n\r\n5\r\nhello\r\n1;note=x\r\n!\r\n0\r\n\r\nGET /swift/v1/AUTH_acme/box/k HTTP/1.1\r\nHost: h\r\nX-Auth-Token: AUTH_tk1\r\nTransfer-Encoding: chunked\r\n\r\n3\r\nabc\r\n0\r\nTrailer: x\r\n\r\nHEAD /swift/v1/AUTH_acme/box/k HTTP/1.1\r\nHost: h\r\nX-Auth-Token: AUTH_tk1\r\n\r\n",
+            b"PUT /swift/v1/AUTH_acme/box/m HTTP/1.1\r\nHost: h\r\nX-Auth-Token: AUTH_tk1\r\nTransfer-Encoding: chunked\r\n\r\n5\r\nhello\r\nx\r\nGET /swift/v1/AUTH_acme/box/k HTTP/1.1\r\nHost: h\r\nX-Auth-Token: AUTH_tk1\r\n\r\n",
+            b"GET /swift/v1/AUTH_acme/box/m HTTP/1.1\r\nHost: h\r\nX-Auth-Token: AUTH_tk1\r\n\r\n",
+            b"PUT /swift/v1/AUTH_acme/other/k HTTP/1.1\r\nHost: h\r\nX-Auth-Token: AUTH_tk1\r\nTransfer-Encoding: chunked\r\n\r\n1\r\na\r\nx\r\n",
+            b"GET /swift/v1/AUTH_acme/box/k HTTP/1.1\r\nHost: h\r\nX-Auth-Token: AUTH_tk1\r\nTransfer-Encoding: chunked\r\n\r\nx\r\n",
+            b"GET /swift/v1/AUTH_acme/box HTTP/1.1\r\nHost: h\r\nX-Auth-Token: AUTH_tk1\r\nTransfer-Encoding: chunked\r\n\r\n1\r\na\r\n0\r\n\r\nGET /swift/v1/AUTH_acme/box HTTP/1.1\r\nHost: h\r\nX-Auth-Token: AUTH_tk1\r\nTransfer-Encoding: chunked\r\n\r\nx\r\n",
+            b"PUT /swift/v1/AUTH_acme/box/m HTTP/1.1\r\nHost: h\r\nX-Auth-Token: AUTH_tk1\r\nTransfer-Encoding: chunked\r\n\r\n5\r\nhel",
+        ],
+    },
+    Scene {
+        title: "clients that wait for a 100",
+        frames: 64,
+        connections: &[
+            b"PUT /swift/v1/AUTH_acme/box/k HTTP/1.1\r\nHost: h\r\nX-Auth-Token: AUTH_tk1\r\nContent-Type: text/plain\r\nExpect: 100-continue\r\nContent-Length: 5\r\n\r\nhelloPUT /swift/v1/AUTH_acme/box/m HTTP/1.1\r\nHost: h\r\nX-Auth-Token: AUTH_tk1\r\nEXPECT: 100-Continue\r\nTransfer-Encoding: chunked\r\n\r\n5\r\nhello\r\n0\r\n\r\nGET /swift/v1/AUTH_acme/box/k HTTP/1.1\r\nHost: h\r\nX-Auth-Token: AUTH_tk1\r\n\r\n",
+            b"PUT /swift/v1/AUTH_acme/other/k HTTP/1.1\r\nHost: h\r\nX-Auth-Token: AUTH_tk1\r\nExpect: 100-continue\r\nContent-Length: 5\r\n\r\nhelloGET /swift/v1/AUTH_acme/box/k HTTP/1.1\r\nHost: h\r\nX-Auth-Token: AUTH_tk1\r\n\r\n",
+            b"GET /swift/v1/AUTH_acme/box/k HTTP/1.1\r\nHost: h\r\nX-Auth-Token: AUTH_tk1\r\nExpect: 100-continue\r\nContent-Length: 5\r\n\r\nhello",
+            b"PUT /swift/v1/AUTH_acme/box/n HTTP/1.1\r\nHost: h\r\nX-Auth-Token: AUTH_tk1\r\nExpect: 100-continue\r\nContent-Length: 5\r\n\r\nhel",
+            b"GET /swift/v1/AUTH_acme/box HTTP/1.1\r\nHost: h\r\nX-Auth-Token: AUTH_tk1\r\nExpect: 100-continue\r\n\r\nGET /swift/v1/AUTH_acme/box HTTP/1.1\r\nHost: h\r\nX-Auth-Token: AUTH_tk1\r\n\r\n",
+            b"PUT /swift/v1/AUTH_acme/box/n HTTP/1.1\r\nHost: h\r\nX-Auth-Token: AUTH_tk1\r\nExpect: 200-ok\r\nContent-Length: 5\r\n\r\nhello",
+        ],
+    },
 ];
 
 /// Serves the connections of each scene to a realm of its own.

@@ -30,9 +30,11 @@ use Rattle.task_get.specs.Pieces.{brought}
 use Rattle.task_get.specs.Gets.{Means, BringsAll, shown_at}
 use Rattle.task_get.specs.Tasks.{account_at, phase_at, events_at, request_of, stage_of, bytes_of, shown_of, means}
 use Rattle.task_get.proofs.Giving.{shown_rests, none_brought, front_at_once, all_brought}
+use Rattle.call_words.specs.Bodies.{read_whole}
 use Rattle.call_words.specs.Calls.{IsBorneOut}
 use Rattle.call_words.specs.Events.{AreOfGet}
 use Rattle.call_words.specs.Texts.{outcome_reply, text_if}
+use Rattle.call_words.proofs.Fates.{told_whole}
 use Rattle.call_service.specs.Serving.{AppendsFront, is_by_end}
 use Rattle.call_service.proofs.Fronts.{whole_front, front_longer, front_behind}
 use Rattle.get_service.specs.Texts.{text_up_to, begins, piece_text, ends_get, is_late, end_text}
@@ -58,9 +60,9 @@ rests_on_event r (Shown kind meta etag stamp size start count) y is rests = reco
 rests_on_event r reply y is rests = absurd is
 
 -- it is borne out where these bytes are shown
-borne_by_event : (r : GetRequest) (reply : MapReply) (y : Account) (events : List OwnEvent) (shown : List ℕ) (event : Decided) → IsShown reply → IsGetOutcome r.zone r.asker r.get (Done reply) y → y.decided ≡ Some event → shown ≡ shown_at r event → AreOfGet events → IsBorneOut r.zone r.asker (Get r.get) [] (Done reply) shown y events
+borne_by_event : (r : GetRequest) (reply : MapReply) (y : Account) (events : List OwnEvent) (shown : List ℕ) (event : Decided) → IsShown reply → IsGetOutcome r.zone r.asker r.get (Done reply) y → y.decided ≡ Some event → shown ≡ shown_at r event → AreOfGet events → IsBorneOut r.zone r.asker (Get r.get) read_whole [] (Done reply) shown y events
 borne_by_event r (Shown kind meta etag stamp size start count) y events shown event is rests decided bytes read =
-    (rests, tt, record { event = event; is_last = decided; bytes = bytes }, read)
+    ((rests, tt), tt, record { event = event; is_last = decided; bytes = bytes }, read)
 borne_by_event r reply y events shown event is rests decided bytes read = absurd is
 
 -- the rest behind a front
@@ -110,13 +112,13 @@ all_but_late r (Done reply) y events m late = all_brought r reply y events m
 all_but_late r (LateRead read_at clock) y events m late = let e : true ≡ false = late in cc
 all_but_late r outcome y events m late = absurd m
 
-borne_without_bytes : (r : GetRequest) (outcome : Outcome) (y : Account) (events : List OwnEvent) → ends_get outcome ≡ true → Means r outcome y events → brought r.get events ≡ [] → IsBorneOut r.zone r.asker (Get r.get) [] outcome [] y events
+borne_without_bytes : (r : GetRequest) (outcome : Outcome) (y : Account) (events : List OwnEvent) → ends_get outcome ≡ true → Means r outcome y events → brought r.get events ≡ [] → IsBorneOut r.zone r.asker (Get r.get) read_whole [] outcome [] y events
 borne_without_bytes r (Done (Shown kind meta etag stamp size start count)) y events ends m none =
     let by = m.0.0 in
     let read = means_reads r (Done (Shown kind meta etag stamp size start count)) y events m in
-    (m.0, tt, record { event = by.event; is_last = by.is_last; bytes = sym none ∙ m.1.1 by.event by.is_last }, read)
-borne_without_bytes r (Done (Same etag stamp)) y events ends m none = (m.0, tt, refl, means_reads r (Done (Same etag stamp)) y events m)
-borne_without_bytes r (Done (Refused refusal)) y events ends m none = (m.0, tt, refl, means_reads r (Done (Refused refusal)) y events m)
+    ((m.0, tt), tt, record { event = by.event; is_last = by.is_last; bytes = sym none ∙ m.1.1 by.event by.is_last }, read)
+borne_without_bytes r (Done (Same etag stamp)) y events ends m none = ((m.0, tt), tt, refl, means_reads r (Done (Same etag stamp)) y events m)
+borne_without_bytes r (Done (Refused refusal)) y events ends m none = ((m.0, tt), tt, refl, means_reads r (Done (Refused refusal)) y events m)
 borne_without_bytes r outcome y events ends m none = let e : false ≡ true = ends in cc
 
 ends_by_event : (outcome : Outcome) → ends_get outcome ≡ true → is_by_end outcome ≡ false
@@ -286,7 +288,7 @@ module _ (tells : Type 0) (settings : SettingsView) (form : ReplyForm) where
       outcome = outcome;
       shown = [];
       by_event = ends_by_event outcome ends;
-      written = written;
+      written = subst (λ o. grown (text_if form o [])) (sym (told_whole (span_of (request_of t).get) outcome)) written;
       right = λ is body. borne_without_bytes (request_of t) outcome (account_at settings d) (events_at d) ends (meant is) (none is);
     }
     unbegun_ends grown false ends late none written = record {

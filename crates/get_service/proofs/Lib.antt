@@ -3,3 +3,4 @@ pub mod Acting
 pub mod OwnReads
 pub mod Getting
 pub mod Stopping
+pub mod Early

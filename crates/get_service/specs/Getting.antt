@@ -1,6 +1,7 @@
 -- Serving a GET or a HEAD: where the task stands, and what is written by then.
-use Rattle.std.specs.Prelude.{◌≡◌, ℕ, Bool, true, false, List, [], Option, Some}
+use Rattle.std.specs.Prelude.{◌≡◌, ℕ, Bool, true, false, List, [], ◌∷◌, Option, Some}
 use Rattle.std.specs.Io.KnownBytes.{Appends}
+use Rattle.http_chunks.specs.declared.body.BodyEnd.{BodyEnd}
 use Rattle.http_model.specs.declared.reply.ReplyForm.{ReplyForm}
 use Rattle.realm_model.specs.Settings.{SettingsView}
 use Rattle.realm_model.specs.Doors.{DoorView}
@@ -9,15 +10,24 @@ use Rattle.realm_model.specs.declared.event.Event.{Event}
 use Rattle.realm_door.specs.declared.task.TaskTurn.{TaskTurn}
 use Rattle.realm_door.specs.declared.task.TaskTurn.TheVariants.{Gives}
 use Rattle.swift_requests.specs.declared.asked.Asked.TheVariants.{Get}
+use Rattle.task_words.specs.declared.outcome.Outcome.{Outcome}
+use Rattle.task_words.specs.declared.outcome.Outcome.TheVariants.{BodyFailed}
 use Rattle.task_words.specs.declared.reply.MapReply.{MapReply}
+use Rattle.task_words.specs.declared.span.Span.{Span}
 use Rattle.task_words.specs.Answers.{span_of}
 use Rattle.task_words.specs.Outcomes.{IsShown}
 use Rattle.task_get.specs.declared.request.GetRequest.{GetRequest}
+use Rattle.task_get.specs.declared.stage.Stage.{Stage}
+use Rattle.task_get.specs.declared.stage.Stage.TheVariants.{Ended}
 use Rattle.task_get.specs.declared.task.GetTask.{GetTask}
 use Rattle.task_get.specs.Pieces.{brought}
 use Rattle.task_get.specs.Tasks.{events_at, request_of, shown_of, Fits}
+use Rattle.call_words.specs.Bodies.{broken_off}
+use Rattle.call_words.specs.Texts.{told_reply, text_if}
 use Rattle.call_service.specs.declared.fault.ServeFault.{ServeFault}
-use Rattle.call_service.specs.Serving.{Site}
+use Rattle.call_service.specs.declared.served.Served.{Served}
+use Rattle.call_service.specs.declared.served.Served.TheVariants.{Closed, Refused}
+use Rattle.call_service.specs.Serving.{Site, form_at, LeavesText}
 use Rattle.call_service.specs.Replying as any
 use Rattle.get_service.specs.Texts.{text_up_to}
 
@@ -67,3 +77,32 @@ IsPartly tells settings form r e before now = any.IsPartly tells (site_of settin
 -- what a fault leaves, where the door's last step found this history
 abbrev pub StopsReply : Type 0 → Type 0 → SettingsView → ReplyForm → GetRequest → List Event → any.Stand → any.Stand → ServeFault → Type 0
 StopsReply tells alone settings form r found x y fault = any.StopsReply tells alone (site_of settings r) form (Get r.get) found x y fault
+
+-- ---- behind a body that broke off
+
+-- how the task ends then
+abbrev pub end_at_first : Stage → Outcome
+end_at_first (Ended outcome given) = outcome
+end_at_first stage = BodyFailed
+
+-- the text of that
+abbrev pub text_at_first : ReplyForm → Option Span → BodyEnd → Stage → List ℕ
+text_at_first form span why stage = text_if (form_at form (broken_off why)) (told_reply span (broken_off why) (end_at_first stage)) []
+
+-- the clock was asked where the end of the body decides
+abbrev pub AsksAtFirst : Stage → Option (List ℕ) → Option (List ℕ) → Type 0
+AsksAtFirst (Ended outcome given) told told' = told' ≡ told
+AsksAtFirst stage told told' = (moment : ℕ) × Appends told told' (moment ∷ [])
+
+-- which reply that is
+abbrev pub IsServedSo : Stage → Served → Type 0
+IsServedSo (Ended outcome given) served = served ≡ Closed
+IsServedSo stage served = served ≡ Refused
+
+abbrev pub EndsEarly : ReplyForm → Option Span → BodyEnd → Stage → Option (List ℕ) → Option (List ℕ) → Option (List ℕ) → Option (List ℕ) → Served → Type 0
+EndsEarly form span why stage taken taken' told told' served =
+    IsServedSo stage served × Appends taken taken' (text_at_first form span why stage) × AsksAtFirst stage told told'
+
+abbrev pub LeavesEarly : ReplyForm → Option Span → BodyEnd → Stage → Option (List ℕ) → Option (List ℕ) → Option (List ℕ) → Option (List ℕ) → ServeFault → Type 0
+LeavesEarly form span why stage taken taken' told told' fault =
+    LeavesText taken taken' (text_at_first form span why stage) fault × AsksAtFirst stage told told'

@@ -1,18 +1,22 @@
 ghost use Rattle.std.specs.Prelude.{◌≡◌, ◌≤◌, ◌<◌, ◌^◌, ◌++◌, [], true, false, Some, None, not, length, IfOk, OnOk, IfErr, OnErr};
 ghost use Rattle.std.specs.Io.KnownBytes.{Appends};
-ghost use Rattle.http_intake.specs.Intake.{IsUnchunked};
 ghost use Rattle.swift_requests.specs.declared.asked.Asked.TheVariants.{Get};
+ghost use Rattle.swift_requests.specs.declared.body.BodyUse.TheVariants.{Dropped};
+ghost use Rattle.call_service.specs.Bodies.{dropped_if};
 ghost use Rattle.task_words.specs.declared.reply.MapReply.{MapReply as MapReplyOf};
 ghost use Rattle.task_words.specs.Answers.{span_of};
-ghost use Rattle.task_get.specs.Stages.{IsOpen, IsOver};
+ghost use Rattle.call_words.specs.Bodies.{IsWrong};
+ghost use Rattle.task_get.specs.Stages.{IsOpen, IsOver, IsBehindRow};
+ghost use Rattle.task_get.specs.declared.stage.Stage.TheVariants.{Look};
 ghost use Rattle.task_get.specs.Tasks.{request_of, stage_of, fault_of, bytes_of, shown_of, events_at, Fits};
 ghost use Rattle.call_service.specs.Serving.{IsNew, IsServed, IsStopped, HasServeCause, Asks, WritesAtFault, side};
 ghost use Rattle.call_service.specs.Replying.{StopsEvent, stand, AsksFrom};
-ghost use Rattle.get_service.specs.Getting.{IsUpTo, brought_at, piece_in, HasWritten, Replies, StopsReply};
+ghost use Rattle.get_service.specs.Getting.{IsUpTo, brought_at, piece_in, HasWritten, Replies, StopsReply, EndsEarly, LeavesEarly};
 
 use crate::write::{send_end, send_piece, span_in};
-use call_service::{ServeFault, Served, drop_body, fault_of};
+use call_service::{ServeFault, Served, closing, drop_body, fault_of, send_broken_body};
 use gw_io::{Clock, Ends, Sink, Source};
+use http_chunks::BodyEnd;
 use http_intake::Intake;
 use http_model::ReplyForm;
 use realm_door::{Door, Task, TaskTurn};
@@ -40,6 +44,7 @@ pub(crate) fn act<D: Door, C: Clock>(
         ≡ brought_at (request_of task.old) (D.told door.old) ++ piece_in turn (bytes_of task.new)) }
     ensures first { OnOk result (D.tells → events_at (D.told door.old) ≡ []
         → brought_at (request_of task.old) (D.told door.new) ≡ []) }
+    ensures looked { OnOk result (stage_of task.old ≡ Look → IsBehindRow (stage_of task.new)) }
     ensures stays { OnErr result (D.tells → D.told door.new ≡ D.told door.old) }
     ensures shown { D.tells → (reply : MapReplyOf) → shown_of task.old ≡ Some reply → shown_of task.new ≡ Some reply }
     ensures request { request_of task.new ≡ request_of task.old }
@@ -126,7 +131,37 @@ fn send_reply<D: Door, C: Clock, K: Sink>(
     }
 }
 
-/// Serves the GET or HEAD of a new task.
+/// Writes the reply where the body broke off behind the first event, and the connection closes: what the row
+/// refused, or that the body broke off. The clock is asked once for that.
+fn end_early<C: Clock, K: Sink>(
+    task: &GetTask,
+    why: BodyEnd,
+    clock: &mut C,
+    sink: &mut K,
+    out: &mut Vec<u8>,
+    span: Option<Span>,
+    form: ReplyForm,
+) -> Result<Served, ServeFault>
+    requires wrong { IsWrong why }
+    requires first { IsBehindRow (stage_of task.now) }
+    ensures ended { IfOk result (EndsEarly form span why (stage_of task.now)
+        (K.taken sink.old) (K.taken sink.new) (C.told clock.old) (C.told clock.new)) }
+    ensures left { IfErr result (LeavesEarly form span why (stage_of task.now)
+        (K.taken sink.old) (K.taken sink.new) (C.told clock.old) (C.told clock.new)) }
+    ensures cause { WritesAtFault (K.faults sink.old) (K.faults sink.new) result }
+    ensures plan { C.plan clock.new ≡ C.plan clock.old }
+{
+    let form = closing(form);
+    if let Some(outcome) = task.ended() {
+        send_end(sink, out, outcome, span, form, false)?;
+        return Ok(Served::Closed);
+    }
+    let _moment = clock.now();
+    send_broken_body(sink, out, why, form)?;
+    Ok(Served::Refused)
+}
+
+/// Serves the GET or HEAD of a new task, and drops the body of the request.
 fn serve_task<D: Door, C: Clock, S: Source, K: Sink>(
     alloc: Global,
     task: &mut GetTask,
@@ -141,19 +176,18 @@ fn serve_task<D: Door, C: Clock, S: Source, K: Sink>(
     out: &mut Vec<u8>,
 ) -> Result<Served, ServeFault>
     requires room { 0 < length buffer.old }
-    requires open { IsOpen (stage_of task.old) }
+    requires looks { stage_of task.old ≡ Look }
     requires sound { fault_of task.old ≡ None }
     requires fits { D.tells → Fits task.old (D.settings door.old) (D.told door.old) }
     requires span { span ≡ span_of (request_of task.old).get }
     requires intake { intake.old.failed ≡ None }
-    requires plain { IsUnchunked intake.old }
     requires new { D.tells → IsNew (D.settings door.old) (D.told door.old) }
     ensures served { IfOk result (IsServed D.tells D.alone
-        (record { settings = D.settings door.old; zone = (request_of task.old).zone; asker = (request_of task.old).asker }) form (Get (request_of task.old).get)
+        (record { settings = D.settings door.old; zone = (request_of task.old).zone; asker = (request_of task.old).asker }) form (Get (request_of task.old).get) Dropped
         (side (D.told door.old) intake.old (⟦<(S, K, C) as Ends>⟧.ends (source.old, sink.old, clock.old)))
         (side (D.told door.new) intake.new (⟦<(S, K, C) as Ends>⟧.ends (source.new, sink.new, clock.new)))) }
     ensures stopped { IfErr result (IsStopped D.tells D.alone
-        (record { settings = D.settings door.old; zone = (request_of task.old).zone; asker = (request_of task.old).asker }) form (Get (request_of task.old).get)
+        (record { settings = D.settings door.old; zone = (request_of task.old).zone; asker = (request_of task.old).asker }) form (Get (request_of task.old).get) Dropped
         (D.found door.new)
         (side (D.told door.old) intake.old (⟦<(S, K, C) as Ends>⟧.ends (source.old, sink.old, clock.old)))
         (side (D.told door.new) intake.new (⟦<(S, K, C) as Ends>⟧.ends (source.new, sink.new, clock.new)))) }
@@ -165,9 +199,60 @@ fn serve_task<D: Door, C: Clock, S: Source, K: Sink>(
     ensures kept { length buffer.new ≡ length buffer.old }
 {
     act(alloc, task, door, clock)?;
-    let whole = drop_body(intake, source, buffer)?;
-    if !whole {
-        return Ok(Served::Cut);
+    let end = drop_body(intake, source, buffer)?;
+    match end {
+        BodyEnd::Whole => {
+            send_reply(alloc, task, door, clock, sink, out, span, form)?;
+            Ok(Served::Replied)
+        }
+        BodyEnd::Cut => Ok(Served::Cut),
+        why => end_early(task, why, clock, sink, out, span, form),
+    }
+}
+
+/// Serves the GET or HEAD of a new task, whose body is dropped or left.
+fn serve_new<D: Door, C: Clock, S: Source, K: Sink>(
+    alloc: Global,
+    task: &mut GetTask,
+    span: Option<Span>,
+    form: ReplyForm,
+    read: bool,
+    door: &mut D,
+    clock: &mut C,
+    intake: &mut Intake,
+    source: &mut S,
+    sink: &mut K,
+    buffer: &mut [u8],
+    out: &mut Vec<u8>,
+) -> Result<Served, ServeFault>
+    requires room { 0 < length buffer.old }
+    requires looks { stage_of task.old ≡ Look }
+    requires sound { fault_of task.old ≡ None }
+    requires fits { D.tells → Fits task.old (D.settings door.old) (D.told door.old) }
+    requires span { span ≡ span_of (request_of task.old).get }
+    requires intake { intake.old.failed ≡ None }
+    requires shut { read ≡ false → form.close ≡ true }
+    requires new { D.tells → IsNew (D.settings door.old) (D.told door.old) }
+    ensures served { IfOk result (IsServed D.tells D.alone
+        (record { settings = D.settings door.old; zone = (request_of task.old).zone; asker = (request_of task.old).asker }) form (Get (request_of task.old).get) (dropped_if read)
+        (side (D.told door.old) intake.old (⟦<(S, K, C) as Ends>⟧.ends (source.old, sink.old, clock.old)))
+        (side (D.told door.new) intake.new (⟦<(S, K, C) as Ends>⟧.ends (source.new, sink.new, clock.new)))) }
+    ensures stopped { IfErr result (IsStopped D.tells D.alone
+        (record { settings = D.settings door.old; zone = (request_of task.old).zone; asker = (request_of task.old).asker }) form (Get (request_of task.old).get) (dropped_if read)
+        (D.found door.new)
+        (side (D.told door.old) intake.old (⟦<(S, K, C) as Ends>⟧.ends (source.old, sink.old, clock.old)))
+        (side (D.told door.new) intake.new (⟦<(S, K, C) as Ends>⟧.ends (source.new, sink.new, clock.new)))) }
+    ensures cause { HasServeCause
+        (⟦<(S, K, C) as Ends>⟧.ends (source.old, sink.old, clock.old))
+        (⟦<(S, K, C) as Ends>⟧.ends (source.new, sink.new, clock.new)) result }
+    ensures settings { D.settings door.new ≡ D.settings door.old }
+    ensures home { D.home door.new ≡ D.home door.old }
+    ensures kept { length buffer.new ≡ length buffer.old }
+{
+    if read {
+        return serve_task(
+            alloc, task, span, form, door, clock, intake, source, sink, buffer, out,
+        );
     }
     send_reply(alloc, task, door, clock, sink, out, span, form)?;
     Ok(Served::Replied)
@@ -175,11 +260,13 @@ fn serve_task<D: Door, C: Clock, S: Source, K: Sink>(
 
 /// Serves one GET or HEAD, whose head was read, as the door's present actor, which made no event: reads the row of
 /// the container, drops the body of the request, makes the other events, and writes the reply. The clock is asked
-/// once for each event. The buffers are for pieces of the body and for the text of the reply.
+/// once for each event, and once where wrong chunks decide. A body that is not to be read is left. The buffers
+/// are for pieces of the body and for the text of the reply.
 pub fn serve_get<D: Door, C: Clock, S: Source, K: Sink>(
     alloc: Global,
     request: GetRequest,
     form: ReplyForm,
+    read: bool,
     door: &mut D,
     clock: &mut C,
     intake: &mut Intake,
@@ -192,19 +279,20 @@ pub fn serve_get<D: Door, C: Clock, S: Source, K: Sink>(
     requires low { 1 ≤ request.zone }
     requires high { request.zone ≤ (D.settings door.old).zones }
     requires intake { intake.old.failed ≡ None }
-    requires plain { IsUnchunked intake.old }
     requires form { form.bodiless ≡ not request.get.body }
+    requires shut { read ≡ false → form.close ≡ true }
     requires new { D.tells → IsNew (D.settings door.old) (D.told door.old) }
 
-    // The whole reply was written behind the body, or the input ended inside the body and nothing was.
+    // The whole reply was written behind the body, or with the body left; or the input ended inside the body and
+    // nothing was.
     ensures served { IfOk result (IsServed D.tells D.alone
-        (record { settings = D.settings door.old; zone = request.zone; asker = request.asker }) form (Get request.get)
+        (record { settings = D.settings door.old; zone = request.zone; asker = request.asker }) form (Get request.get) (dropped_if read)
         (side (D.told door.old) intake.old (⟦<(S, K, C) as Ends>⟧.ends (source.old, sink.old, clock.old)))
         (side (D.told door.new) intake.new (⟦<(S, K, C) as Ends>⟧.ends (source.new, sink.new, clock.new)))) }
 
     // Nothing was written, or a front of the reply.
     ensures stopped { IfErr result (IsStopped D.tells D.alone
-        (record { settings = D.settings door.old; zone = request.zone; asker = request.asker }) form (Get request.get)
+        (record { settings = D.settings door.old; zone = request.zone; asker = request.asker }) form (Get request.get) (dropped_if read)
         (D.found door.new)
         (side (D.told door.old) intake.old (⟦<(S, K, C) as Ends>⟧.ends (source.old, sink.old, clock.old)))
         (side (D.told door.new) intake.new (⟦<(S, K, C) as Ends>⟧.ends (source.new, sink.new, clock.new)))) }
@@ -218,7 +306,7 @@ pub fn serve_get<D: Door, C: Clock, S: Source, K: Sink>(
 {
     let span = span_in(&request);
     let mut task = GetTask::new(request);
-    serve_task(
-        alloc, &mut task, span, form, door, clock, intake, source, sink, buffer, out,
+    serve_new(
+        alloc, &mut task, span, form, read, door, clock, intake, source, sink, buffer, out,
     )
 }

@@ -25,7 +25,7 @@ use Rattle.http_intake.specs.Grammar.{IsBodyOf, HasNoBody, TakesWhole, BeginsBro
 
 -- ---- a body
 
-same_body : (largest : ℕ) (framing : Framing) (after a b r q : List ℕ) → IsBodyOf largest framing after a r → IsBodyOf largest framing after b q → (a ≡ b) × (r ≡ q)
+pub same_body : (largest : ℕ) (framing : Framing) (after a b r q : List ℕ) → IsBodyOf largest framing after a r → IsBodyOf largest framing after b q → (a ≡ b) × (r ≡ q)
 same_body largest Empty after a b r q x y = (x.0 ∙ sym y.0, x.1 ∙ sym y.1)
 same_body largest (Length n) after a b r q x y =
     let whole : a ++ r ≡ b ++ q = sym x.0 ∙ y.0 in
@@ -37,17 +37,17 @@ same_body largest Chunked after a b r q x y =
     let same = chunks_unique x.0 y.0 false largest after Body.Whole Body.Whole r q x.1 y.1 in
     (x.2 ∙ ap content_of same.0 ∙ sym y.2, same.2)
 
-not_broken : (largest : ℕ) (framing : Framing) (after body rest : List ℕ) (why : BodyEnd) → IsBodyOf largest framing after body rest → HasNoBody largest framing after why → ⊥
+pub not_broken : (largest : ℕ) (framing : Framing) (after body rest : List ℕ) (why : BodyEnd) → IsBodyOf largest framing after body rest → HasNoBody largest framing after why → ⊥
 not_broken largest Empty after body rest why x y = y
 not_broken largest (Length n) after body rest why x y = omega (arith, x.1, y.1, ap length x.0, length-append body rest)
 not_broken largest Chunked after body rest why x y = y.0 (sym (chunks_unique x.0 y.1 false largest after Body.Whole why rest y.2 x.1 y.3).1)
 
-same_why : (largest : ℕ) (framing : Framing) (after : List ℕ) (v w : BodyEnd) → HasNoBody largest framing after v → HasNoBody largest framing after w → v ≡ w
+pub same_why : (largest : ℕ) (framing : Framing) (after : List ℕ) (v w : BodyEnd) → HasNoBody largest framing after v → HasNoBody largest framing after w → v ≡ w
 same_why largest Empty after v w x y = absurd x
 same_why largest (Length n) after v w x y = x.0 ∙ sym y.0
 same_why largest Chunked after v w x y = (chunks_unique x.1 y.1 false largest after v w x.2 y.2 x.3 y.3).1
 
-body_more : (largest : ℕ) (framing : Framing) (after body rest more : List ℕ) → IsBodyOf largest framing after body rest
+pub body_more : (largest : ℕ) (framing : Framing) (after body rest more : List ℕ) → IsBodyOf largest framing after body rest
     → IsBodyOf largest framing (after ++ more) body (rest ++ more)
 body_more largest Empty after body rest more x = (x.0, ap (λ l. l ++ more) x.1)
 body_more largest (Length n) after body rest more x = (ap (λ l. l ++ more) x.0 ∙ append_assoc body rest more, x.1)
@@ -75,7 +75,7 @@ request_more largest bytes m rest more x = record {
 
 -- ---- no request
 
-abbrev HasNoHead : List ℕ → Type 0
+abbrev pub HasNoHead : List ℕ → Type 0
 HasNoHead bytes = (head : Head) (after : List ℕ) → ¬ (BeginsWith bytes head after)
 
 -- which end of a stream in which no head begins
@@ -100,20 +100,20 @@ data Ends (largest : ℕ) (bytes : List ℕ) (why : Option IntakeFault) : Type 0
   headless : (end : StreamEnd) → IsEnd bytes end → HasNoHead bytes → end_for end ≡ why → Ends largest bytes why
   broken : (end : BodyEnd) → BeginsBroken largest bytes end → fault_for end ≡ why → Ends largest bytes why
 
-blank_headless : (bytes : List ℕ) → IsBlank bytes → HasNoHead bytes
+pub blank_headless : (bytes : List ℕ) → IsBlank bytes → HasNoHead bytes
 blank_headless bytes blank head after x = begun_not_blank bytes x.0 after x.1 blank.1
 
-cut_headless : (bytes : List ℕ) → IsCutHead bytes → HasNoHead bytes
+pub cut_headless : (bytes : List ℕ) → IsCutHead bytes → HasNoHead bytes
 cut_headless bytes cut head after x = no_gap bytes x.0 after x.1 (subst HasNoHeadText (sym (take_all HEAD_LIMIT bytes cut.0)) cut.1)
 
-large_headless : (bytes : List ℕ) → IsOversized bytes → HasNoHead bytes
+pub large_headless : (bytes : List ℕ) → IsOversized bytes → HasNoHead bytes
 large_headless bytes large head after x = no_gap bytes x.0 after x.1 large.1
 
-bad_headless : (bytes : List ℕ) → IsNoHead bytes → HasNoHead bytes
+pub bad_headless : (bytes : List ℕ) → IsNoHead bytes → HasNoHead bytes
 bad_headless bytes (text, rest, begins, none) head after x =
     none x.2.tree (subst (λ t. IsTree t x.2.tree) (one_text bytes x.0 after text rest x.1 begins).0 x.2.is_tree)
 
-unframed_headless : (bytes : List ℕ) (b : Bool) → IsUnframed bytes b → HasNoHead bytes
+pub unframed_headless : (bytes : List ℕ) (b : Bool) → IsUnframed bytes b → HasNoHead bytes
 unframed_headless bytes b (text, rest, begins, tree, is_tree, none, method) head after x =
     let here : IsTree text x.2.tree = subst (λ t. IsTree t x.2.tree) (one_text bytes x.0 after text rest x.1 begins).0 x.2.is_tree in
     let clash : Some head.framing ≡ None = sym x.2.framed ∙ ap framing_in (one_tree text x.2.tree tree here is_tree) ∙ none in

@@ -4,3 +4,4 @@ pub mod Turned
 pub mod Places
 pub mod Seeing
 pub mod Joining
+pub mod Stamped

@@ -13,7 +13,6 @@ use Rattle.task_words.specs.declared.reply.Refusal.TheVariants.{Unauthorized, De
 use Rattle.task_list.specs.declared.request.ListRequest.{ListRequest}
 use Rattle.task_list.specs.Listed.{IsListOutcome}
 use Rattle.call_words.specs.Texts.{HasReply, list_reply}
-use Rattle.call_service.specs.Serving.{is_by_end}
 use Rattle.call_service.specs.Replying.{Replies}
 use Rattle.list_service.specs.Listing.{site_of, asked_by}
 use Rattle.list_service.specs.Texts.{ends_listing, end_text}
@@ -41,15 +40,15 @@ module _ (tells : Type 0) (settings : SettingsView) (form : ReplyForm) (listing 
   -- the reply of a task that ended so, written so far
   pub replies : (outcome : Outcome) → Means outcome → grown (end_text form listing outcome) → Told
   replies (Done (Listed rows)) means written =
-      record { outcome = Done (Listed rows); shown = []; by_event = refl; written = written; right = λ is body. (means is, tt, refl, ((means is).1).reads) }
+      record { outcome = Done (Listed rows); shown = []; by_event = refl; written = written; right = λ is body. ((means is, tt), tt, refl, ((means is).1).reads) }
   replies (Done (Refused Unauthorized)) means written =
-      record { outcome = Done (Refused Unauthorized); shown = []; by_event = refl; written = written; right = λ is body. (means is, tt, refl, ((means is).1).reads) }
+      record { outcome = Done (Refused Unauthorized); shown = []; by_event = refl; written = written; right = λ is body. ((means is, tt), tt, refl, ((means is).1).reads) }
   replies (Done (Refused (Denied rule))) means written =
-      record { outcome = Done (Refused (Denied rule)); shown = []; by_event = refl; written = written; right = λ is body. (means is, tt, refl, ((means is).1).reads) }
+      record { outcome = Done (Refused (Denied rule)); shown = []; by_event = refl; written = written; right = λ is body. ((means is, tt), tt, refl, ((means is).1).reads) }
   replies (Done (Refused NoContainer)) means written =
-      record { outcome = Done (Refused NoContainer); shown = []; by_event = refl; written = written; right = λ is body. (means is, tt, refl, ((means is).1).reads) }
+      record { outcome = Done (Refused NoContainer); shown = []; by_event = refl; written = written; right = λ is body. ((means is, tt), tt, refl, ((means is).1).reads) }
   replies MovedOften means written =
-      record { outcome = MovedOften; shown = []; by_event = refl; written = written; right = λ is body. (means is, tt, refl, ((means is).2).reads) }
+      record { outcome = MovedOften; shown = []; by_event = refl; written = written; right = λ is body. ((means is, tt), tt, refl, ((means is).2).reads) }
   replies (Done (Refused refusal)) means written = never (λ is. (means is).0.0) written
   replies (Done reply) means written = never (λ is. (means is).0) written
   replies outcome means written = never means written

@@ -1,5 +1,5 @@
 -- What a fault leaves of the reply to a listing.
-use Rattle.std.proofs.Common.{◌≡◌, inl, inr, ℕ, true, false, List, [], Option, refl}
+use Rattle.std.proofs.Common.{inl, ℕ, true, false, List, Option}
 use Rattle.std.proofs.KnownBytes.{Appends-nil}
 use Rattle.http_model.specs.declared.reply.ReplyForm.{ReplyForm}
 use Rattle.realm_model.specs.Settings.{SettingsView}

@@ -1,15 +1,20 @@
 ghost use Rattle.std.specs.Prelude.{◌≡◌, ◌≤◌, ◌<◌, ◌^◌, true, false, OnOk, OnErr, IfOk, IfErr, length, None};
 ghost use Rattle.std.specs.Io.KnownBytes.{Appends};
-ghost use Rattle.http_intake.specs.Intake.{IsUnchunked};
 ghost use Rattle.swift_requests.specs.declared.asked.Asked.TheVariants.{Listing};
-ghost use Rattle.task_list.specs.Tasks.{IsOver, request_of, stage_of, fault_of, fits};
+ghost use Rattle.swift_requests.specs.declared.body.BodyUse.TheVariants.{Dropped};
+ghost use Rattle.call_service.specs.Bodies.{dropped_if};
+ghost use Rattle.task_list.specs.declared.stage.Stage.TheVariants.{Look};
+ghost use Rattle.task_list.specs.Tasks.{IsOver, IsPast, request_of, stage_of, fault_of, fits};
+ghost use Rattle.call_words.specs.Bodies.{IsWrong};
 ghost use Rattle.call_service.specs.Serving.{IsNew, IsServed, IsStopped, HasServeCause, Asks, WritesAtFault, side};
 ghost use Rattle.call_service.specs.Replying.{StopsEvent, Replies, StopsReply, stand};
+ghost use Rattle.list_service.specs.Early.{EndsEarly, LeavesEarly};
 ghost use Rattle.list_service.specs.Listing.{IsUpTo, site_of, asked_by};
 
-use crate::write::send_end;
-use call_service::{ServeFault, Served, drop_body, fault_of};
+use crate::write::{send_end, send_outcome};
+use call_service::{ServeFault, Served, closing, drop_body, fault_of, send_broken_body};
 use gw_io::{Clock, Ends, Sink, Source};
+use http_chunks::BodyEnd;
 use http_intake::Intake;
 use http_model::ReplyForm;
 use realm_door::{Door, Task};
@@ -33,6 +38,7 @@ fn act<D: Door, C: Clock>(
         (D.told door.old) (D.told door.new) (C.told clock.old) (C.told clock.new)) }
     ensures unasked { OnErr result (Asks D.tells D.alone (D.settings door.old) true
         (D.told door.old) (D.told door.new) (C.told clock.old) (C.told clock.new)) }
+    ensures looked { OnOk result (stage_of task.old ≡ Look None → IsPast (stage_of task.new)) }
     ensures request { request_of task.new ≡ request_of task.old }
     ensures counts { OnOk result ((D.last door.old < D.last door.new) × (D.last door.new ≤ 2 ^ 62)) }
     ensures fault { IfErr result (StopsEvent D.tells (D.found door.new)) }
@@ -106,7 +112,40 @@ fn send_reply<D: Door, C: Clock, K: Sink>(
     }
 }
 
-/// Serves the listing of a new task.
+/// Writes the reply where the body broke off behind the first event, and the connection closes: what the row
+/// refused, or that the body broke off. The clock is asked once for that.
+fn end_early<C: Clock, K: Sink>(
+    alloc: Global,
+    task: &ListTask,
+    why: BodyEnd,
+    clock: &mut C,
+    sink: &mut K,
+    out: &mut Vec<u8>,
+    listing: ListingForm,
+    form: ReplyForm,
+) -> Result<Served, ServeFault>
+    requires wrong { IsWrong why }
+    ensures ended { IfOk result (EndsEarly form listing why (stage_of task.now)
+        (K.taken sink.old) (K.taken sink.new) (C.told clock.old) (C.told clock.new)) }
+    ensures left { IfErr result (LeavesEarly form listing why (stage_of task.now)
+        (K.taken sink.old) (K.taken sink.new) (C.told clock.old) (C.told clock.new)) }
+    ensures cause { WritesAtFault (K.faults sink.old) (K.faults sink.new) result }
+    ensures plan { C.plan clock.new ≡ C.plan clock.old }
+{
+    if task.is_broken() {
+        return Err(ServeFault::OutOfMemory);
+    }
+    let form = closing(form);
+    if let Some(outcome) = task.refused() {
+        send_outcome(alloc, sink, out, outcome, listing, form)?;
+        return Ok(Served::Closed);
+    }
+    let _moment = clock.now();
+    send_broken_body(sink, out, why, form)?;
+    Ok(Served::Refused)
+}
+
+/// Serves the listing of a new task, and drops the body of the request.
 fn serve_task<D: Door, C: Clock, S: Source, K: Sink>(
     alloc: Global,
     task: &mut ListTask,
@@ -122,17 +161,17 @@ fn serve_task<D: Door, C: Clock, S: Source, K: Sink>(
 ) -> Result<Served, ServeFault>
     requires room { 0 < length buffer.old }
     requires open { IsOver (stage_of task.old) → ⊥ }
+    requires looks { stage_of task.old ≡ Look None }
     requires sound { fault_of task.old ≡ None }
     requires fits { D.tells → fits task.old (D.settings door.old) (D.told door.old) }
     requires intake { intake.old.failed ≡ None }
-    requires plain { IsUnchunked intake.old }
     requires new { D.tells → IsNew (D.settings door.old) (D.told door.old) }
     ensures served { IfOk result (IsServed D.tells D.alone (site_of (D.settings door.old) (request_of task.old)) form
-        (asked_by (request_of task.old) listing)
+        (asked_by (request_of task.old) listing) Dropped
         (side (D.told door.old) intake.old (⟦<(S, K, C) as Ends>⟧.ends (source.old, sink.old, clock.old)))
         (side (D.told door.new) intake.new (⟦<(S, K, C) as Ends>⟧.ends (source.new, sink.new, clock.new)))) }
     ensures stopped { IfErr result (IsStopped D.tells D.alone (site_of (D.settings door.old) (request_of task.old)) form
-        (asked_by (request_of task.old) listing) (D.found door.new)
+        (asked_by (request_of task.old) listing) Dropped (D.found door.new)
         (side (D.told door.old) intake.old (⟦<(S, K, C) as Ends>⟧.ends (source.old, sink.old, clock.old)))
         (side (D.told door.new) intake.new (⟦<(S, K, C) as Ends>⟧.ends (source.new, sink.new, clock.new)))) }
     ensures cause { HasServeCause
@@ -143,9 +182,59 @@ fn serve_task<D: Door, C: Clock, S: Source, K: Sink>(
     ensures kept { length buffer.new ≡ length buffer.old }
 {
     act(alloc, task, door, clock)?;
-    let whole = drop_body(intake, source, buffer)?;
-    if !whole {
-        return Ok(Served::Cut);
+    let end = drop_body(intake, source, buffer)?;
+    match end {
+        BodyEnd::Whole => {
+            send_reply(alloc, task, listing, form, door, clock, sink, out)?;
+            Ok(Served::Replied)
+        }
+        BodyEnd::Cut => Ok(Served::Cut),
+        why => end_early(alloc, task, why, clock, sink, out, listing, form),
+    }
+}
+
+/// Serves the listing of a new task, whose body is dropped or left.
+fn serve_new<D: Door, C: Clock, S: Source, K: Sink>(
+    alloc: Global,
+    task: &mut ListTask,
+    listing: ListingForm,
+    form: ReplyForm,
+    read: bool,
+    door: &mut D,
+    clock: &mut C,
+    intake: &mut Intake,
+    source: &mut S,
+    sink: &mut K,
+    buffer: &mut [u8],
+    out: &mut Vec<u8>,
+) -> Result<Served, ServeFault>
+    requires room { 0 < length buffer.old }
+    requires open { IsOver (stage_of task.old) → ⊥ }
+    requires looks { stage_of task.old ≡ Look None }
+    requires sound { fault_of task.old ≡ None }
+    requires fits { D.tells → fits task.old (D.settings door.old) (D.told door.old) }
+    requires intake { intake.old.failed ≡ None }
+    requires shut { read ≡ false → form.close ≡ true }
+    requires new { D.tells → IsNew (D.settings door.old) (D.told door.old) }
+    ensures served { IfOk result (IsServed D.tells D.alone (site_of (D.settings door.old) (request_of task.old)) form
+        (asked_by (request_of task.old) listing) (dropped_if read)
+        (side (D.told door.old) intake.old (⟦<(S, K, C) as Ends>⟧.ends (source.old, sink.old, clock.old)))
+        (side (D.told door.new) intake.new (⟦<(S, K, C) as Ends>⟧.ends (source.new, sink.new, clock.new)))) }
+    ensures stopped { IfErr result (IsStopped D.tells D.alone (site_of (D.settings door.old) (request_of task.old)) form
+        (asked_by (request_of task.old) listing) (dropped_if read) (D.found door.new)
+        (side (D.told door.old) intake.old (⟦<(S, K, C) as Ends>⟧.ends (source.old, sink.old, clock.old)))
+        (side (D.told door.new) intake.new (⟦<(S, K, C) as Ends>⟧.ends (source.new, sink.new, clock.new)))) }
+    ensures cause { HasServeCause
+        (⟦<(S, K, C) as Ends>⟧.ends (source.old, sink.old, clock.old))
+        (⟦<(S, K, C) as Ends>⟧.ends (source.new, sink.new, clock.new)) result }
+    ensures settings { D.settings door.new ≡ D.settings door.old }
+    ensures home { D.home door.new ≡ D.home door.old }
+    ensures kept { length buffer.new ≡ length buffer.old }
+{
+    if read {
+        return serve_task(
+            alloc, task, listing, form, door, clock, intake, source, sink, buffer, out,
+        );
     }
     send_reply(alloc, task, listing, form, door, clock, sink, out)?;
     Ok(Served::Replied)
@@ -153,12 +242,14 @@ fn serve_task<D: Door, C: Clock, S: Source, K: Sink>(
 
 /// Serves one listing, whose head was read, as the door's present actor, which made no event: reads the row of
 /// the container, drops the body of the request, makes the other events, and writes the reply. The clock is asked
-/// once for each event. The buffers are for pieces of the body and for the text of the reply.
+/// once for each event, and once where wrong chunks decide. A body that is not to be read is left. The buffers
+/// are for pieces of the body and for the text of the reply.
 pub fn serve_listing<D: Door, C: Clock, S: Source, K: Sink>(
     alloc: Global,
     request: ListRequest,
     listing: ListingForm,
     form: ReplyForm,
+    read: bool,
     door: &mut D,
     clock: &mut C,
     intake: &mut Intake,
@@ -171,18 +262,19 @@ pub fn serve_listing<D: Door, C: Clock, S: Source, K: Sink>(
     requires low { 1 ≤ request.zone }
     requires high { request.zone ≤ (D.settings door.old).zones }
     requires intake { intake.old.failed ≡ None }
-    requires plain { IsUnchunked intake.old }
+    requires shut { read ≡ false → form.close ≡ true }
     requires new { D.tells → IsNew (D.settings door.old) (D.told door.old) }
 
-    // The whole reply was written behind the body, or the input ended inside the body and nothing was.
+    // The whole reply was written behind the body, or with the body left; or the input ended inside the body and
+    // nothing was.
     ensures served { IfOk result (IsServed D.tells D.alone
-        (record { settings = D.settings door.old; zone = request.zone; asker = request.asker }) form (Listing request.command listing)
+        (record { settings = D.settings door.old; zone = request.zone; asker = request.asker }) form (Listing request.command listing) (dropped_if read)
         (side (D.told door.old) intake.old (⟦<(S, K, C) as Ends>⟧.ends (source.old, sink.old, clock.old)))
         (side (D.told door.new) intake.new (⟦<(S, K, C) as Ends>⟧.ends (source.new, sink.new, clock.new)))) }
 
     // Nothing was written, or a front of the reply.
     ensures stopped { IfErr result (IsStopped D.tells D.alone
-        (record { settings = D.settings door.old; zone = request.zone; asker = request.asker }) form (Listing request.command listing)
+        (record { settings = D.settings door.old; zone = request.zone; asker = request.asker }) form (Listing request.command listing) (dropped_if read)
         (D.found door.new)
         (side (D.told door.old) intake.old (⟦<(S, K, C) as Ends>⟧.ends (source.old, sink.old, clock.old)))
         (side (D.told door.new) intake.new (⟦<(S, K, C) as Ends>⟧.ends (source.new, sink.new, clock.new)))) }
@@ -195,7 +287,7 @@ pub fn serve_listing<D: Door, C: Clock, S: Source, K: Sink>(
     ensures kept { length buffer.new ≡ length buffer.old }
 {
     let mut task = ListTask::new(request);
-    serve_task(
-        alloc, &mut task, listing, form, door, clock, intake, source, sink, buffer, out,
+    serve_new(
+        alloc, &mut task, listing, form, read, door, clock, intake, source, sink, buffer, out,
     )
 }

@@ -28,9 +28,8 @@ fn ends_listing(outcome: &Outcome) -> bool
     }
 }
 
-/// Writes the reply of a listing whose task may end so.
-#[tactic(auto, using(crate::proofs::Ends::ends_reply))]
-fn send_outcome<K: Sink>(
+/// Writes the reply of a listing whose task ended so. The buffer is used for its text.
+pub(crate) fn send_outcome<K: Sink>(
     alloc: Global,
     sink: &mut K,
     out: &mut Vec<u8>,
@@ -38,7 +37,7 @@ fn send_outcome<K: Sink>(
     listing: ListingForm,
     form: ReplyForm,
 ) -> Result<(), ServeFault>
-    requires { ends_listing outcome.now ≡ true }
+    requires { HasReply (list_reply listing outcome.now) }
     ensures ok { OnOk result (Appends (K.taken sink.old) (K.taken sink.new) (text_if form (list_reply listing outcome.now) [])) }
     ensures err { IfErr result (LeavesText (K.taken sink.old) (K.taken sink.new) (text_if form (list_reply listing outcome.now) [])) }
     ensures cause { WritesAtFault (K.faults sink.old) (K.faults sink.new) result }
@@ -48,7 +47,8 @@ fn send_outcome<K: Sink>(
     send(sink, out.as_slice())
 }
 
-/// Writes the reply of a listing whose task ended so. The buffer is used for its text.
+/// Writes the reply of a listing whose task ended so, where a listing may.
+#[tactic(auto, using(crate::proofs::Ends::ends_reply))]
 pub(crate) fn send_end<K: Sink>(
     alloc: Global,
     sink: &mut K,

@@ -26,7 +26,7 @@ use Rattle.realm_model.specs.Allowed.{meets_need}
 use Rattle.realm_model.specs.Accounts.{Looked, MovedCount, has_shard, looked_since, is_left, moved_at}
 use Rattle.realm_model.specs.Histories.{world_of, state_of, phase_of}
 use Rattle.realm_model.specs.declared.op.Op.{Op}
-use Rattle.realm_model.specs.declared.op.Op.TheVariants.{BucketRead, Page, Prepare, Complete, Cancel, HeadRead, HeadWrite, TailMake, TailRead, Announce, BucketSwap}
+use Rattle.realm_model.specs.declared.op.Op.TheVariants.{BucketRead, Page, Suggest, Prepare, Complete, Cancel, HeadRead, HeadWrite, TailMake, TailRead, Announce, BucketSwap}
 use Rattle.realm_model.specs.declared.event.Reply.{Reply}
 use Rattle.realm_model.specs.declared.event.Reply.TheVariants.{Done, No, Prepared, Entries}
 use Rattle.realm_model.specs.declared.event.Event.{Event}
@@ -53,6 +53,7 @@ is_of_task (TailMake zone write part bytes) = true
 is_of_task (TailRead zone write part begin count) = true
 is_of_task (Announce zone container instance shard bucket) = true
 is_of_task (Page zone key after limit) = is_shard_key key
+is_of_task (Suggest zone key name revision seen version row) = true
 is_of_task op = false
 
 pub task_keeps : (op : Op) → is_of_task op ≡ true → keeps_rows op ≡ true

@@ -13,7 +13,7 @@ use Rattle.realm_model.specs.Owns.{OwnEvent, clock_after, own_from, own_events, 
 use Rattle.realm_model.specs.Worlds.{start, same_actor, actor_of}
 use Rattle.realm_model.specs.Histories.{Doings, state_of, account_of, Legal}
 use Rattle.realm_model.specs.declared.op.Op.{Op}
-use Rattle.realm_model.specs.declared.op.Op.TheVariants.{BucketRead, Page, Prepare, Complete, Cancel, HeadRead, HeadWrite, TailMake, TailRead, Announce}
+use Rattle.realm_model.specs.declared.op.Op.TheVariants.{BucketRead, Page, Suggest, Prepare, Complete, Cancel, HeadRead, HeadWrite, TailMake, TailRead, Announce}
 use Rattle.realm_model.specs.declared.event.Event.{Event}
 use Rattle.realm_model.proofs.ObjectLemmas.{actor_itself}
 use Rattle.realm_model.proofs.Others.{account-others}
@@ -24,6 +24,7 @@ use Rattle.swift_requests.specs.declared.asked.Asked.{Asked}
 use Rattle.swift_requests.specs.declared.asked.Asked.TheVariants as Asks
 use Rattle.task_words.specs.declared.asker.Asker.{Asker}
 use Rattle.task_words.specs.declared.outcome.Outcome.{Outcome}
+use Rattle.call_words.specs.Bodies.{Fate}
 use Rattle.call_words.specs.Calls.{Ground, alone, task, Call, IsBorneOut, RestsOn, IsOfNext, actor_after, AreRight}
 use Rattle.call_words.specs.Events.{is_of_get, is_of_put, AreOfGet, AreOfPut}
 use Rattle.task_list.specs.Listed.{is_of_listing, AreOfListing}
@@ -34,7 +35,7 @@ use Rattle.once_law.specs.Runs.{NoneFrom, AreClocks, fixed_by, AreOfMaps}
 use Rattle.once_law.proofs.Standing.{keeps_rows, Standing, stands_first, stands_behind}
 use Rattle.once_law.proofs.Calm.{is_of_task, task_keeps}
 use Rattle.once_law.proofs.Stamps.{found_early}
-use Rattle.once_law.proofs.Saying.{get_done, put_done}
+use Rattle.once_law.proofs.Cutting.{get_told, put_told, list_told}
 use Rattle.once_law.proofs.Listing.{AreReads, list_done}
 
 -- ---- operations
@@ -58,6 +59,7 @@ put_tasks op is = let e : false ≡ true = is in absurd (cc)
 list_tasks : (op : Op) → is_of_listing op ≡ true → is_of_task op ≡ true
 list_tasks (BucketRead zone name) is = refl
 list_tasks (Page zone key after limit) is = is
+list_tasks (Suggest zone key name revision seen version row) is = refl
 list_tasks (HeadRead zone container name) is = refl
 list_tasks op is = let e : false ≡ true = is in absurd (cc)
 
@@ -155,22 +157,22 @@ standing_first settings before actor unused =
 -- ---- one call
 
 -- what a longer history says of the actor, a shorter one says, where others alone came in between
-pub rests_before : (settings : SettingsView) (zone : ℕ) (asker : Asker) (pass : ℕ) (history more : List Event) (next : ℕ) (g : Ground) (asked : Asked) (body shown : List ℕ) → IsOfNext next g → NoneBy (actor_of_pass pass next) more
-    → RestsOn settings zone asker pass (history ++ more) asked body shown g → RestsOn settings zone asker pass history asked body shown g
-rests_before settings zone asker pass history more next alone asked body shown of_next none rests = rests
-rests_before settings zone asker pass history more next (task actor outcome) asked body shown of_next none rests =
+pub rests_before : (settings : SettingsView) (zone : ℕ) (asker : Asker) (pass : ℕ) (history more : List Event) (next : ℕ) (g : Ground) (asked : Asked) (fate : Fate) (body shown : List ℕ) → IsOfNext next g → NoneBy (actor_of_pass pass next) more
+    → RestsOn settings zone asker pass (history ++ more) asked fate body shown g → RestsOn settings zone asker pass history asked fate body shown g
+rests_before settings zone asker pass history more next alone asked fate body shown of_next none rests = rests
+rests_before settings zone asker pass history more next (task actor outcome) asked fate body shown of_next none rests =
     let e : next ≡ actor = sym of_next in
     let same = same_after_others settings history more (actor_of_pass pass actor) (subst (λ a. NoneBy (actor_of_pass pass a) more) e none) in
     let account = ap (λ (q : Doings). q.account) same.doings in
-    let there = subst (λ (y : Account). IsBorneOut zone asker asked body outcome shown y (own_events (history ++ more) (actor_of_pass pass actor))) account rests in
-    subst (λ (l : List OwnEvent). IsBorneOut zone asker asked body outcome shown (account_of settings history (actor_of_pass pass actor)) l) same.events there
+    let there = subst (λ (y : Account). IsBorneOut zone asker asked fate body outcome shown y (own_events (history ++ more) (actor_of_pass pass actor))) account rests in
+    subst (λ (l : List OwnEvent). IsBorneOut zone asker asked fate body outcome shown (account_of settings history (actor_of_pass pass actor)) l) same.events there
 
 module _ (settings : SettingsView) (good : IsSettings settings) (zone : ℕ) (asker : Asker) (pass : ℕ) (clocks : ℕ → ℕ) where
   -- what one call leaves: the rows stay
   record Steps (before first : List Event) (call : Call) : Type 0 where
     roots : (z : ℕ) → (state_of settings (before ++ first)).root z ≡ (state_of settings before).root z
-    is_said : IsSaidTo (fixed_by settings before zone asker clocks) (slots_in settings before zone) call.asked call.request.body call.ground call.shown
-    left : left_behind (fixed_by settings before zone asker clocks) (slots_in settings before zone) (command_in call.asked call.request.body) call.ground ≡ slots_in settings (before ++ first) zone
+    is_said : IsSaidTo (fixed_by settings before zone asker clocks) (slots_in settings before zone) call.asked call.fate call.request.body call.ground call.shown
+    left : left_behind (fixed_by settings before zone asker clocks) (slots_in settings before zone) (command_in call.asked call.fate call.request.body) call.ground ≡ slots_in settings (before ++ first) zone
 
   module _ (before first : List Event) (legal : Legal settings (before ++ first)) (few : length (before ++ first) ≤ 2 ^ 62) where
     module _ (count : ℕ) (unused : NoneBy (actor_of_pass pass count) before) (own : AreBy pass count first) where
@@ -185,41 +187,43 @@ module _ (settings : SettingsView) (good : IsSettings settings) (zone : ℕ) (as
           stands_behind settings before actor before first legal own (keep_rows first (first_ops before first pass count unused own are))
           (standing_first settings before actor unused)
 
-      one_task : (asked : Asked) (body : List ℕ) (outcome : Outcome) (shown : List ℕ)
+      one_task : (asked : Asked) (fate : Fate) (body : List ℕ) (outcome : Outcome) (shown : List ℕ)
           → ((event : Decided) → y.decided ≡ Some event → clocks count ≡ event.clock)
-          → IsBorneOut zone asker asked body outcome shown y (own_events (before ++ first) actor)
+          → IsBorneOut zone asker asked fate body outcome shown y (own_events (before ++ first) actor)
           → ((z : ℕ) → (state_of settings (before ++ first)).root z ≡ (state_of settings before).root z)
-          × IsSaidTo (fixed_by settings before zone asker clocks) (slots_in settings before zone) asked body (task count outcome) shown
-          × (left_behind (fixed_by settings before zone asker clocks) (slots_in settings before zone) (command_in asked body) (task count outcome) ≡ slots_in settings (before ++ first) zone)
-      one_task Asks.BadHost body outcome shown clock borne = absurd borne
-      one_task (Asks.Refused why) body outcome shown clock borne = absurd borne
-      one_task (Asks.Put c) body outcome shown clock borne =
+          × IsSaidTo (fixed_by settings before zone asker clocks) (slots_in settings before zone) asked fate body (task count outcome) shown
+          × (left_behind (fixed_by settings before zone asker clocks) (slots_in settings before zone) (command_in asked fate body) (task count outcome) ≡ slots_in settings (before ++ first) zone)
+      one_task Asks.BadHost fate body outcome shown clock borne = absurd borne
+      one_task (Asks.Refused why) fate body outcome shown clock borne = absurd borne
+      one_task (Asks.Put c) fate body outcome shown clock borne =
           let standing = stands (puts_of_tasks (own_events (before ++ first) actor) borne.3) in
           let early = λ (d : Decided) (is : y.decided ≡ Some d). found_early settings (before ++ first) actor d legal few is in
-          let done = put_done settings before (before ++ first) zone asker clocks count y standing clock c body outcome (own_events (before ++ first) actor) shown early borne.0 borne.1 borne.2 in
-          (standing.roots, done.is_said, done.left)
-      one_task (Asks.Get c) body outcome shown clock borne =
+          let told = put_told settings before (before ++ first) zone asker clocks count y standing clock c fate body outcome (own_events (before ++ first) actor) shown early borne.0 borne.1 borne.2 in
+          (standing.roots, told.is_said, told.left)
+      one_task (Asks.Get c) fate body outcome shown clock borne =
           let standing = stands (gets_of_tasks (own_events (before ++ first) actor) borne.3) in
-          let done = get_done settings before (before ++ first) zone asker clocks count y standing clock c outcome shown borne.0 borne.1 borne.2 in
-          (standing.roots, done.is_said, done.left)
-      one_task (Asks.Listing c listing) body outcome shown clock borne =
+          let told = get_told settings before (before ++ first) zone asker clocks count y standing clock c fate body outcome shown borne.0 borne.1 borne.2 in
+          (standing.roots, told.is_said, told.left)
+      one_task (Asks.Listing c listing) fate body outcome shown clock borne =
           let standing = stands (lists_of_tasks (own_events (before ++ first) actor) borne.3) in
           let reads = first_reads before first pass count unused own borne.3 in
-          let done = list_done settings good before first legal zone asker clocks actor unused reads standing c outcome borne.0 in
-          (standing.roots, (done.is_said, borne.2), done.left)
+          let told =
+          list_told settings before (before ++ first) zone asker clocks count y standing clock c listing fate body outcome (own_events (before ++ first) actor) shown
+          (list_done settings good before first legal zone asker clocks actor unused reads standing c outcome) borne.0 borne.1 borne.2 in
+          (standing.roots, told.is_said, told.left)
 
-    one_alone : (asked : Asked) (body : List ℕ) (shown : List ℕ) (history : List Event) → first ≡ [] → RestsOn settings zone asker pass history asked body shown alone
+    one_alone : (asked : Asked) (fate : Fate) (body : List ℕ) (shown : List ℕ) (history : List Event) → first ≡ [] → RestsOn settings zone asker pass history asked fate body shown alone
         → ((z : ℕ) → (state_of settings (before ++ first)).root z ≡ (state_of settings before).root z)
-        × IsSaidTo (fixed_by settings before zone asker clocks) (slots_in settings before zone) asked body alone shown
-        × (left_behind (fixed_by settings before zone asker clocks) (slots_in settings before zone) (command_in asked body) alone ≡ slots_in settings (before ++ first) zone)
-    one_alone asked body shown history none rests =
+        × IsSaidTo (fixed_by settings before zone asker clocks) (slots_in settings before zone) asked fate body alone shown
+        × (left_behind (fixed_by settings before zone asker clocks) (slots_in settings before zone) (command_in asked fate body) alone ≡ slots_in settings (before ++ first) zone)
+    one_alone asked fate body shown history none rests =
         let same : before ++ first ≡ before = ap (λ l. before ++ l) none ∙ append-nil before in
         by_asked asked rests same
       where
-        by_asked : (asked : Asked) → RestsOn settings zone asker pass history asked body shown alone → before ++ first ≡ before
+        by_asked : (asked : Asked) → RestsOn settings zone asker pass history asked fate body shown alone → before ++ first ≡ before
             → ((z : ℕ) → (state_of settings (before ++ first)).root z ≡ (state_of settings before).root z)
-            × IsSaidTo (fixed_by settings before zone asker clocks) (slots_in settings before zone) asked body alone shown
-            × (left_behind (fixed_by settings before zone asker clocks) (slots_in settings before zone) (command_in asked body) alone ≡ slots_in settings (before ++ first) zone)
+            × IsSaidTo (fixed_by settings before zone asker clocks) (slots_in settings before zone) asked fate body alone shown
+            × (left_behind (fixed_by settings before zone asker clocks) (slots_in settings before zone) (command_in asked fate body) alone ≡ slots_in settings (before ++ first) zone)
         by_asked Asks.BadHost rests same = ((λ z. ap (λ l. (state_of settings l).root z) same), rests.1, ap (λ l. slots_in settings l zone) (sym same))
         by_asked (Asks.Refused why) rests same = ((λ z. ap (λ l. (state_of settings l).root z) same), rests.1, ap (λ l. slots_in settings l zone) (sym same))
         by_asked (Asks.Put c) rests same = absurd rests.0
@@ -235,24 +239,24 @@ module _ (settings : SettingsView) (good : IsSettings settings) (zone : ℕ) (as
       abbrev Leaves : Ground → Type 0
       Leaves g =
           ((z : ℕ) → (state_of settings (before ++ first)).root z ≡ (state_of settings before).root z)
-          × IsSaidTo (fixed_by settings before zone asker clocks) (slots_in settings before zone) call.asked call.request.body g call.shown
-          × (left_behind (fixed_by settings before zone asker clocks) (slots_in settings before zone) (command_in call.asked call.request.body) g ≡ slots_in settings (before ++ first) zone)
+          × IsSaidTo (fixed_by settings before zone asker clocks) (slots_in settings before zone) call.asked call.fate call.request.body g call.shown
+          × (left_behind (fixed_by settings before zone asker clocks) (slots_in settings before zone) (command_in call.asked call.fate call.request.body) g ≡ slots_in settings (before ++ first) zone)
 
       by_ground : (g : Ground) → AreRight settings zone asker pass ((before ++ first) ++ others) (actor_after next g) calls last → IsOfNext next g → AreMadeFor pass g first
-          → RestsOn settings zone asker pass ((before ++ first) ++ others) call.asked call.request.body call.shown g → Leaves g
-      by_ground alone right of_next own rests = one_alone call.asked call.request.body call.shown ((before ++ first) ++ others) own rests
+          → RestsOn settings zone asker pass ((before ++ first) ++ others) call.asked call.fate call.request.body call.shown g → Leaves g
+      by_ground alone right of_next own rests = one_alone call.asked call.fate call.request.body call.shown ((before ++ first) ++ others) own rests
       by_ground (task actor outcome) right of_next own rests =
           let e : actor ≡ next = of_next in
           let none = none_of_later pass next (next + 1) calls others later last (omega arith) settings zone asker ((before ++ first) ++ others) right made by_last in
           let same = same_after_others settings (before ++ first) others (actor_of_pass pass next) none in
           let account = ap (λ (q : Doings). q.account) same.doings in
-          let borne = rests_before settings zone asker pass (before ++ first) others next (task actor outcome) call.asked call.request.body call.shown of_next none rests in
-          let at_next = subst (λ a. RestsOn settings zone asker pass (before ++ first) call.asked call.request.body call.shown (task a outcome)) e borne in
+          let borne = rests_before settings zone asker pass (before ++ first) others next (task actor outcome) call.asked call.fate call.request.body call.shown of_next none rests in
+          let at_next = subst (λ a. RestsOn settings zone asker pass (before ++ first) call.asked call.fate call.request.body call.shown (task a outcome)) e borne in
           let own' = subst (λ a. AreBy pass a first) e own in
-          let done = one_task next unused own' call.asked call.request.body outcome call.shown (λ event is. clock event (ap (λ (y : Account). y.decided) account ∙ is)) at_next in
+          let done = one_task next unused own' call.asked call.fate call.request.body outcome call.shown (λ event is. clock event (ap (λ (y : Account). y.decided) account ∙ is)) at_next in
           subst (λ a. Leaves (task a outcome)) (sym e) done
 
-      steps : IsOfNext next call.ground → AreMadeFor pass call.ground first → RestsOn settings zone asker pass ((before ++ first) ++ others) call.asked call.request.body call.shown call.ground → Steps before first call
+      steps : IsOfNext next call.ground → AreMadeFor pass call.ground first → RestsOn settings zone asker pass ((before ++ first) ++ others) call.asked call.fate call.request.body call.shown call.ground → Steps before first call
       steps of_next own rests =
           let parts = by_ground call.ground right of_next own rests in
           record { roots = parts.0; is_said = parts.1; left = parts.2 }

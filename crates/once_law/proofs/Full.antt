@@ -16,15 +16,15 @@ use Rattle.swift_requests.specs.declared.asked.Asked.TheVariants as Asks
 use Rattle.task_words.specs.declared.asker.Asker.{Asker}
 use Rattle.task_words.specs.declared.outcome.Outcome.{Outcome}
 use Rattle.task_words.specs.declared.outcome.Outcome.TheVariants.{Done, BodyFailed, Busy, MovedOften, LateTag, LateRead, NoSpace}
-use Rattle.task_words.specs.Outcomes.{IsPutOutcome, IsGetOutcome}
+use Rattle.task_words.specs.Outcomes.{Body, IsPutOutcome}
 use Rattle.task_words.specs.declared.command.PutCommand.{PutCommand}
 use Rattle.task_words.specs.declared.command.GetCommand.{GetCommand}
-use Rattle.call_words.specs.Calls.{Ground, alone, task, Call, IsBorneOut, RestsOn, IsOfNext, actor_after, AreRight, whole}
+use Rattle.call_words.specs.Bodies.{Fate}
+use Rattle.call_words.specs.Calls.{Ground, alone, task, Call, IsGetEnd, IsListEnd, IsBorneOut, RestsOn, IsOfNext, actor_after, AreRight, body_at}
 use Rattle.call_words.specs.Made.{AreBy, AreMadeFor, AreMade}
-use Rattle.call_words.specs.Texts.{outcome_reply, HasReply}
+use Rattle.call_words.specs.Texts.{told_reply, HasReply}
 use Rattle.task_words.specs.Answers.{span_of}
 use Rattle.task_list.specs.declared.request.ListRequest.{ListRequest}
-use Rattle.task_list.specs.Listed.{IsListOutcome}
 use Rattle.once_law.specs.Folds.{IsRepliedOrFull, AreRepliedOrFull}
 use Rattle.once_law.specs.Runs.{NoneFrom, AreAt}
 use Rattle.once_law.proofs.Folding.{none_of_later, OfTasks, puts_of_tasks, lists_of_tasks, first_ops, standing_first, rests_before, unused_behind}
@@ -53,36 +53,38 @@ module _ (settings : SettingsView) (good : IsSettings settings) (zone : ℕ) (as
         (subst (λ (a : Account). Calm settings good before moment before a (phase_of settings before actor)) (sym account)
         (subst (λ (q : Phase). Calm settings good before moment before blank q) (sym phase) (calm_first settings good before moment low)))
 
-    put_full : (c : PutCommand) (bytes : List ℕ) (outcome : Outcome) (events : List OwnEvent) → Calm settings good before moment (before ++ first) y p → IsPutOutcome zone asker c (whole bytes) outcome y events → HasReply (outcome_reply None outcome) → IsRepliedOrFull (task count outcome)
-    put_full c bytes (Done reply) events still by has = tt
-    put_full c bytes BodyFailed events still by has = has
-    put_full c bytes (Busy id) events still by has =
+    put_full : (c : PutCommand) (body : Body) (outcome : Outcome) (events : List OwnEvent) → Calm settings good before moment (before ++ first) y p → IsPutOutcome zone asker c body outcome y events → IsRepliedOrFull (task count outcome)
+    put_full c body (Done reply) events still by = tt
+    put_full c body BodyFailed events still by = tt
+    put_full c body (Busy id) events still by =
         let met = by.1 in
         let clash : None ≡ Some met.hold = sym still.held ∙ met.is_last in
         absurd (cc)
-    put_full c bytes MovedOften events still by has = let none = still.moved in let many = by.1 in absurd (omega (arith, none, many))
-    put_full c bytes LateTag events still by has = let none = still.expired in let many = by.1 in absurd (omega (arith, none, many))
-    put_full c bytes (NoSpace free needed) events still by has = tt
-    put_full c bytes outcome events still by has = absurd by
+    put_full c body MovedOften events still by = let none = still.moved in let many = by.1 in absurd (omega (arith, none, many))
+    put_full c body LateTag events still by = let none = still.expired in let many = by.1 in absurd (omega (arith, none, many))
+    put_full c body (NoSpace free needed) events still by = tt
+    put_full c body outcome events still by = absurd by
 
-    get_full : (c : GetCommand) (outcome : Outcome) → IsGetOutcome zone asker c outcome y → HasReply (outcome_reply (span_of c) outcome) → IsRepliedOrFull (task count outcome)
-    get_full c (Done reply) by has = tt
-    get_full c (LateRead read_at late) by has = has
-    get_full c outcome by has = absurd by
+    get_full : (c : GetCommand) (fate : Fate) (outcome : Outcome) → IsGetEnd zone asker c fate outcome y → HasReply (told_reply (span_of c) fate outcome) → IsRepliedOrFull (task count outcome)
+    get_full c fate (Done reply) by has = tt
+    get_full c fate BodyFailed by has = tt
+    get_full c fate (LateRead read_at late) by has = has
+    get_full c fate outcome by has = absurd by.0
 
-    list_full : (r : ListRequest) (outcome : Outcome) (events : List OwnEvent) → Calm settings good before moment (before ++ first) y p → IsListOutcome r outcome y events → IsRepliedOrFull (task count outcome)
-    list_full r (Done reply) events still by = tt
-    list_full r MovedOften events still by = let none = still.moved in let many = by.1 in absurd (omega (arith, none, many))
-    list_full r outcome events still by = absurd by
+    list_full : (r : ListRequest) (fate : Fate) (outcome : Outcome) (events : List OwnEvent) → Calm settings good before moment (before ++ first) y p → IsListEnd r fate outcome y events → IsRepliedOrFull (task count outcome)
+    list_full r fate (Done reply) events still by = tt
+    list_full r fate BodyFailed events still by = tt
+    list_full r fate MovedOften events still by = let none = still.moved in let many = by.0.1 in absurd (omega (arith, none, many))
+    list_full r fate outcome events still by = absurd by.0
 
-    one_full : (asked : Asked) (body : List ℕ) (outcome : Outcome) (shown : List ℕ) → IsBorneOut zone asker asked body outcome shown y (own_events (before ++ first) actor) → IsRepliedOrFull (task count outcome)
-    one_full Asks.BadHost body outcome shown borne = absurd borne
-    one_full (Asks.Refused why) body outcome shown borne = absurd borne
-    one_full (Asks.Put c) body outcome shown borne =
-        put_full c body outcome (own_events (before ++ first) actor) (calm (puts_of_tasks (own_events (before ++ first) actor) borne.3)) borne.0 borne.1
-    one_full (Asks.Get c) body outcome shown borne = get_full c outcome borne.0 borne.1
-    one_full (Asks.Listing c listing) body outcome shown borne =
-        list_full (record { zone = zone; asker = asker; command = c }) outcome (own_events (before ++ first) actor)
+    one_full : (asked : Asked) (fate : Fate) (body : List ℕ) (outcome : Outcome) (shown : List ℕ) → IsBorneOut zone asker asked fate body outcome shown y (own_events (before ++ first) actor) → IsRepliedOrFull (task count outcome)
+    one_full Asks.BadHost fate body outcome shown borne = absurd borne
+    one_full (Asks.Refused why) fate body outcome shown borne = absurd borne
+    one_full (Asks.Put c) fate body outcome shown borne =
+        put_full c (body_at fate body) outcome (own_events (before ++ first) actor) (calm (puts_of_tasks (own_events (before ++ first) actor) borne.3)) borne.0
+    one_full (Asks.Get c) fate body outcome shown borne = get_full c fate outcome borne.0 borne.1
+    one_full (Asks.Listing c listing) fate body outcome shown borne =
+        list_full (record { zone = zone; asker = asker; command = c }) fate outcome (own_events (before ++ first) actor)
         (calm (lists_of_tasks (own_events (before ++ first) actor) borne.3)) borne.0
 
   -- ---- calls
@@ -105,10 +107,10 @@ module _ (settings : SettingsView) (good : IsSettings settings) (zone : ℕ) (as
       )
     where
       here : (g : Ground) → AreRight settings zone asker pass ((before ++ first) ++ others) (actor_after next g) calls last → IsOfNext next g → AreMadeFor pass g first
-          → RestsOn settings zone asker pass ((before ++ first) ++ others) call.asked call.request.body call.shown g → Legal settings (before ++ first) → AreAt moment first → IsRepliedOrFull g
+          → RestsOn settings zone asker pass ((before ++ first) ++ others) call.asked call.fate call.request.body call.shown g → Legal settings (before ++ first) → AreAt moment first → IsRepliedOrFull g
       here alone right of_next own rests front at = tt
       here (task actor outcome) right of_next own rests front at =
           let e : actor ≡ next = of_next in
           let none = none_of_later pass next (next + 1) calls others later last (omega arith) settings zone asker ((before ++ first) ++ others) right made by_last in
-          let borne = rests_before settings zone asker pass (before ++ first) others next (task actor outcome) call.asked call.request.body call.shown of_next none rests in
-          one_full before first front low at actor (unused actor (omega (arith, e))) own call.asked call.request.body outcome call.shown borne
+          let borne = rests_before settings zone asker pass (before ++ first) others next (task actor outcome) call.asked call.fate call.request.body call.shown of_next none rests in
+          one_full before first front low at actor (unused actor (omega (arith, e))) own call.asked call.fate call.request.body outcome call.shown borne

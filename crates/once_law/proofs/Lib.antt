@@ -3,6 +3,7 @@ pub mod Standing
 pub mod Stamps
 pub mod Saying
 pub mod Listing
+pub mod Cutting
 pub mod Folding
 pub mod Moments
 pub mod Calm

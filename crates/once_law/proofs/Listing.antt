@@ -8,11 +8,10 @@ use Rattle.rgw_model.specs.declared.slot.Slot.{Slot}
 use Rattle.object_words.specs.declared.bucket.Bucket.{Bucket}
 use Rattle.object_words.specs.declared.head.SeenSlot.{SeenSlot}
 use Rattle.object_words.specs.declared.head.SeenSlot.TheVariants.{Nothing, Live, Mark}
-use Rattle.object_words.specs.Keys.{head_key}
 use Rattle.object_words.specs.Names.{name_cmp}
 use Rattle.object_words.specs.Rows.{RowView}
 use Rattle.realm_model.specs.Accounts.{Account}
-use Rattle.realm_model.specs.Histories.{world_of, state_of, account_of, Legal}
+use Rattle.realm_model.specs.Histories.{world_of, account_of, Legal}
 use Rattle.realm_model.specs.Maps.{Maps, no_maps, mapped, mapped_by, heads, slot_at, whole_slot}
 use Rattle.realm_model.specs.Owns.{OwnEvent, clock_after, own_from, own_events, NoneBy}
 use Rattle.realm_model.specs.Phases.{ActorId}
@@ -83,7 +82,7 @@ same_listed None (Some row) slots c (Listed rows) again one other = absurd other
 same_listed None (Some row) slots c reply again one other = absurd one
 same_listed None None slots c reply again one other = absurd one
 
--- ---- reads leave the bucket maps
+-- ---- reads and suggestions leave the bucket maps
 
 map_kept : (maps : Maps) (op : Op) (reply : Reply) → is_of_listing op ≡ true → mapped maps op reply ≡ maps
 map_kept maps (HeadWrite zone container name guard new when) reply is = let e : false ≡ true = is in absurd (cc)
@@ -102,7 +101,7 @@ front_reads zero events are = tt
 front_reads (suc n) [] are = tt
 front_reads (suc n) (e ∷ es) are = (are.0, front_reads n es are.1)
 
--- behind the first part, events that read leave the maps as they are at the end
+-- behind the first part, events of a listing leave the maps as they are at the end
 maps_behind : (maps : Maps) (n : ℕ) (before first : List Event) → length before ≤ n → AreReads first → mapped_by maps (take n (before ++ first)) ≡ mapped_by maps (before ++ first)
 maps_behind maps n [] first low are = maps_kept maps (take n first) (front_reads n first are) ∙ sym (maps_kept maps first are)
 maps_behind maps zero (b ∷ bs) first low are = absurd (omega (arith, low))

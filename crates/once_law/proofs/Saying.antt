@@ -30,8 +30,9 @@ use Rattle.rgw_model.specs.Stamps.{next_stamp}
 use Rattle.task_words.specs.Spans.{bytes_taken}
 use Rattle.task_words.specs.Rows.{refusal_by, row_refusal}
 use Rattle.task_words.specs.Outcomes.{LookedUp, ByMap, IsGetOutcome, IsPutOutcome}
-use Rattle.call_words.specs.Calls.{AreShownBy, whole}
-use Rattle.call_words.specs.Texts.{outcome_reply, HasReply}
+use Rattle.call_words.specs.Bodies.{read_whole}
+use Rattle.call_words.specs.Calls.{AreShownBy, body_at}
+use Rattle.call_words.specs.Texts.{outcome_reply, told_reply, HasReply}
 use Rattle.once_law.specs.Maps.{Slots, rows_in, slots_in, with_slot}
 use Rattle.once_law.specs.Folds.{Said, refused, has_other_etag, said_of_name, said_in, said_by, Fixed, said, IsSaid, left_by}
 use Rattle.once_law.specs.Runs.{fixed_by}
@@ -148,12 +149,12 @@ module _ (settings : SettingsView) (before history : List Event) (zone : ℕ) (a
         | inr (inr many) ↦ absurd (omega (arith, one, many))
       ]
 
-  slots_stay : y.changes ≡ 0 → slots ≡ now
+  pub slots_stay : y.changes ≡ 0 → slots ≡ now
   slots_stay none = λ i. sym ((none_changed none).same) i zone
 
   -- ---- by the row
 
-  looked_row : (container : List ℕ) (deed : Deed) (refusal : Option Refusal) → LookedUp zone asker container deed refusal y.looked → row_refusal asker (rows_in settings before zone container) deed ≡ refusal
+  pub looked_row : (container : List ℕ) (deed : Deed) (refusal : Option Refusal) → LookedUp zone asker container deed refusal y.looked → row_refusal asker (rows_in settings before zone container) deed ≡ refusal
   looked_row container deed refusal l =
       subst (λ o. row_refusal asker o deed ≡ refusal)
       (standing.looked l.look l.is_last ∙ λ i. rows_in settings before (l.in_zone i) (l.under_name i)) l.refuses
@@ -278,7 +279,7 @@ module _ (settings : SettingsView) (before history : List Event) (zone : ℕ) (a
   put_outside c bytes outcome shown none is left = record { is_said = is; left = left ∙ slots_stay none }
 
   pub put_done : (c : PutCommand) (bytes : List ℕ) (outcome : Outcome) (events : List OwnEvent) (shown : List ℕ) → ((d : Decided) → y.decided ≡ Some d → HasLater d.before)
-      → IsPutOutcome zone asker c (whole bytes) outcome y events → HasReply (outcome_reply None outcome) → shown ≡ [] → Does (put c bytes) outcome shown
+      → IsPutOutcome zone asker c (body_at read_whole bytes) outcome y events → HasReply (told_reply None read_whole outcome) → shown ≡ [] → Does (put c bytes) outcome shown
   put_done c bytes (Done (Stored etag stamp)) events shown early by has is =
       subst (Does (put c bytes) (Done (Stored etag stamp))) (sym is) (put_stored c bytes etag stamp by.0.right early by.1 by.2.changed)
   put_done c bytes (Done (Refused Why.NotMet)) events shown early by has is =

@@ -1,16 +1,25 @@
 -- Two folds from the same rows and slots over calls that ask the same tell the same.
-use Rattle.std.proofs.Common.{◌≡◌, ℕ, List, [], ◌∷◌, None, refl, sym, ◌∙◌, ap, subst}
+use Rattle.std.proofs.Common.{◌≡◌, ℕ, List, [], ◌∷◌, Option, None, Some, refl, sym, ◌∙◌, ap, subst}
 use Rattle.http_model.specs.declared.reply.ReplyForm.{ReplyForm}
+use Rattle.list_words.specs.declared.command.ListCommand.{ListCommand}
+use Rattle.swift_auth.specs.declared.policy.Deed.TheVariants.{ListContainer}
+use Rattle.swift_reply.specs.declared.reply.ListingForm.{ListingForm}
 use Rattle.swift_requests.specs.declared.asked.Asked.{Asked}
 use Rattle.swift_requests.specs.declared.asked.Asked.TheVariants as Asks
-use Rattle.task_words.specs.declared.outcome.Outcome.TheVariants.{Done}
+use Rattle.task_words.specs.declared.command.GetCommand.{GetCommand}
+use Rattle.task_words.specs.declared.command.PutCommand.{PutCommand}
+use Rattle.task_words.specs.declared.outcome.Outcome.{Outcome}
+use Rattle.task_words.specs.declared.outcome.Outcome.TheVariants.{Done, BodyFailed}
+use Rattle.task_words.specs.declared.reply.MapReply.{MapReply}
+use Rattle.task_words.specs.declared.reply.Refusal.{Refusal}
 use Rattle.task_words.specs.Answers.{Command, put, get, container_of, deed_of, span_of}
 use Rattle.task_words.specs.Rows.{row_refusal}
+use Rattle.call_words.specs.Bodies.{Fate, read_whole, broken_off, unread}
 use Rattle.call_words.specs.Calls.{Ground, alone, task, Call, text_by}
-use Rattle.call_words.specs.Texts.{outcome_reply, text_if, list_reply}
+use Rattle.call_words.specs.Texts.{told_reply, text_if, told_list}
 use Rattle.once_law.specs.Maps.{Slots}
 use Rattle.once_law.proofs.Listing.{same_listed}
-use Rattle.once_law.specs.Folds.{Said, said_by, Fixed, said, command_in, IsSaidTo, left_behind, slots_after, AreFolded, IsReplied, AreReplied, AskTheSame, SayTheSame}
+use Rattle.once_law.specs.Folds.{Said, said_by, Fixed, said, IsOutside, IsSaid, left_by, IsListSaid, refusal_of, IsByRow, no_other, IsCutShort, command_in, IsPutSaid, IsGetSaid, IsListingSaid, IsSaidTo, left_behind, slots_after, AreFolded, IsReplied, AreReplied, AskTheSame, SayTheSame}
 
 module _ (x : Fixed) (one_clock : (one another : ℕ) → x.clocks one ≡ x.clocks another) where
   -- whichever actor it is
@@ -19,50 +28,112 @@ module _ (x : Fixed) (one_clock : (one another : ℕ) → x.clocks one ≡ x.clo
       let row = x.rows (container_of command) in
       ap (said_by (row_refusal x.asker row (deed_of command)) row slots command x.zone) (one_clock one another)
 
-  -- two replies of the maps to one command
-  record Same (slots : Slots) (asked : Asked) (body : List ℕ) (g h : Ground) (shown other : List ℕ) : Type 0 where
-    text : (form : ReplyForm) → text_by form asked g shown ≡ text_by form asked h other
-    left : left_behind x slots (command_in asked body) g ≡ left_behind x slots (command_in asked body) h
+  -- two replies to one call
+  record Same (slots : Slots) (asked : Asked) (fate : Fate) (body : List ℕ) (g h : Ground) (shown other : List ℕ) : Type 0 where
+    text : (form : ReplyForm) → text_by form asked fate g shown ≡ text_by form asked fate h other
+    left : left_behind x slots (command_in asked fate body) g ≡ left_behind x slots (command_in asked fate body) h
+
+  not_outside : (command : Command) → IsOutside command BodyFailed → ⊥
+  not_outside (put c bytes) is = is
+  not_outside (get c) is = is
+
+  -- by the row alone
+  same_row : (outside : Outcome → Type 0) → ((reply : MapReply) → outside (Done reply) → ⊥) → (refusal : Option Refusal) (a b : ℕ) (o p : Outcome) → IsReplied (task a o) → IsReplied (task b p) → IsByRow outside refusal o → IsByRow outside refusal p → o ≡ p
+  same_row outside none (Some refusal) a b (Done reply) (Done again) is_a is_b first second = ap Done (first ∙ sym second)
+  same_row outside none (Some refusal) a b (Done reply) p is_a is_b first second = absurd second
+  same_row outside none (Some refusal) a b o p is_a is_b first second = absurd first
+  same_row outside none None a b BodyFailed BodyFailed is_a is_b first second = refl
+  same_row outside none None a b BodyFailed (Done again) is_a is_b first second = absurd (none again second)
+  same_row outside none None a b BodyFailed p is_a is_b first second = absurd is_b
+  same_row outside none None a b (Done reply) p is_a is_b first second = absurd (none reply first)
+  same_row outside none None a b o p is_a is_b first second = absurd is_a
 
   module _ (slots : Slots) (body shown other : List ℕ) where
-    told : (asked : Asked) (g h : Ground) → IsReplied g → IsReplied h → IsSaidTo x slots asked body g shown → IsSaidTo x slots asked body h other → Same slots asked body g h shown other
-    told Asks.BadHost g h is_g is_h first second = record { text = λ form. refl; left = refl }
-    told (Asks.Refused why) g h is_g is_h first second = record { text = λ form. refl; left = refl }
-    told (Asks.Put c) (task a (Done reply)) (task b (Done again)) is_g is_h first second =
-        let same = same_said slots (put c body) a b in
-        let one : reply ≡ again = first.0 ∙ ap (λ (s : Said). s.reply) same ∙ sym second.0 in
-        record { text = λ form. ap (λ r. text_if form (outcome_reply None (Done r)) []) one; left = ap (λ (s : Said). s.slots) same }
-    told (Asks.Get c) (task a (Done reply)) (task b (Done again)) is_g is_h first second =
-        let same = same_said slots (get c) a b in
-        let one : reply ≡ again = first.0 ∙ ap (λ (s : Said). s.reply) same ∙ sym second.0 in
-        let bytes : shown ≡ other = first.1 ∙ ap (λ (s : Said). s.shown) same ∙ sym second.1 in
-        record { text = λ form. λ i. text_if form (outcome_reply (span_of c) (Done (one i))) (bytes i); left = ap (λ (s : Said). s.slots) same }
-    told (Asks.Listing c l) (task a (Done reply)) (task b (Done again)) is_g is_h first second =
-        let one : reply ≡ again = same_listed _ _ slots c reply again first.0 second.0 in
-        record { text = λ form. ap (λ r. text_if form (list_reply l (Done r)) []) one; left = refl }
-    told (Asks.Put c) alone h is_g is_h first second = absurd first
-    told (Asks.Get c) alone h is_g is_h first second = absurd first
-    told (Asks.Listing c l) alone h is_g is_h first second = absurd first
-    told (Asks.Put c) g alone is_g is_h first second = absurd second
-    told (Asks.Get c) g alone is_g is_h first second = absurd second
-    told (Asks.Listing c l) g alone is_g is_h first second = absurd second
-    told (Asks.Put c) (task a (Done reply)) h is_g is_h first second = absurd is_h
-    told (Asks.Get c) (task a (Done reply)) h is_g is_h first second = absurd is_h
-    told (Asks.Listing c l) (task a (Done reply)) h is_g is_h first second = absurd is_h
-    told (Asks.Put c) g h is_g is_h first second = absurd is_g
-    told (Asks.Get c) g h is_g is_h first second = absurd is_g
-    told (Asks.Listing c l) g h is_g is_h first second = absurd is_g
+    -- by the map
+    same_command : (command : Command) (a b : ℕ) (o p : Outcome) → IsReplied (task a o) → IsReplied (task b p) → IsSaid command (said x slots command a) o shown → IsSaid command (said x slots command b) p other
+        → (o ≡ p) × (shown ≡ other) × (left_by (said x slots command a) o slots ≡ left_by (said x slots command b) p slots)
+    same_command command a b (Done reply) (Done again) is_a is_b first second =
+        let same = same_said slots command a b in (
+          ap Done (first.0 ∙ ap (λ (s : Said). s.reply) same ∙ sym second.0),
+          first.1 ∙ ap (λ (s : Said). s.shown) same ∙ sym second.1,
+          ap (λ (s : Said). s.slots) same,
+        )
+    same_command command a b BodyFailed p is_a is_b first second = absurd (not_outside command first.0)
+    same_command command a b o BodyFailed is_a is_b first second = absurd (not_outside command second.0)
+    same_command command a b (Done reply) p is_a is_b first second = absurd is_b
+    same_command command a b o p is_a is_b first second = absurd is_a
+
+    same_list : (c : ListCommand) (a b : ℕ) (o p : Outcome) → IsReplied (task a o) → IsReplied (task b p) → IsListSaid x slots c o → IsListSaid x slots c p → o ≡ p
+    same_list c a b (Done reply) (Done again) is_a is_b first second = ap Done (same_listed _ _ slots c reply again first second)
+    same_list c a b BodyFailed p is_a is_b first second = absurd first
+    same_list c a b o BodyFailed is_a is_b first second = absurd second
+    same_list c a b (Done reply) p is_a is_b first second = absurd is_b
+    same_list c a b o p is_a is_b first second = absurd is_a
+
+    abbrev Both : Asked → Fate → ℕ → ℕ → Outcome → Outcome → Type 0
+    Both asked fate a b o p = Same slots asked fate body (task a o) (task b p) shown other
+
+    module _ (c : PutCommand) (a b : ℕ) (o p : Outcome) (is_a : IsReplied (task a o)) (is_b : IsReplied (task b p)) where
+      short : IsCutShort (IsOutside (put c body)) (refusal_of x c.container (deed_of (put c body))) o shown → IsCutShort (IsOutside (put c body)) (refusal_of x c.container (deed_of (put c body))) p other → o ≡ p
+      short first second =
+          same_row (IsOutside (put c body)) (λ reply is. is) (refusal_of x c.container (deed_of (put c body))) a b o p is_a is_b first.0 second.0
+
+      put_same : (fate : Fate) → IsPutSaid x slots c fate body a o shown → IsPutSaid x slots c fate body b p other → Both (Asks.Put c) fate a b o p
+      put_same read_whole first second =
+          let s = same_command (put c body) a b o p is_a is_b first second in
+          record { text = λ form. ap (λ q. text_if form (told_reply None read_whole q) []) s.0; left = s.2 }
+      put_same (broken_off why) first second =
+          record { text = λ form. ap (λ q. text_if form (told_reply None (broken_off why) q) []) (short first second); left = refl }
+      put_same unread first second =
+          record { text = λ form. ap (λ q. text_if form (told_reply None unread q) []) (short first second); left = refl }
+
+    module _ (c : GetCommand) (a b : ℕ) (o p : Outcome) (is_a : IsReplied (task a o)) (is_b : IsReplied (task b p)) where
+      get_same : (fate : Fate) → IsGetSaid x slots c fate a o shown → IsGetSaid x slots c fate b p other → Both (Asks.Get c) fate a b o p
+      get_same read_whole first second =
+          let s = same_command (get c) a b o p is_a is_b first second in
+          record { text = λ form. λ i. text_if form (told_reply (span_of c) read_whole (s.0 i)) (s.1 i); left = s.2 }
+      get_same (broken_off why) first second =
+          let one = same_row no_other (λ reply is. is) (refusal_of x c.container (deed_of (get c))) a b o p is_a is_b first.0 second.0 in
+          let bytes : shown ≡ other = first.1 ∙ sym second.1 in
+          record { text = λ form. λ i. text_if form (told_reply (span_of c) (broken_off why) (one i)) (bytes i); left = refl }
+      get_same unread first second =
+          let s = same_command (get c) a b o p is_a is_b first second in
+          record { text = λ form. λ i. text_if form (told_reply (span_of c) unread (s.0 i)) (s.1 i); left = s.2 }
+
+    module _ (c : ListCommand) (l : ListingForm) (a b : ℕ) (o p : Outcome) (is_a : IsReplied (task a o)) (is_b : IsReplied (task b p)) where
+      list_same : (fate : Fate) → IsListingSaid x slots c fate o shown → IsListingSaid x slots c fate p other → Both (Asks.Listing c l) fate a b o p
+      list_same read_whole first second =
+          record { text = λ form. ap (λ q. text_if form (told_list l read_whole q) []) (same_list c a b o p is_a is_b first.0 second.0); left = refl }
+      list_same (broken_off why) first second =
+          let one = same_row no_other (λ reply is. is) (refusal_of x c.container ListContainer) a b o p is_a is_b first.0 second.0 in
+          record { text = λ form. ap (λ q. text_if form (told_list l (broken_off why) q) []) one; left = refl }
+      list_same unread first second =
+          record { text = λ form. ap (λ q. text_if form (told_list l unread q) []) (same_list c a b o p is_a is_b first.0 second.0); left = refl }
+
+    told : (asked : Asked) (fate : Fate) (g h : Ground) → IsReplied g → IsReplied h → IsSaidTo x slots asked fate body g shown → IsSaidTo x slots asked fate body h other → Same slots asked fate body g h shown other
+    told Asks.BadHost fate g h is_g is_h first second = record { text = λ form. refl; left = refl }
+    told (Asks.Refused why) fate g h is_g is_h first second = record { text = λ form. refl; left = refl }
+    told (Asks.Put c) fate (task a o) (task b p) is_g is_h first second = put_same c a b o p is_g is_h fate first second
+    told (Asks.Get c) fate (task a o) (task b p) is_g is_h first second = get_same c a b o p is_g is_h fate first second
+    told (Asks.Listing c l) fate (task a o) (task b p) is_g is_h first second = list_same c l a b o p is_g is_h fate first second
+    told (Asks.Put c) fate alone h is_g is_h first second = absurd first
+    told (Asks.Get c) fate alone h is_g is_h first second = absurd first
+    told (Asks.Listing c l) fate alone h is_g is_h first second = absurd first
+    told (Asks.Put c) fate g alone is_g is_h first second = absurd second
+    told (Asks.Get c) fate g alone is_g is_h first second = absurd second
+    told (Asks.Listing c l) fate g alone is_g is_h first second = absurd second
 
   pub tell : (slots : Slots) (calls others : List Call) → AskTheSame calls others → AreFolded x slots calls → AreFolded x slots others → AreReplied calls → AreReplied others → SayTheSame calls others
   tell slots [] [] ask first second is also = tt
   tell slots [] (other ∷ others) ask first second is also = ask
   tell slots (call ∷ calls) [] ask first second is also = ask
   tell slots (call ∷ calls) (other ∷ others) ask first second is also =
-      let said_too = subst (λ a. IsSaidTo x slots a other.request.body other.ground other.shown) (sym ask.0) second.0 in
-      let there = subst (λ b. IsSaidTo x slots call.asked b other.ground other.shown) (sym ask.1) said_too in
-      let same = told slots call.request.body call.shown other.shown call.asked call.ground other.ground is.0 also.0 first.0 there in
+      let by_asked = subst (λ a. IsSaidTo x slots a other.fate other.request.body other.ground other.shown) (sym ask.0) second.0 in
+      let by_fate = subst (λ f. IsSaidTo x slots call.asked f other.request.body other.ground other.shown) (sym ask.1) by_asked in
+      let there = subst (λ b. IsSaidTo x slots call.asked call.fate b other.ground other.shown) (sym ask.2) by_fate in
+      let same = told slots call.request.body call.shown other.shown call.asked call.fate call.ground other.ground is.0 also.0 first.0 there in
       let left : slots_after x slots other ≡ slots_after x slots call =
-      (λ i. left_behind x slots (command_in (sym ask.0 i) (sym ask.1 i)) other.ground) ∙ sym same.left in (
-        λ form. same.text form ∙ ap (λ a. text_by form a other.ground other.shown) ask.0,
-        tell (slots_after x slots call) calls others ask.2 first.1 (subst (λ l. AreFolded x l others) left second.1) is.1 also.1,
+      (λ i. left_behind x slots (command_in (sym ask.0 i) (sym ask.1 i) (sym ask.2 i)) other.ground) ∙ sym same.left in (
+        λ form. same.text form ∙ (λ i. text_by form (ask.0 i) (ask.1 i) other.ground other.shown),
+        tell (slots_after x slots call) calls others ask.3 first.1 (subst (λ l. AreFolded x l others) left second.1) is.1 also.1,
       )

@@ -12,18 +12,22 @@ use Rattle.object_words.specs.Rows.{RowView}
 use Rattle.list_words.specs.declared.command.ListCommand.{ListCommand}
 use Rattle.list_words.specs.declared.row.ListedRow.{ListedRow}
 use Rattle.list_words.specs.Listings.{rows_of}
+use Rattle.swift_auth.specs.declared.policy.Deed.{Deed}
 use Rattle.swift_auth.specs.declared.policy.Deed.TheVariants.{ListContainer}
 use Rattle.swift_requests.specs.declared.asked.Asked.{Asked}
 use Rattle.swift_requests.specs.declared.asked.Asked.TheVariants as Asks
 use Rattle.task_words.specs.declared.asker.Asker.{Asker}
 use Rattle.task_words.specs.declared.outcome.Outcome.{Outcome}
-use Rattle.task_words.specs.declared.outcome.Outcome.TheVariants.{Done, Busy, MovedOften, LateTag, NoSpace}
+use Rattle.task_words.specs.declared.outcome.Outcome.TheVariants.{Done, BodyFailed, Busy, MovedOften, LateTag, NoSpace}
 use Rattle.task_words.specs.declared.reply.MapReply.{MapReply}
 use Rattle.task_words.specs.declared.reply.MapReply.TheVariants.{Listed, Refused}
 use Rattle.task_words.specs.declared.reply.Refusal.{Refusal}
 use Rattle.task_words.specs.declared.reply.Refusal.TheVariants.{NoContainer, OtherEtag}
 use Rattle.task_words.specs.Answers.{Command, put, get, container_of, name_of, deed_of, answer, is_other_etag}
 use Rattle.task_words.specs.Rows.{row_refusal}
+use Rattle.task_words.specs.declared.command.GetCommand.{GetCommand}
+use Rattle.task_words.specs.declared.command.PutCommand.{PutCommand}
+use Rattle.call_words.specs.Bodies.{Fate, read_whole, broken_off, unread}
 use Rattle.call_words.specs.Calls.{Ground, alone, task, Call, call_text}
 use Rattle.once_law.specs.Maps.{Rows, Slots, with_slot}
 
@@ -132,27 +136,74 @@ IsListSaid x slots c (Done reply) =
 IsListSaid x slots c MovedOften = Unit {0}
 IsListSaid x slots c outcome = ⊥
 
+-- ---- bodies that break off
+
+-- what the row of a container refuses to a deed
+abbrev pub refusal_of : Fixed → List ℕ → Deed → Option Refusal
+refusal_of x container deed = row_refusal x.asker (x.rows container) deed
+
+-- The row alone decides: its refusal; where it grants, that the body failed, or an end that is no reply of the maps.
+abbrev pub IsByRow : (Outcome → Type 0) → Option Refusal → Outcome → Type 0
+IsByRow outside (Some refusal) (Done reply) = reply ≡ Refused refusal
+IsByRow outside (Some refusal) outcome = ⊥
+IsByRow outside None BodyFailed = Unit {0}
+IsByRow outside None outcome = outside outcome
+
+-- no other end
+abbrev pub no_other : Outcome → Type 0
+no_other outcome = ⊥
+
+-- so it ended, and no bytes are shown
+abbrev pub IsCutShort : (Outcome → Type 0) → Option Refusal → Outcome → List ℕ → Type 0
+IsCutShort outside refusal outcome shown = IsByRow outside refusal outcome × (shown ≡ [])
+
 -- ---- one call
 
--- the command on an object that it is; none where the request is refused before any name is looked at, or lists a container
-abbrev pub command_in : Asked → List ℕ → Option Command
-command_in Asks.BadHost body = None
-command_in (Asks.Refused why) body = None
-command_in (Asks.Put c) body = Some (put c body)
-command_in (Asks.Get c) body = Some (get c)
-command_in (Asks.Listing c listing) body = None
+-- the command on an object that it is; none where the request is refused before any name is looked at, lists a container, or
+-- has a body that broke off
+abbrev pub command_in : Asked → Fate → List ℕ → Option Command
+command_in Asks.BadHost fate body = None
+command_in (Asks.Refused why) fate body = None
+command_in (Asks.Put c) read_whole body = Some (put c body)
+command_in (Asks.Put c) (broken_off why) body = None
+command_in (Asks.Put c) unread body = None
+command_in (Asks.Get c) read_whole body = Some (get c)
+command_in (Asks.Get c) (broken_off why) body = None
+command_in (Asks.Get c) unread body = Some (get c)
+command_in (Asks.Listing c listing) fate body = None
 
 abbrev pub command_of : Call → Option Command
-command_of call = command_in call.asked call.request.body
+command_of call = command_in call.asked call.fate call.request.body
+
+-- nothing is stored where the body was not read whole
+abbrev pub IsPutSaid : Fixed → Slots → PutCommand → Fate → List ℕ → ℕ → Outcome → List ℕ → Type 0
+IsPutSaid x slots c read_whole body actor outcome shown = IsSaid (put c body) (said x slots (put c body) actor) outcome shown
+IsPutSaid x slots c (broken_off why) body actor outcome shown =
+    IsCutShort (IsOutside (put c body)) (refusal_of x c.container (deed_of (put c body))) outcome shown
+IsPutSaid x slots c unread body actor outcome shown =
+    IsCutShort (IsOutside (put c body)) (refusal_of x c.container (deed_of (put c body))) outcome shown
+
+-- a body that nobody wants may be left, and says nothing unless it broke off
+abbrev pub IsGetSaid : Fixed → Slots → GetCommand → Fate → ℕ → Outcome → List ℕ → Type 0
+IsGetSaid x slots c read_whole actor outcome shown = IsSaid (get c) (said x slots (get c) actor) outcome shown
+IsGetSaid x slots c (broken_off why) actor outcome shown =
+    IsCutShort no_other (refusal_of x c.container (deed_of (get c))) outcome shown
+IsGetSaid x slots c unread actor outcome shown = IsSaid (get c) (said x slots (get c) actor) outcome shown
+
+abbrev pub IsListingSaid : Fixed → Slots → ListCommand → Fate → Outcome → List ℕ → Type 0
+IsListingSaid x slots c read_whole outcome shown = IsListSaid x slots c outcome × (shown ≡ [])
+IsListingSaid x slots c (broken_off why) outcome shown =
+    IsCutShort no_other (refusal_of x c.container ListContainer) outcome shown
+IsListingSaid x slots c unread outcome shown = IsListSaid x slots c outcome × (shown ≡ [])
 
 -- a request alone shows no bytes
-abbrev pub IsSaidTo : Fixed → Slots → Asked → List ℕ → Ground → List ℕ → Type 0
-IsSaidTo x slots Asks.BadHost body alone shown = shown ≡ []
-IsSaidTo x slots (Asks.Refused why) body alone shown = shown ≡ []
-IsSaidTo x slots (Asks.Put c) body (task actor outcome) shown = IsSaid (put c body) (said x slots (put c body) actor) outcome shown
-IsSaidTo x slots (Asks.Get c) body (task actor outcome) shown = IsSaid (get c) (said x slots (get c) actor) outcome shown
-IsSaidTo x slots (Asks.Listing c listing) body (task actor outcome) shown = IsListSaid x slots c outcome × (shown ≡ [])
-IsSaidTo x slots asked body basis shown = ⊥
+abbrev pub IsSaidTo : Fixed → Slots → Asked → Fate → List ℕ → Ground → List ℕ → Type 0
+IsSaidTo x slots Asks.BadHost fate body alone shown = shown ≡ []
+IsSaidTo x slots (Asks.Refused why) fate body alone shown = shown ≡ []
+IsSaidTo x slots (Asks.Put c) fate body (task actor outcome) shown = IsPutSaid x slots c fate body actor outcome shown
+IsSaidTo x slots (Asks.Get c) fate body (task actor outcome) shown = IsGetSaid x slots c fate actor outcome shown
+IsSaidTo x slots (Asks.Listing c listing) fate body (task actor outcome) shown = IsListingSaid x slots c fate outcome shown
+IsSaidTo x slots asked fate body basis shown = ⊥
 
 abbrev pub left_behind : Fixed → Slots → Option Command → Ground → Slots
 left_behind x slots (Some command) (task actor outcome) = left_by (said x slots command actor) outcome slots
@@ -160,7 +211,7 @@ left_behind x slots command basis = slots
 
 -- the call is replied as the rows and the slots say
 abbrev pub IsFolded : Fixed → Slots → Call → Type 0
-IsFolded x slots call = IsSaidTo x slots call.asked call.request.body call.ground call.shown
+IsFolded x slots call = IsSaidTo x slots call.asked call.fate call.request.body call.ground call.shown
 
 -- the slots after it
 abbrev pub slots_after : Fixed → Slots → Call → Slots
@@ -178,20 +229,22 @@ abbrev pub slots_behind : Fixed → Slots → List Call → Slots
 slots_behind x slots [] = slots
 slots_behind x slots (call ∷ calls) = slots_behind x (slots_after x slots call) calls
 
--- the maps replied, or there was no room
+-- the maps replied, or the body failed, or there was no room
 abbrev pub IsRepliedOrFull : Ground → Type 0
 IsRepliedOrFull alone = Unit {0}
 IsRepliedOrFull (task actor (Done reply)) = Unit {0}
+IsRepliedOrFull (task actor BodyFailed) = Unit {0}
 IsRepliedOrFull (task actor (NoSpace free needed)) = Unit {0}
 IsRepliedOrFull basis = ⊥
 
 abbrev pub AreRepliedOrFull : List Call → Type 0
 AreRepliedOrFull calls = AllByRecursion (λ call. IsRepliedOrFull call.ground) calls
 
--- the maps replied
+-- the maps replied, or the body failed
 abbrev pub IsReplied : Ground → Type 0
 IsReplied alone = Unit {0}
 IsReplied (task actor (Done reply)) = Unit {0}
+IsReplied (task actor BodyFailed) = Unit {0}
 IsReplied basis = ⊥
 
 abbrev pub AreReplied : List Call → Type 0
@@ -199,11 +252,11 @@ AreReplied calls = AllByRecursion (λ call. IsReplied call.ground) calls
 
 -- ---- two lists of calls
 
--- they ask the same, one after another, with the same bodies
+-- they ask the same, one after another, with the same bodies, of which the same became
 abbrev pub AskTheSame : List Call → List Call → Type 0
 AskTheSame [] [] = Unit {0}
 AskTheSame (call ∷ calls) (other ∷ others) =
-    (call.asked ≡ other.asked) × (call.request.body ≡ other.request.body) × AskTheSame calls others
+    (call.asked ≡ other.asked) × (call.fate ≡ other.fate) × (call.request.body ≡ other.request.body) × AskTheSame calls others
 AskTheSame calls others = ⊥
 
 -- the texts of their replies are the same, in each form

@@ -8,19 +8,19 @@ use Rattle.task_put.specs.declared.stage.PutRequest.{PutRequest}
 use Rattle.task_put.specs.Bodies.{most_bytes}
 use Rattle.task_put.specs.Taking.{fed_request}
 use Rattle.task_put.specs.Tasks.{request_of, fed}
-use Rattle.call_service.specs.Bodies.{HasGiven}
+use Rattle.call_service.specs.Bodies.{HasBegun}
 use Rattle.call_service.specs.declared.fault.ServeFault.{ServeFault}
 use Rattle.call_service.specs.declared.fault.ServeFault.TheVariants as faults
 use Rattle.call_service.specs.Replying.{StopsEvent}
 use Rattle.put_service.specs.Parts.{Place, AsksAt, StopsBody}
 
 module _ (tells alone : Type 0) (settings : SettingsView) (found : List Event) where
-  -- a step was refused behind so much of the body
-  pub step_stops : (fault : ServeFault) (x y : Place) (given : List ℕ) (more : Bool) → StopsEvent tells found fault
-      → HasGiven x.intake y.intake x.left y.left given → AsksAt tells alone settings more x y → StopsBody tells alone settings found x y fault
-  step_stops faults.OutOfMemory x y given more stops has asks = (given, has, more, asks)
-  step_stops faults.Worn x y given more stops has asks = (stops, (given, has, more, asks))
-  step_stops fault x y given more stops has asks = absurd stops
+  -- a step was refused behind some of the body
+  pub step_stops : (fault : ServeFault) (x y : Place) (more : Bool) → StopsEvent tells found fault
+      → HasBegun x.intake y.intake x.left y.left → AsksAt tells alone settings more x y → StopsBody tells alone settings found x y fault
+  step_stops faults.OutOfMemory x y more stops begun asks = (begun, more, asks)
+  step_stops faults.Worn x y more stops begun asks = (stops, (begun, more, asks))
+  step_stops fault x y more stops begun asks = absurd stops
 
 -- bytes behind bytes
 pub fed_behind : (r s t : PutRequest) (first second : List ℕ) → s ≡ fed_request r first → t ≡ fed_request s second → t ≡ fed_request r (first ++ second)

@@ -5,3 +5,5 @@ pub mod Orders
 pub mod Ending
 pub mod Replying
 pub mod Serving
+pub mod Waiting
+pub mod Causes

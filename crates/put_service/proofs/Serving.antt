@@ -1,5 +1,5 @@
 -- A PUT as a whole: what its parts come to, beside what was written.
-use Rattle.std.proofs.Common.{◌≡◌, ℕ, inl, Bool, true, false, List, [], Option, None, refl, sym, ap, ◌∙◌, subst}
+use Rattle.std.proofs.Common.{◌≡◌, ℕ, inl, inr, Bool, true, false, List, [], Option, None, refl, sym, ap, ◌∙◌, subst}
 use Rattle.std.specs.Io.KnownBytes.{Appends}
 use Rattle.gw_io.specs.Ends.{EndsState}
 use Rattle.http_model.specs.declared.reply.ReplyForm.{ReplyForm}
@@ -7,9 +7,13 @@ use Rattle.http_intake.specs.Intake.{IntakeState}
 use Rattle.realm_model.specs.Doors.{DoorView}
 use Rattle.realm_model.specs.declared.event.Event.{Event}
 use Rattle.swift_requests.specs.declared.asked.Asked.TheVariants.{Put}
+use Rattle.swift_requests.specs.declared.body.BodyUse.TheVariants.{Fed}
+use Rattle.call_words.specs.Bodies.{read_whole, broken_off, Suits}
 use Rattle.task_words.specs.declared.command.PutCommand.{PutCommand}
 use Rattle.task_words.specs.declared.outcome.Outcome.{Outcome}
-use Rattle.task_words.specs.declared.outcome.Outcome.TheVariants.{MovedOften}
+use Rattle.task_words.specs.declared.outcome.Outcome.TheVariants.{Done, BodyFailed, Busy, MovedOften, RacedOften, LateTag, LateRead, NoSpace}
+use Rattle.http_chunks.specs.declared.body.BodyEnd.{BodyEnd}
+use Rattle.http_chunks.specs.declared.body.BodyEnd.TheVariants as Body
 use Rattle.task_put.specs.Bodies.{no_bytes}
 use Rattle.task_put.specs.Tasks.{request_of, stage_of}
 use Rattle.task_put.specs.declared.stage.PutRequest.{PutRequest}
@@ -17,13 +21,12 @@ use Rattle.task_put.specs.declared.stage.Draft.{Draft}
 use Rattle.task_put.specs.declared.stage.Stage.{Stage}
 use Rattle.task_put.specs.declared.stage.Stage.TheVariants.{Looking, Ended}
 use Rattle.task_put.specs.declared.task.PutTask.{PutTask}
-use Rattle.call_words.specs.Texts.{outcome_reply, text_if}
-use Rattle.call_service.specs.Bodies.{HasGiven}
-use Rattle.call_service.specs.Serving.{Site, Side, side, Asks, is_by_end, AppendsFront, IsReplied, IsCutOff, IsLeft, IsStopped, LeavesText}
+use Rattle.call_service.specs.Bodies.{HasFate, HasBegun}
+use Rattle.call_service.specs.Serving.{Site, Side, side, Asks, is_by_end, AppendsFront, form_at, IsServed, IsReplied, IsCutOff, IsLeft, IsStopped, LeavesText}
 use Rattle.call_service.specs.declared.fault.ServeFault.{ServeFault}
 use Rattle.call_service.specs.declared.fault.ServeFault.TheVariants as faults
-use Rattle.put_service.specs.Standing.{IsSteady, IsSteadyAt}
-use Rattle.put_service.specs.Parts.{place, StopsBody, HasEnded, RunsTask}
+use Rattle.put_service.specs.Standing.{IsSteady, IsSteadyAt, IsEndAt}
+use Rattle.put_service.specs.Parts.{place, StopsBody, HasEnded, fate_of, RunsTask, text_of, served_so}
 use Rattle.put_service.proofs.Replying.{end_has_reply}
 
 abbrev outcome_in : Stage → Outcome
@@ -42,6 +45,10 @@ steady_new t r stripe request none unended (draft, looks, new) =
 abbrev pub first_request : Site → PutCommand → PutRequest
 first_request site c = record { zone = site.zone; asker = site.asker; command = c; bytes = []; end = None }
 
+-- a request whose body has no byte and no end yet is that
+pub first_is : (r : PutRequest) → r.bytes ≡ [] → r.end ≡ None → r ≡ record { zone = r.zone; asker = r.asker; command = r.command; bytes = []; end = None }
+first_is r none unended = λ i. record { zone = r.zone; asker = r.asker; command = r.command; bytes = none i; end = unended i }
+
 -- the ends of a connection
 abbrev pub ends_with : (left taken told : Option (List ℕ)) (plan : Option (ℕ → ℕ)) (read_faults write_faults : ℕ) → EndsState
 ends_with left taken told plan read_faults write_faults =
@@ -54,55 +61,108 @@ module _ (tells alone : Type 0) (site : Site) (form : ReplyForm) (c : PutCommand
   abbrev to : Side
   to = side e j new
 
-  abbrev Ran : PutTask → Type 0
-  Ran t = HasEnded tells alone site.settings (first_request site c) t (place d i old.left old.told) (place e j new.left new.told)
+  abbrev Ran : PutTask → BodyEnd → Type 0
+  Ran t end = HasEnded tells alone site.settings (first_request site c) t (fate_of end) (place d i old.left old.told) (place e j new.left new.told)
 
-  pub has_run : (t : PutTask) (r : PutRequest) (is_whole : Bool) → r ≡ first_request site c → is_whole ≡ true → RunsTask tells alone site.settings r t (place d i old.left old.told) (place e j new.left new.told) is_whole → Ran t
-  has_run t r is_whole request is ran =
-      subst (λ (q : PutRequest). RunsTask tells alone site.settings q t (place d i old.left old.told) (place e j new.left new.told) true) request
-      (subst (λ b. RunsTask tells alone site.settings r t (place d i old.left old.told) (place e j new.left new.told) b) is ran)
+  by_run : (t : PutTask) (end : BodyEnd) → (end ≡ Body.Cut → ⊥) → RunsTask tells alone site.settings (first_request site c) t (place d i old.left old.told) (place e j new.left new.told) end → Ran t end
+  by_run t Body.Whole not ran = ran
+  by_run t Body.Cut not ran = absurd (not refl)
+  by_run t Body.BadChunk not ran = ran
+  by_run t Body.TooLarge not ran = ran
+
+  pub has_run : (t : PutTask) (r : PutRequest) (end : BodyEnd) → r ≡ first_request site c → (end ≡ Body.Cut → ⊥) → RunsTask tells alone site.settings r t (place d i old.left old.told) (place e j new.left new.told) end → Ran t end
+  has_run t r end request not ran =
+      by_run t end not (subst (λ (q : PutRequest). RunsTask tells alone site.settings q t (place d i old.left old.told) (place e j new.left new.told) end) request ran)
 
   -- nothing was written
-  pub unwritten : (given : List ℕ) (more : Bool) → Appends old.taken new.taken [] → HasGiven i j old.left new.left given → Asks tells alone site.settings more d e old.told new.told → IsLeft tells alone site form (Put c) from to
-  unwritten given more none has asks = inl (given, has, more, record { unwritten = none; asks = asks })
+  pub unwritten : (more : Bool) → Appends old.taken new.taken [] → HasBegun i j old.left new.left → Asks tells alone site.settings more d e old.told new.told → IsLeft tells alone site form (Put c) Fed from to
+  unwritten more none begun asks = inl (begun, more, record { unwritten = none; asks = asks })
 
   pub stops_unwritten : (found : List Event) (fault : ServeFault) → Appends old.taken new.taken [] → StopsBody tells alone site.settings found (place d i old.left old.told) (place e j new.left new.told) fault
-      → IsStopped tells alone site form (Put c) found from to fault
-  stops_unwritten found faults.ReadFault none ((given, fails), asks) = (given, fails, record { unwritten = none; asks = asks })
-  stops_unwritten found faults.OutOfMemory none (given, has, more, asks) = unwritten given more none has asks
-  stops_unwritten found faults.Worn none (worn, (given, has, more, asks)) = (worn, unwritten given more none has asks)
+      → IsStopped tells alone site form (Put c) Fed found from to fault
+  stops_unwritten found faults.ReadFault none (fails, asks) = (refl, fails, record { unwritten = none; asks = asks })
+  stops_unwritten found faults.OutOfMemory none (begun, more, asks) = unwritten more none begun asks
+  stops_unwritten found faults.Worn none (worn, (begun, more, asks)) = (worn, unwritten more none begun asks)
   stops_unwritten found fault none stops = absurd stops
 
-  pub cut_unwritten : (t : PutTask) (r : PutRequest) → Appends old.taken new.taken [] → RunsTask tells alone site.settings r t (place d i old.left old.told) (place e j new.left new.told) false → IsCutOff tells alone site from to
-  cut_unwritten t r none ((given, cut), asks) = (given, cut, record { unwritten = none; asks = asks })
+  pub cut_unwritten : (t : PutTask) (r : PutRequest) (end : BodyEnd) → end ≡ Body.Cut → Appends old.taken new.taken [] → RunsTask tells alone site.settings r t (place d i old.left old.told) (place e j new.left new.told) end → IsCutOff tells alone site Fed from to
+  cut_unwritten t r end is none ran =
+      let cut = subst (RunsTask tells alone site.settings r t (place d i old.left old.told) (place e j new.left new.told)) is ran in
+      (refl, cut.0, record { unwritten = none; asks = cut.1 })
+
+  begun_of : (end : BodyEnd) (body : List ℕ) → HasFate (fate_of end) i j old.left new.left body → HasBegun i j old.left new.left
+  begun_of Body.Whole body has = inl (body, has.has_given)
+  begun_of Body.Cut body has = absurd has.0
+  begun_of Body.BadChunk body has = inr (Body.BadChunk, has.0, has.1)
+  begun_of Body.TooLarge body has = inr (Body.TooLarge, has.0, has.1)
+
+  suits_of : (end : BodyEnd) (body : List ℕ) → HasFate (fate_of end) i j old.left new.left body → Suits Fed (fate_of end)
+  suits_of Body.Whole body has = tt
+  suits_of Body.Cut body has = absurd has.0
+  suits_of Body.BadChunk body has = tt
+  suits_of Body.TooLarge body has = tt
 
   -- the reply was written
-  pub replied : (t : PutTask) (outcome : Outcome) → Ran t → stage_of t ≡ Ended outcome → Appends old.taken new.taken (text_if form (outcome_reply None outcome) []) → IsReplied tells alone site form (Put c) from to
-  replied t outcome ran ended written = record {
+  abbrev reply_is : (t : PutTask) (end : BodyEnd) (outcome : Outcome) → Ran t end → stage_of t ≡ Ended outcome → Appends old.taken new.taken (text_of (form_at form (fate_of end)) end outcome) → IsReplied tells alone site form (Put c) (fate_of end) from to
+  reply_is t end outcome ran ended written = record {
     body = ran.body;
-    given = ran.given;
+    has_fate = ran.has_fate;
     outcome = ran.outcome;
     shown = [];
-    written = subst (λ o. Appends old.taken new.taken (text_if form (outcome_reply None o) [])) (ap outcome_in (sym ended ∙ ran.ended)) written;
-    right = λ told. (ran.right told, end_has_reply ran.outcome ran.is_end, refl, ran.of_put told);
+    written = subst (λ o. Appends old.taken new.taken (text_of (form_at form (fate_of end)) end o)) (ap outcome_in (sym ended ∙ ran.ended)) written;
+    right = λ told. (ran.right told, end_has_reply ran.outcome (fate_of end) ran.is_end, refl, ran.of_put told);
     asks = ran.asks;
   }
 
+  by_end : (end : BodyEnd) (o : Outcome) → (end ≡ Body.Cut → ⊥) → IsEndAt o (fate_of end) → (r : IsReplied tells alone site form (Put c) (fate_of end) from to) → r.outcome ≡ o → IsServed tells alone site form (Put c) Fed from to (served_so end o)
+  by_end Body.Cut o not ends r is = absurd (not refl)
+  by_end Body.Whole BodyFailed not ends r is = absurd ends
+  by_end Body.BadChunk BodyFailed not ends r is = (Body.BadChunk, tt, r, is)
+  by_end Body.TooLarge BodyFailed not ends r is = (Body.TooLarge, tt, r, is)
+  by_end Body.BadChunk (Done reply) not ends r is = (broken_off Body.BadChunk, tt, refl, r, λ e. let clash = sym is ∙ e in cc)
+  by_end Body.BadChunk (Busy id) not ends r is = (broken_off Body.BadChunk, tt, refl, r, λ e. let clash = sym is ∙ e in cc)
+  by_end Body.BadChunk MovedOften not ends r is = (broken_off Body.BadChunk, tt, refl, r, λ e. let clash = sym is ∙ e in cc)
+  by_end Body.BadChunk RacedOften not ends r is = (broken_off Body.BadChunk, tt, refl, r, λ e. let clash = sym is ∙ e in cc)
+  by_end Body.BadChunk LateTag not ends r is = (broken_off Body.BadChunk, tt, refl, r, λ e. let clash = sym is ∙ e in cc)
+  by_end Body.BadChunk (LateRead read_at clock) not ends r is = (broken_off Body.BadChunk, tt, refl, r, λ e. let clash = sym is ∙ e in cc)
+  by_end Body.BadChunk (NoSpace free needed) not ends r is = (broken_off Body.BadChunk, tt, refl, r, λ e. let clash = sym is ∙ e in cc)
+  by_end Body.TooLarge (Done reply) not ends r is = (broken_off Body.TooLarge, tt, refl, r, λ e. let clash = sym is ∙ e in cc)
+  by_end Body.TooLarge (Busy id) not ends r is = (broken_off Body.TooLarge, tt, refl, r, λ e. let clash = sym is ∙ e in cc)
+  by_end Body.TooLarge MovedOften not ends r is = (broken_off Body.TooLarge, tt, refl, r, λ e. let clash = sym is ∙ e in cc)
+  by_end Body.TooLarge RacedOften not ends r is = (broken_off Body.TooLarge, tt, refl, r, λ e. let clash = sym is ∙ e in cc)
+  by_end Body.TooLarge LateTag not ends r is = (broken_off Body.TooLarge, tt, refl, r, λ e. let clash = sym is ∙ e in cc)
+  by_end Body.TooLarge (LateRead read_at clock) not ends r is = (broken_off Body.TooLarge, tt, refl, r, λ e. let clash = sym is ∙ e in cc)
+  by_end Body.TooLarge (NoSpace free needed) not ends r is = (broken_off Body.TooLarge, tt, refl, r, λ e. let clash = sym is ∙ e in cc)
+  by_end Body.Whole (Done reply) not ends r is = (read_whole, tt, refl, r, λ e. let clash = sym is ∙ e in cc)
+  by_end Body.Whole (Busy id) not ends r is = (read_whole, tt, refl, r, λ e. let clash = sym is ∙ e in cc)
+  by_end Body.Whole MovedOften not ends r is = (read_whole, tt, refl, r, λ e. let clash = sym is ∙ e in cc)
+  by_end Body.Whole RacedOften not ends r is = (read_whole, tt, refl, r, λ e. let clash = sym is ∙ e in cc)
+  by_end Body.Whole LateTag not ends r is = (read_whole, tt, refl, r, λ e. let clash = sym is ∙ e in cc)
+  by_end Body.Whole (LateRead read_at clock) not ends r is = (read_whole, tt, refl, r, λ e. let clash = sym is ∙ e in cc)
+  by_end Body.Whole (NoSpace free needed) not ends r is = (read_whole, tt, refl, r, λ e. let clash = sym is ∙ e in cc)
+
+  pub replied : (t : PutTask) (end : BodyEnd) (outcome : Outcome) → (end ≡ Body.Cut → ⊥) → Ran t end → stage_of t ≡ Ended outcome → Appends old.taken new.taken (text_of (form_at form (fate_of end)) end outcome)
+      → IsServed tells alone site form (Put c) Fed from to (served_so end outcome)
+  replied t end outcome not ran ended written =
+      by_end end outcome not (subst (λ o. IsEndAt o (fate_of end)) (ap outcome_in (sym ran.ended ∙ ended)) ran.is_end) (reply_is t end outcome ran ended written) (ap outcome_in (sym ran.ended ∙ ended))
+
   -- or not, or a front of it
-  pub stops_reply : (found : List Event) (t : PutTask) (outcome : Outcome) (fault : ServeFault) → Ran t → stage_of t ≡ Ended outcome → LeavesText old.taken new.taken (text_if form (outcome_reply None outcome) []) fault
-      → IsStopped tells alone site form (Put c) found from to fault
-  stops_reply found t outcome faults.OutOfMemory ran ended leaves = unwritten ran.body (is_by_end ran.outcome) leaves ran.given.has_given ran.asks
-  stops_reply found t outcome faults.WriteFault ran ended leaves = (
+  pub stops_reply : (found : List Event) (t : PutTask) (end : BodyEnd) (outcome : Outcome) (fault : ServeFault) → Ran t end → stage_of t ≡ Ended outcome → LeavesText old.taken new.taken (text_of (form_at form (fate_of end)) end outcome) fault
+      → IsStopped tells alone site form (Put c) Fed found from to fault
+  stops_reply found t end outcome faults.OutOfMemory ran ended leaves = unwritten (is_by_end ran.outcome) leaves (begun_of end ran.body ran.has_fate) ran.asks
+  stops_reply found t end outcome faults.WriteFault ran ended leaves = (
     record {
+      fate = fate_of end;
+      suits = suits_of end ran.body ran.has_fate;
       body = ran.body;
-      given = ran.given;
+      has_fate = ran.has_fate;
       outcome = ran.outcome;
       shown = [];
-      written = subst (λ o. AppendsFront old.taken new.taken (text_if form (outcome_reply None o) [])) (ap outcome_in (sym ended ∙ ran.ended)) leaves;
-      right = λ told. (ran.right told, end_has_reply ran.outcome ran.is_end, refl, ran.of_put told);
+      written = subst (λ o. AppendsFront old.taken new.taken (text_of (form_at form (fate_of end)) end o)) (ap outcome_in (sym ended ∙ ran.ended)) leaves;
+      right = λ told. (ran.right told, end_has_reply ran.outcome (fate_of end) ran.is_end, refl, ran.of_put told);
       more = is_by_end ran.outcome;
       asks = ran.asks;
     },
     refl,
   )
-  stops_reply found t outcome fault ran ended leaves = absurd leaves
+  stops_reply found t end outcome fault ran ended leaves = absurd leaves

@@ -6,9 +6,17 @@ use Rattle.realm_model.specs.Histories.{account_of}
 use Rattle.realm_model.specs.Owns.{own_events}
 use Rattle.realm_model.specs.declared.event.Event.{Event}
 use Rattle.http_intake.specs.Intake.{IntakeState}
+use Rattle.task_words.specs.declared.command.BodyEnd.{BodyEnd as TaskBodyEnd}
+use Rattle.task_words.specs.declared.command.BodyEnd.TheVariants.{Whole, Failed}
 use Rattle.task_words.specs.declared.outcome.Outcome.{Outcome}
+use Rattle.task_words.specs.declared.outcome.Outcome.TheVariants.{BodyFailed}
 use Rattle.task_words.specs.Outcomes.{IsPutOutcome}
-use Rattle.call_words.specs.Calls.{whole}
+use Rattle.http_model.specs.declared.reply.ReplyForm.{ReplyForm}
+use Rattle.http_chunks.specs.declared.body.BodyEnd.{BodyEnd}
+use Rattle.http_chunks.specs.declared.body.BodyEnd.TheVariants as Body
+use Rattle.call_words.specs.Bodies.{Fate, read_whole, broken_off}
+use Rattle.call_words.specs.Calls.{body_at}
+use Rattle.call_words.specs.Texts.{told_reply, text_if}
 use Rattle.call_words.specs.Events.{AreOfPut}
 use Rattle.task_put.specs.declared.stage.PutRequest.{PutRequest}
 use Rattle.task_put.specs.declared.stage.Stage.TheVariants.{Ended}
@@ -16,13 +24,19 @@ use Rattle.task_put.specs.declared.task.PutTask.{PutTask}
 use Rattle.task_put.specs.Stages.{IsOver}
 use Rattle.task_put.specs.Taking.{WantsBytes, fed_request}
 use Rattle.task_put.specs.Tasks.{request_of, stage_of, fault_of}
-use Rattle.call_service.specs.Bodies.{HasGiven, HasGivenAll, IsCutIn, FailsIn}
-use Rattle.call_service.specs.Serving.{Asks, is_by_end}
+use Rattle.call_service.specs.Bodies.{HasGiven, ReadsTo, IsCutIn, FailsIn, HasFate, HasBegun}
+use Rattle.call_service.specs.Serving.{Site, Asks, is_by_end}
 use Rattle.call_service.specs.declared.fault.ServeFault.{ServeFault}
 use Rattle.call_service.specs.declared.fault.ServeFault.TheVariants as faults
+use Rattle.call_service.specs.declared.served.Served.{Served}
+use Rattle.call_service.specs.declared.served.Served.TheVariants as services
 use Rattle.put_service.specs.declared.feeding.Taken.{Taken}
 use Rattle.put_service.specs.declared.feeding.Taken.TheVariants as takens
-use Rattle.put_service.specs.Standing.{IsEnd, IsSteady}
+use Rattle.put_service.specs.Standing.{IsEndBy, IsEndAt, IsSteady}
+
+-- where the task is served
+abbrev pub site_at : SettingsView → PutRequest → Site
+site_at settings r = record { settings = settings; zone = r.zone; asker = r.asker }
 
 -- ---- the body
 
@@ -49,49 +63,69 @@ TakesBytes old new bytes false =
 
 -- the body was read so far, and the task took it so
 abbrev pub TakesBody : PutTask → PutTask → Place → Place → Taken → Type 0
-TakesBody old new x y takens.Whole =
-    (given : List ℕ) × HasGivenAll x.intake y.intake x.left y.left given × TakesBytes old new given true
+TakesBody old new x y (takens.Ended end) =
+    (given : List ℕ) × ReadsTo x.intake y.intake x.left y.left given end × TakesBytes old new given true
 TakesBody old new x y takens.Over =
     (given : List ℕ) × HasGiven x.intake y.intake x.left y.left given × TakesBytes old new given false
-TakesBody old new x y takens.Cut = (given : List ℕ) × IsCutIn x.intake x.left y.left given
 
--- so much of the body was read before a step was refused
+-- some of the body was read before a step was refused
 abbrev pub IsRefusedStep : Type 0 → Type 0 → SettingsView → Place → Place → Type 0
 IsRefusedStep tells alone settings x y =
-    (given : List ℕ) × HasGiven x.intake y.intake x.left y.left given × (more : Bool) × AsksAt tells alone settings more x y
+    HasBegun x.intake y.intake x.left y.left × (more : Bool) × AsksAt tells alone settings more x y
 
 -- a read failed inside the body, or a step of the task was refused
 abbrev pub StopsBody : Type 0 → Type 0 → SettingsView → List Event → Place → Place → ServeFault → Type 0
 StopsBody tells alone settings found x y faults.ReadFault =
-    ((given : List ℕ) × FailsIn x.intake x.left y.left given) × AsksAt tells alone settings false x y
+    FailsIn x.intake x.left y.left × AsksAt tells alone settings false x y
 StopsBody tells alone settings found x y faults.OutOfMemory = IsRefusedStep tells alone settings x y
 StopsBody tells alone settings found x y faults.Worn = (tells → length found ≡ 2 ^ 62) × IsRefusedStep tells alone settings x y
 StopsBody tells alone settings found x y fault = ⊥
 
 -- ---- the task as a whole
 
--- the task ended so between two moments
-pub record EndsSo (tells alone : Type 0) (settings : SettingsView) (task : PutTask) (d e : DoorView) (told told' : Option (List ℕ)) : Type 0 where
+-- the task ended so between two moments, behind a body that ended so
+pub record EndsSo (tells alone : Type 0) (settings : SettingsView) (task : PutTask) (end : TaskBodyEnd) (d e : DoorView) (told told' : Option (List ℕ)) : Type 0 where
   pub outcome : Outcome
   pub ended : stage_of task ≡ Ended outcome
-  pub is_end : IsEnd outcome
+  pub is_end : IsEndBy outcome end
   pub asks : Asks tells alone settings (is_by_end outcome) d e told told'
 
--- the body was read whole, and the task ended so
-pub record HasEnded (tells alone : Type 0) (settings : SettingsView) (r : PutRequest) (task : PutTask) (x y : Place) : Type 0 where
+-- the body had that fate, and the task ended so
+pub record HasEnded (tells alone : Type 0) (settings : SettingsView) (r : PutRequest) (task : PutTask) (fate : Fate) (x y : Place) : Type 0 where
   pub body : List ℕ
-  pub given : HasGivenAll x.intake y.intake x.left y.left body
+  pub has_fate : HasFate fate x.intake y.intake x.left y.left body
   pub outcome : Outcome
   pub ended : stage_of task ≡ Ended outcome
   pub sound : fault_of task ≡ None
-  pub is_end : IsEnd outcome
-  pub right : tells → IsPutOutcome r.zone r.asker r.command (whole body) outcome
+  pub is_end : IsEndAt outcome fate
+  pub right : tells → IsPutOutcome r.zone r.asker r.command (body_at fate body) outcome
       (account_of settings y.door.seen (actor_at y.door)) (own_events y.door.seen (actor_at y.door))
   pub of_put : tells → AreOfPut (own_events y.door.seen (actor_at y.door))
   pub asks : AsksAt tells alone settings (is_by_end outcome) x y
 
--- the task ended; or the input ended inside the body
-abbrev pub RunsTask : Type 0 → Type 0 → SettingsView → PutRequest → PutTask → Place → Place → Bool → Type 0
-RunsTask tells alone settings r task x y true = HasEnded tells alone settings r task x y
-RunsTask tells alone settings r task x y false =
-    ((given : List ℕ) × IsCutIn x.intake x.left y.left given) × AsksAt tells alone settings false x y
+-- what became of a body that ended so
+abbrev pub fate_of : BodyEnd → Fate
+fate_of Body.Whole = read_whole
+fate_of end = broken_off end
+
+-- how the task is told that a body ended so
+abbrev pub task_end : BodyEnd → TaskBodyEnd
+task_end Body.Whole = Whole
+task_end end = Failed
+
+-- the body ended so, and the task did; unless the input ended inside the body
+abbrev pub RunsTask : Type 0 → Type 0 → SettingsView → PutRequest → PutTask → Place → Place → BodyEnd → Type 0
+RunsTask tells alone settings r task x y Body.Cut = IsCutIn x.intake x.left y.left × AsksAt tells alone settings false x y
+RunsTask tells alone settings r task x y end = HasEnded tells alone settings r task (fate_of end) x y
+
+-- ---- the reply
+
+-- its text behind a body that ended so
+abbrev pub text_of : ReplyForm → BodyEnd → Outcome → List ℕ
+text_of form end outcome = text_if form (told_reply None (fate_of end) outcome) []
+
+-- how the request was served then
+abbrev pub served_so : BodyEnd → Outcome → Served
+served_so Body.Whole outcome = services.Replied
+served_so end BodyFailed = services.Refused
+served_so end outcome = services.Closed

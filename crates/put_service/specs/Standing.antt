@@ -1,5 +1,6 @@
 -- Where the task of a PUT stands, and where it pauses.
 use Rattle.std.specs.Prelude.{◌≡◌, Bool, true, false, Option, Some, None}
+use Rattle.call_words.specs.Bodies.{Fate, broken_off, IsWrong}
 use Rattle.realm_model.specs.Settings.{SettingsView}
 use Rattle.realm_model.specs.Doors.{DoorView}
 use Rattle.realm_model.specs.Histories.{Legal}
@@ -39,6 +40,16 @@ IsEnd MovedOften = Unit {0}
 IsEnd LateTag = Unit {0}
 IsEnd (NoSpace free needed) = Unit {0}
 IsEnd outcome = ⊥
+
+-- a PUT ends so, whose body was read whole, or failed
+abbrev pub IsEndBy : Outcome → BodyEnd → Type 0
+IsEndBy BodyFailed Failed = Unit {0}
+IsEndBy outcome end = IsEnd outcome
+
+-- a PUT ends so, whose body has that fate
+abbrev pub IsEndAt : Outcome → Fate → Type 0
+IsEndAt BodyFailed (broken_off why) = IsWrong why
+IsEndAt outcome fate = IsEnd outcome
 
 -- an event brings this end: the end of the body does not
 abbrev pub IsByEvent : Outcome → Type 0

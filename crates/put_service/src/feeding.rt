@@ -1,10 +1,9 @@
 // The body of a PUT, from the intake into its task.
 ghost use Rattle.std.specs.Prelude.{◌≡◌, ◌+◌, ◌<◌, ◌≤◌, None, Bool, length, false, IfOk, OnOk, IfErr, OnErr};
-ghost use Rattle.http_intake.specs.Intake.{IsUnchunked};
 ghost use Rattle.task_put.specs.Bodies.{most_bytes};
 ghost use Rattle.task_put.specs.Taking.{WantsBytes};
 ghost use Rattle.task_put.specs.Tasks.{request_of, stage_of, fault_of};
-ghost use Rattle.call_service.specs.Bodies.{ReadsAtFault};
+ghost use Rattle.call_service.specs.Bodies.{ReadsAtFault, most_due};
 ghost use Rattle.call_service.specs.Serving.{Asks};
 ghost use Rattle.put_service.specs.Standing.{IsUp, IsSteady};
 ghost use Rattle.call_service.specs.Replying.{StopsEvent};
@@ -13,6 +12,7 @@ ghost use Rattle.put_service.specs.Parts.{TakesBytes, TakesBody, StopsBody, plac
 use crate::stepping::{Pause, advance};
 use call_service::{Piece, ServeFault, next_piece};
 use gw_io::{Clock, Source};
+use http_chunks::BodyEnd;
 use http_intake::Intake;
 use realm_door::Door;
 use std::alloc::Global;
@@ -21,12 +21,10 @@ use task_put::PutTask;
 /// How far the body of a PUT was read into its task.
 #[derive(Clone, Copy, Debug, PartialEq, Eq)]
 pub(crate) enum Taken {
-    /// The task took it whole.
-    Whole,
+    /// To where it ended so.
+    Ended(BodyEnd),
     /// The outcome was there before its end.
     Over,
-    /// The input ended inside it.
-    Cut,
 }
 
 /// Feeds these bytes to the task, which makes a tail of each stripe that is full. False where the outcome is there
@@ -68,8 +66,7 @@ fn feed_all<D: Door, C: Clock>(
     Ok(true)
 }
 
-/// Reads the row, and behind it the present body into the task: to its end, to that of the input, or to where the outcome
-/// is there.
+/// Reads the row, and behind it the present body into the task: to where it ends, or to where the outcome is there.
 pub(crate) fn take_body<D: Door, C: Clock, S: Source>(
     alloc: Global,
     task: &mut PutTask,
@@ -84,8 +81,7 @@ pub(crate) fn take_body<D: Door, C: Clock, S: Source>(
     requires steady { IsSteady task.old }
     requires open { (request_of task.old).end ≡ None }
     requires intake { intake.old.failed ≡ None }
-    requires plain { IsUnchunked intake.old }
-    requires few { length ((request_of task.old).bytes) + intake.old.body_left ≤ most_bytes }
+    requires few { length ((request_of task.old).bytes) + most_due intake.old ≤ most_bytes }
     requires up { IsUp D.tells (D.settings door.old) task.old (D.told door.old) }
     ensures up { IsUp D.tells (D.settings door.old) task.new (D.told door.new) }
     ensures taken { IfOk result (TakesBody task.old task.new
@@ -115,8 +111,7 @@ pub(crate) fn take_body<D: Door, C: Clock, S: Source>(
                     return Ok(Taken::Over);
                 }
             }
-            Piece::Whole => return Ok(Taken::Whole),
-            Piece::Cut => return Ok(Taken::Cut),
+            Piece::Ended(end) => return Ok(Taken::Ended(end)),
             Piece::Failed => return Err(ServeFault::ReadFault),
         }
     }

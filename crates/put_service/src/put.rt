@@ -1,35 +1,40 @@
-ghost use Rattle.std.specs.Prelude.{◌≡◌, ◌≤◌, ◌<◌, [], None, true, false, length, IfOk, IfErr, OnOk, OnErr};
+ghost use Rattle.std.specs.Prelude.{◌≡◌, ◌≤◌, ◌<◌, ◌++◌, [], None, true, false, length, IfOk, IfErr, OnOk, OnErr};
 ghost use Rattle.std.specs.Io.KnownBytes.{Appends};
-ghost use Rattle.http_intake.specs.Intake.{IsUnchunked};
+ghost use Rattle.realm_model.specs.Histories.{Legal};
 ghost use Rattle.swift_requests.specs.declared.asked.Asked.TheVariants.{Put};
+ghost use Rattle.swift_requests.specs.declared.body.BodyUse.TheVariants.{Fed};
+ghost use Rattle.task_put.specs.Stages.{IsOver};
+ghost use Rattle.call_service.specs.declared.served.Served.TheVariants as services;
+ghost use Rattle.call_service.specs.Waiting.{IsServedWaiting, IsStoppedWaiting, IsPutServed, IsPutStopped};
+ghost use Rattle.put_service.specs.Leaving.{left_text};
 ghost use Rattle.task_put.specs.Bodies.{most_bytes};
 ghost use Rattle.task_put.specs.Taking.{ended_request};
 ghost use Rattle.task_put.specs.Tasks.{request_of, stage_of, fault_of};
-ghost use Rattle.task_words.specs.declared.command.BodyEnd.TheVariants.{Whole};
-ghost use Rattle.call_words.specs.Texts.{outcome_reply, text_if};
-ghost use Rattle.call_service.specs.Bodies.{ReadsAtFault};
-ghost use Rattle.call_service.specs.Serving.{Asks, WritesAtFault, IsNew, IsServed, IsStopped, HasServeCause, side, LeavesText};
-ghost use Rattle.put_service.specs.Standing.{IsUp, IsSteady, IsEnd};
+ghost use Rattle.call_service.specs.Bodies.{ReadsAtFault, most_due};
+ghost use Rattle.call_service.specs.Serving.{Asks, WritesAtFault, IsNew, IsServed, IsStopped, HasServeCause, form_at, side, LeavesText};
+ghost use Rattle.put_service.specs.Standing.{IsUp, IsSteady, IsEndAt};
 ghost use Rattle.call_service.specs.Replying.{StopsEvent};
-ghost use Rattle.put_service.specs.Parts.{StopsBody, EndsSo, RunsTask, place};
+ghost use Rattle.put_service.specs.Parts.{StopsBody, EndsSo, RunsTask, fate_of, task_end, text_of, served_so, site_at, place};
 
 use crate::feeding::{Taken, take_body};
 use crate::stepping::{Pause, advance};
-use call_service::{ServeFault, Served, drop_body, send};
-use call_words::push_outcome;
+use call_service::{ServeFault, Served, closing, drop_body, send};
+use call_words::{push_broken_body, push_outcome};
 use gw_io::{Clock, Ends, Sink, Source};
+use http_chunks::BodyEnd;
 use http_intake::Intake;
 use http_model::ReplyForm;
 use realm_door::{Door, Task};
 use realm_model::Settings;
-use std::alloc::Global;
+use std::alloc::{AllocError, Global};
 use task_put::PutTask;
-use task_words::{Asker, BodyEnd, Outcome, PutCommand};
+use task_words::{Asker, BodyEnd as TaskBodyEnd, Outcome, PutCommand};
 
-/// Ends the body of a PUT, and makes the events up to the outcome.
+/// Ends the body of a PUT so, and makes the events up to the outcome.
 fn conclude<D: Door, C: Clock>(
     alloc: Global,
     task: &mut PutTask,
+    end: TaskBodyEnd,
     door: &mut D,
     clock: &mut C,
 ) -> Result<(), ServeFault>
@@ -38,16 +43,16 @@ fn conclude<D: Door, C: Clock>(
     requires open { (request_of task.old).end ≡ None }
     requires up { IsUp D.tells (D.settings door.old) task.old (D.told door.old) }
     ensures up { IsUp D.tells (D.settings door.old) task.new (D.told door.new) }
-    ensures ended { OnOk result (EndsSo D.tells D.alone (D.settings door.old) task.new (D.told door.old) (D.told door.new) (C.told clock.old) (C.told clock.new)) }
+    ensures ended { OnOk result (EndsSo D.tells D.alone (D.settings door.old) task.new end (D.told door.old) (D.told door.new) (C.told clock.old) (C.told clock.new)) }
     ensures stopped { OnErr result (Asks D.tells D.alone (D.settings door.old) true (D.told door.old) (D.told door.new) (C.told clock.old) (C.told clock.new)) }
-    ensures request { request_of task.new ≡ ended_request (request_of task.old) Whole }
+    ensures request { request_of task.new ≡ ended_request (request_of task.old) end }
     ensures sound { OnOk result (fault_of task.new ≡ None) }
     ensures fault { IfErr result (StopsEvent D.tells (D.found door.new)) }
     ensures settings { D.settings door.new ≡ D.settings door.old }
     ensures home { D.home door.new ≡ D.home door.old }
     ensures plan { C.plan clock.new ≡ C.plan clock.old }
 {
-    task.finish(BodyEnd::Whole);
+    task.finish(end);
     match advance(alloc, task, door, clock)? {
         Pause::Over => Ok(()),
         Pause::ByEnd => Ok(()),
@@ -55,8 +60,18 @@ fn conclude<D: Door, C: Clock>(
     }
 }
 
+/// How the task is told that a body ended so.
+fn task_end(end: BodyEnd) -> TaskBodyEnd
+    ensures { result ≡ task_end end }
+{
+    match end {
+        BodyEnd::Whole => TaskBodyEnd::Whole,
+        _ => TaskBodyEnd::Failed,
+    }
+}
+
 /// Takes the task to its outcome, and the body out of the intake; what is left of a body behind the outcome is
-/// dropped. False where the input ends inside the body.
+/// dropped. Answers how the body ended; where the input ends inside it, the task has no outcome.
 fn run_put<D: Door, C: Clock, S: Source>(
     alloc: Global,
     task: &mut PutTask,
@@ -65,15 +80,14 @@ fn run_put<D: Door, C: Clock, S: Source>(
     intake: &mut Intake,
     source: &mut S,
     buffer: &mut [u8],
-) -> Result<bool, ServeFault>
+) -> Result<BodyEnd, ServeFault>
     requires room { 0 < length buffer.old }
     requires sound { fault_of task.old ≡ None }
     requires steady { IsSteady task.old }
     requires none { (request_of task.old).bytes ≡ [] }
     requires open { (request_of task.old).end ≡ None }
     requires intake { intake.old.failed ≡ None }
-    requires plain { IsUnchunked intake.old }
-    requires few { intake.old.body_left ≤ most_bytes }
+    requires few { most_due intake.old ≤ most_bytes }
     requires up { IsUp D.tells (D.settings door.old) task.old (D.told door.old) }
     ensures ran { IfOk result (RunsTask D.tells D.alone (D.settings door.old) (request_of task.old) task.new
         (place (D.told door.old) intake.old (S.left source.old) (C.told clock.old))
@@ -88,38 +102,260 @@ fn run_put<D: Door, C: Clock, S: Source>(
     ensures kept { length buffer.new ≡ length buffer.old }
 {
     match take_body(alloc, task, door, clock, intake, source, buffer)? {
-        Taken::Whole => {
-            conclude(alloc, task, door, clock)?;
-            Ok(true)
-        }
         Taken::Over => drop_body(intake, source, buffer),
-        Taken::Cut => Ok(false),
+        Taken::Ended(end) => match end {
+            BodyEnd::Cut => Ok(end),
+            _ => {
+                conclude(alloc, task, task_end(end), door, clock)?;
+                Ok(end)
+            }
+        },
     }
 }
 
-/// Writes the reply of a task that ended so. The buffer is used for its text.
-#[tactic(auto, using(crate::proofs::Replying::end_has_reply, crate::proofs::Replying::end_text))]
+/// The form of the reply behind a body that ended so: what is left of one closes the connection.
+fn form_behind(end: BodyEnd, form: ReplyForm) -> ReplyForm
+    ensures { result ≡ form_at form (fate_of end) }
+{
+    match end {
+        BodyEnd::Whole => form,
+        _ => closing(form),
+    }
+}
+
+/// Adds the text of the reply of a task that ended so, behind a body that ended so.
+#[tactic(auto, using(crate::proofs::Replying::end_has_reply, crate::proofs::Replying::end_text, crate::proofs::Replying::failed_wrong))]
+fn push_reply(
+    out: &mut Vec<u8>,
+    outcome: &Outcome,
+    end: BodyEnd,
+    form: ReplyForm,
+) -> Result<(), AllocError>
+    requires { IsEndAt outcome.now (fate_of end) }
+    ensures { OnOk result (out.new.items ≡ out.old.items ++ text_of form end outcome.now) }
+{
+    match outcome {
+        Outcome::BodyFailed => push_broken_body(out, end, form),
+        _ => push_outcome(out, outcome, None, form),
+    }
+}
+
+/// Writes that reply. The buffer is used for its text.
 fn send_reply<K: Sink>(
     sink: &mut K,
     out: &mut Vec<u8>,
     outcome: &Outcome,
+    end: BodyEnd,
     form: ReplyForm,
 ) -> Result<(), ServeFault>
-    requires { IsEnd outcome.now }
-    ensures ok { OnOk result (Appends (K.taken sink.old) (K.taken sink.new) (text_if form (outcome_reply None outcome.now) [])) }
-    ensures stopped { IfErr result (LeavesText (K.taken sink.old) (K.taken sink.new) (text_if form (outcome_reply None outcome.now) [])) }
+    requires { IsEndAt outcome.now (fate_of end) }
+    ensures ok { OnOk result (Appends (K.taken sink.old) (K.taken sink.new) (text_of (form_at form (fate_of end)) end outcome.now)) }
+    ensures stopped { IfErr result (LeavesText (K.taken sink.old) (K.taken sink.new) (text_of (form_at form (fate_of end)) end outcome.now)) }
     ensures cause { WritesAtFault (K.faults sink.old) (K.faults sink.new) result }
 {
+    let form = form_behind(end, form);
     out.clear();
-    if push_outcome(out, outcome, None, form).is_err() {
-        return Err(ServeFault::OutOfMemory);
-    }
+    push_reply(out, outcome, end, form)?;
     send(sink, out.as_slice())
 }
 
+/// How a request was served whose task ended so, behind a body that ended so.
+fn served_so(end: BodyEnd, outcome: &Outcome) -> Served
+    ensures { result ≡ served_so end outcome.now }
+{
+    match end {
+        BodyEnd::Whole => Served::Replied,
+        _ if matches!(outcome, Outcome::BodyFailed) => Served::Refused,
+        _ => Served::Closed,
+    }
+}
+
+/// Serves the PUT of a task that took no byte yet: reads its body, makes its events, and writes its reply.
+fn serve_body<D: Door, C: Clock, S: Source, K: Sink>(
+    alloc: Global,
+    task: &mut PutTask,
+    form: ReplyForm,
+    door: &mut D,
+    clock: &mut C,
+    intake: &mut Intake,
+    source: &mut S,
+    sink: &mut K,
+    buffer: &mut [u8],
+    out: &mut Vec<u8>,
+) -> Result<Served, ServeFault>
+    requires room { 0 < length buffer.old }
+    requires sound { fault_of task.old ≡ None }
+    requires steady { IsSteady task.old }
+    requires none { (request_of task.old).bytes ≡ [] }
+    requires open { (request_of task.old).end ≡ None }
+    requires intake { intake.old.failed ≡ None }
+    requires few { most_due intake.old ≤ most_bytes }
+    requires form { form.bodiless ≡ false }
+    requires up { IsUp D.tells (D.settings door.old) task.old (D.told door.old) }
+    ensures served { IfOk result (IsServed D.tells D.alone (site_at (D.settings door.old) (request_of task.old)) form (Put (request_of task.old).command) Fed
+        (side (D.told door.old) intake.old (⟦<(S, K, C) as Ends>⟧.ends (source.old, sink.old, clock.old)))
+        (side (D.told door.new) intake.new (⟦<(S, K, C) as Ends>⟧.ends (source.new, sink.new, clock.new)))) }
+    ensures stopped { IfErr result (IsStopped D.tells D.alone (site_at (D.settings door.old) (request_of task.old)) form (Put (request_of task.old).command) Fed
+        (D.found door.new)
+        (side (D.told door.old) intake.old (⟦<(S, K, C) as Ends>⟧.ends (source.old, sink.old, clock.old)))
+        (side (D.told door.new) intake.new (⟦<(S, K, C) as Ends>⟧.ends (source.new, sink.new, clock.new)))) }
+    ensures cause { HasServeCause
+        (⟦<(S, K, C) as Ends>⟧.ends (source.old, sink.old, clock.old))
+        (⟦<(S, K, C) as Ends>⟧.ends (source.new, sink.new, clock.new)) result }
+    ensures settings { D.settings door.new ≡ D.settings door.old }
+    ensures home { D.home door.new ≡ D.home door.old }
+    ensures kept { length buffer.new ≡ length buffer.old }
+{
+    let end = run_put(alloc, task, door, clock, intake, source, buffer)?;
+    match end {
+        BodyEnd::Cut => return Ok(Served::Cut),
+        _ => {}
+    }
+    match task.outcome() {
+        Some(outcome) => {
+            send_reply(sink, out, outcome, end, form)?;
+            Ok(served_so(end, outcome))
+        }
+        None => unreachable!(),
+    }
+}
+
+/// Writes the reply of a PUT whose outcome was there before its body, which is left, and the connection closes. The
+/// buffer is used for its text.
+#[tactic(auto, using(crate::proofs::Waiting::left_has_reply, crate::proofs::Waiting::left_front, crate::proofs::Waiting::ended_end))]
+fn leave_body<K: Sink>(
+    task: &PutTask,
+    sink: &mut K,
+    out: &mut Vec<u8>,
+    form: ReplyForm,
+) -> Result<Served, ServeFault>
+    requires over { IsOver (stage_of task.now) }
+    requires sound { fault_of task.now ≡ None }
+    requires steady { IsSteady task.now }
+    ensures left { IfOk result (λ served. (served ≡ services.Closed)
+        × Appends (K.taken sink.old) (K.taken sink.new) (left_text form (stage_of task.now))) }
+    ensures stopped { IfErr result (LeavesText (K.taken sink.old) (K.taken sink.new) (left_text form (stage_of task.now))) }
+    ensures cause { WritesAtFault (K.faults sink.old) (K.faults sink.new) result }
+{
+    let form = closing(form);
+    match task.outcome() {
+        Some(outcome) => {
+            out.clear();
+            push_outcome(out, outcome, None, form)?;
+            send(sink, out.as_slice())?;
+            Ok(Served::Closed)
+        }
+        None => unreachable!(),
+    }
+}
+
+/// Tells a client that waits to send the body.
+const CONTINUE: &[u8] = b"HTTP/1.1 100 Continue\r\n\r\n";
+
+/// Serves the PUT of a new task whose client waits for a 100: reads the row of the container, and where it grants
+/// the PUT writes the 100 before the body is read; where it does not, the body is left.
+fn serve_waiting<D: Door, C: Clock, S: Source, K: Sink>(
+    alloc: Global,
+    task: &mut PutTask,
+    form: ReplyForm,
+    door: &mut D,
+    clock: &mut C,
+    intake: &mut Intake,
+    source: &mut S,
+    sink: &mut K,
+    buffer: &mut [u8],
+    out: &mut Vec<u8>,
+) -> Result<Served, ServeFault>
+    requires room { 0 < length buffer.old }
+    requires sound { fault_of task.old ≡ None }
+    requires steady { IsSteady task.old }
+    requires none { (request_of task.old).bytes ≡ [] }
+    requires open { (request_of task.old).end ≡ None }
+    requires intake { intake.old.failed ≡ None }
+    requires few { most_due intake.old ≤ most_bytes }
+    requires form { form.bodiless ≡ false }
+    requires up { IsUp D.tells (D.settings door.old) task.old (D.told door.old) }
+    requires legal { D.tells → Legal (D.settings door.old) (D.told door.old).seen }
+    ensures served { IfOk result (IsServedWaiting D.tells D.alone (site_at (D.settings door.old) (request_of task.old)) form (request_of task.old).command
+        (side (D.told door.old) intake.old (⟦<(S, K, C) as Ends>⟧.ends (source.old, sink.old, clock.old)))
+        (side (D.told door.new) intake.new (⟦<(S, K, C) as Ends>⟧.ends (source.new, sink.new, clock.new)))) }
+    ensures stopped { IfErr result (IsStoppedWaiting D.tells D.alone (site_at (D.settings door.old) (request_of task.old)) form (request_of task.old).command
+        (D.found door.new)
+        (side (D.told door.old) intake.old (⟦<(S, K, C) as Ends>⟧.ends (source.old, sink.old, clock.old)))
+        (side (D.told door.new) intake.new (⟦<(S, K, C) as Ends>⟧.ends (source.new, sink.new, clock.new)))) }
+    ensures cause { HasServeCause
+        (⟦<(S, K, C) as Ends>⟧.ends (source.old, sink.old, clock.old))
+        (⟦<(S, K, C) as Ends>⟧.ends (source.new, sink.new, clock.new)) result }
+    ensures settings { D.settings door.new ≡ D.settings door.old }
+    ensures home { D.home door.new ≡ D.home door.old }
+    ensures kept { length buffer.new ≡ length buffer.old }
+{
+    let pause = advance(alloc, task, door, clock)?;
+    match pause {
+        Pause::Over => leave_body(task, sink, out, form),
+        Pause::Wants => {
+            send(sink, CONTINUE)?;
+            serve_body(
+                alloc, task, form, door, clock, intake, source, sink, buffer, out,
+            )
+        }
+        Pause::ByEnd => unreachable!(),
+    }
+}
+
+/// Serves the PUT of a new task, whose client waits for a 100 or not.
+fn serve_new<D: Door, C: Clock, S: Source, K: Sink>(
+    alloc: Global,
+    task: &mut PutTask,
+    form: ReplyForm,
+    waits: bool,
+    door: &mut D,
+    clock: &mut C,
+    intake: &mut Intake,
+    source: &mut S,
+    sink: &mut K,
+    buffer: &mut [u8],
+    out: &mut Vec<u8>,
+) -> Result<Served, ServeFault>
+    requires room { 0 < length buffer.old }
+    requires sound { fault_of task.old ≡ None }
+    requires steady { IsSteady task.old }
+    requires none { (request_of task.old).bytes ≡ [] }
+    requires open { (request_of task.old).end ≡ None }
+    requires intake { intake.old.failed ≡ None }
+    requires few { most_due intake.old ≤ most_bytes }
+    requires form { form.bodiless ≡ false }
+    requires up { IsUp D.tells (D.settings door.old) task.old (D.told door.old) }
+    requires legal { D.tells → Legal (D.settings door.old) (D.told door.old).seen }
+    ensures served { IfOk result (IsPutServed waits D.tells D.alone (site_at (D.settings door.old) (request_of task.old)) form (request_of task.old).command
+        (side (D.told door.old) intake.old (⟦<(S, K, C) as Ends>⟧.ends (source.old, sink.old, clock.old)))
+        (side (D.told door.new) intake.new (⟦<(S, K, C) as Ends>⟧.ends (source.new, sink.new, clock.new)))) }
+    ensures stopped { IfErr result (IsPutStopped waits D.tells D.alone (site_at (D.settings door.old) (request_of task.old)) form (request_of task.old).command
+        (D.found door.new)
+        (side (D.told door.old) intake.old (⟦<(S, K, C) as Ends>⟧.ends (source.old, sink.old, clock.old)))
+        (side (D.told door.new) intake.new (⟦<(S, K, C) as Ends>⟧.ends (source.new, sink.new, clock.new)))) }
+    ensures cause { HasServeCause
+        (⟦<(S, K, C) as Ends>⟧.ends (source.old, sink.old, clock.old))
+        (⟦<(S, K, C) as Ends>⟧.ends (source.new, sink.new, clock.new)) result }
+    ensures settings { D.settings door.new ≡ D.settings door.old }
+    ensures home { D.home door.new ≡ D.home door.old }
+    ensures kept { length buffer.new ≡ length buffer.old }
+{
+    if waits {
+        return serve_waiting(
+            alloc, task, form, door, clock, intake, source, sink, buffer, out,
+        );
+    }
+    serve_body(
+        alloc, task, form, door, clock, intake, source, sink, buffer, out,
+    )
+}
+
 /// Serves one PUT, whose head was read, as the door's present actor, which made no event: makes its events, reads
-/// its body, and writes its reply. The clock is asked once for each event, and once where the end of the body
-/// decides. The buffers are for pieces of the body and for the text of the reply.
+/// its body, and writes its reply. Where the client waits for a 100, it is written behind the read of the row, which
+/// grants the PUT; else the body is left and the reply closes the connection. The clock is asked once for each
+/// event, and once where the end of the body decides. The buffers are for pieces of the body and for the text of
+/// the reply.
 pub fn serve_put<D: Door, C: Clock, S: Source, K: Sink>(
     alloc: Global,
     settings: &Settings,
@@ -127,6 +363,7 @@ pub fn serve_put<D: Door, C: Clock, S: Source, K: Sink>(
     asker: Asker,
     put: PutCommand,
     form: ReplyForm,
+    waits: bool,
     door: &mut D,
     clock: &mut C,
     intake: &mut Intake,
@@ -140,20 +377,19 @@ pub fn serve_put<D: Door, C: Clock, S: Source, K: Sink>(
     requires high { zone ≤ settings.now.zones }
     requires same { D.settings door.old ≡ settings.now }
     requires intake { intake.old.failed ≡ None }
-    requires plain { IsUnchunked intake.old }
-    requires few { intake.old.body_left ≤ most_bytes }
+    requires few { most_due intake.old ≤ most_bytes }
     requires form { form.bodiless ≡ false }
     requires new { D.tells → IsNew (D.settings door.old) (D.told door.old) }
 
-    // The whole reply was written behind the body, or the input ended inside the body and nothing was.
-    ensures served { IfOk result (IsServed D.tells D.alone
-        (record { settings = D.settings door.old; zone = zone; asker = asker }) form (Put put)
+    // The whole reply was written behind the body, or with the body left; or the input ended inside the body.
+    ensures served { IfOk result (IsPutServed waits D.tells D.alone
+        (record { settings = D.settings door.old; zone = zone; asker = asker }) form put
         (side (D.told door.old) intake.old (⟦<(S, K, C) as Ends>⟧.ends (source.old, sink.old, clock.old)))
         (side (D.told door.new) intake.new (⟦<(S, K, C) as Ends>⟧.ends (source.new, sink.new, clock.new)))) }
 
-    // Only a write that failed leaves a front of a reply.
-    ensures stopped { IfErr result (IsStopped D.tells D.alone
-        (record { settings = D.settings door.old; zone = zone; asker = asker }) form (Put put)
+    // Only a write that failed leaves a front of a text.
+    ensures stopped { IfErr result (IsPutStopped waits D.tells D.alone
+        (record { settings = D.settings door.old; zone = zone; asker = asker }) form put
         (D.found door.new)
         (side (D.told door.old) intake.old (⟦<(S, K, C) as Ends>⟧.ends (source.old, sink.old, clock.old)))
         (side (D.told door.new) intake.new (⟦<(S, K, C) as Ends>⟧.ends (source.new, sink.new, clock.new)))) }
@@ -168,14 +404,7 @@ pub fn serve_put<D: Door, C: Clock, S: Source, K: Sink>(
     let Ok(mut task) = PutTask::new(alloc, settings, zone, asker, put) else {
         return Err(ServeFault::OutOfMemory);
     };
-    if !run_put(alloc, &mut task, door, clock, intake, source, buffer)? {
-        return Ok(Served::Cut);
-    }
-    match task.outcome() {
-        Some(outcome) => {
-            send_reply(sink, out, outcome, form)?;
-            Ok(Served::Replied)
-        }
-        None => unreachable!(),
-    }
+    serve_new(
+        alloc, &mut task, form, waits, door, clock, intake, source, sink, buffer, out,
+    )
 }

@@ -1,5 +1,5 @@
--- What the making of the container leaves: one row, and no object.
-use Rattle.std.proofs.Common.{◌≡◌, ℕ, zero, suc, ◌≤◌, ◌==◌, true, cond, List, [], ◌∷◌, ◌++◌, Option, Some, None, refl, ◌∙◌, ap, arith}
+-- What stands before the connection: one row or none, and no object.
+use Rattle.std.proofs.Common.{◌≡◌, ℕ, zero, suc, ◌+◌, ◌≤◌, ◌==◌, Bool, true, false, cond, List, [], ◌∷◌, ◌++◌, length, Option, Some, None, refl, ◌∙◌, ap, arith}
 use Rattle.std.specs.Prelude.{bytes_eq}
 use Rattle.std.specs.List.{AllByRecursion}
 use Rattle.std.proofs.lemmas.Map.Text.{is_eq-slice_cmp}
@@ -13,7 +13,7 @@ use Rattle.object_words.specs.Names.{at, with_name}
 use Rattle.object_words.specs.Refusals.{unless_refused}
 use Rattle.object_words.specs.Roots.{Root, version_of, swapped, stored, is_logged}
 use Rattle.object_words.proofs.NameLemmas.{at-none, at-with_name}
-use Rattle.realm_model.specs.Settings.{IsSettings}
+use Rattle.realm_model.specs.Settings.{SettingsView}
 use Rattle.realm_model.specs.States.{State, number_next, at_moment}
 use Rattle.realm_model.specs.Phases.{ActorId}
 use Rattle.realm_model.specs.Doors.{actor_at}
@@ -23,7 +23,7 @@ use Rattle.realm_model.specs.Histories.{world_of, state_of}
 use Rattle.realm_model.specs.declared.event.Reply.TheVariants.{Done}
 use Rattle.realm_model.specs.declared.event.Event.{Event}
 use Rattle.realm_model.proofs.Runs.{state-next}
-use Rattle.realm_door.specs.Steps.{actor_of_pass}
+use Rattle.realm_door.specs.Steps.{next_count, actor_of_pass}
 use Rattle.swift_auth.specs.Users.{standard_user, account_of}
 use Rattle.container_preset.specs.Presets.{row_now, new_row, shard_op, row_op, event_by, makes, look, made_row}
 use Rattle.container_preset.proofs.Rows.{makes_stay, next_is}
@@ -31,7 +31,7 @@ use Rattle.once_law.specs.Maps.{rows_in, slots_in, no_slots}
 use Rattle.once_law.specs.Runs.{NoneFrom, AreAt}
 use Rattle.once_law.proofs.Folding.{none_of_other}
 use Rattle.once_law.proofs.Moments.{clock_behind}
-use Rattle.rgw_run.specs.Runs.{standard_settings, first_door, making}
+use Rattle.rgw_run.specs.Runs.{door_at, first_door, making}
 use Rattle.rgw_run.specs.Exact.{one_row}
 
 -- ---- each event
@@ -44,51 +44,19 @@ all_makes : (P : Event → Type 0) (actor : ActorId) (id moment : ℕ) → ((n :
 all_makes P actor id moment each zero = tt
 all_makes P actor id moment each (suc n) = all_both P (makes actor id moment n) (event_by actor (shard_op id n) moment Done ∷ []) (all_makes P actor id moment each n) (each n, tt)
 
+one_longer : (xs : List Event) (e : Event) → length (xs ++ e ∷ []) ≡ length xs + 1
+one_longer [] e = refl
+one_longer (x ∷ xs) e = let rest = one_longer xs e in omega (arith, rest)
+
+so_many : (actor : ActorId) (id moment n : ℕ) → length (makes actor id moment n) ≡ n
+so_many actor id moment zero = refl
+so_many actor id moment (suc n) =
+    let rest = so_many actor id moment n in
+    let more = one_longer (makes actor id moment n) (event_by actor (shard_op id n) moment Done) in
+    omega (arith, rest, more)
+
 abbrev maker : ActorId
 maker = actor_at first_door
-
-abbrev swap : List ℕ → ℕ → Event
-swap bucket moment = event_by maker (row_op standard_settings bucket (account_of standard_user) 1) moment Done
-
--- the read of the name, and the shards
-abbrev front : List ℕ → ℕ → List Event
-front bucket moment = look maker bucket moment ∷ makes maker 1 moment standard_settings.shards
-
-all_making : (P : Event → Type 0) (bucket : List ℕ) (moment : ℕ) → P (look maker bucket moment) → ((n : ℕ) → P (event_by maker (shard_op 1 n) moment Done)) → P (swap bucket moment) → AllByRecursion P (making bucket moment)
-all_making P bucket moment first each last = (first, all_both P (makes maker 1 moment standard_settings.shards) (swap bucket moment ∷ []) (all_makes P maker 1 moment each standard_settings.shards) (last, tt))
-
-pub made_at : (bucket : List ℕ) (moment : ℕ) → AreAt moment (making bucket moment)
-made_at bucket moment = all_making (λ e. e.moment ≡ moment) bucket moment refl (λ n. refl) refl
-
--- no later actor of the pass
-pub made_by_first : (bucket : List ℕ) (moment : ℕ) → NoneFrom 1 1 (making bucket moment)
-made_by_first bucket moment count low =
-    none_of_other 1 count 0 (making bucket moment) (λ same. omega (arith, same, low))
-    (all_making (λ e. actor_of e ≡ actor_of_pass 1 0) bucket moment refl (λ n. refl) refl)
-
-pub made_clock : (bucket : List ℕ) (moment : ℕ) → (state_of standard_settings (making bucket moment)).clock ≤ counted_moment moment
-made_clock bucket moment = clock_behind standard_settings [] (making bucket moment) moment (omega arith) (made_at bucket moment)
-
--- ---- the slots
-
-abbrev KeepsMaps : Event → Type 0
-KeepsMaps e = (m : Maps) → mapped m e.op e.reply ≡ m
-
-maps_stay : (m : Maps) (es : List Event) → AllByRecursion KeepsMaps es → mapped_by m es ≡ m
-maps_stay m [] keep = refl
-maps_stay m (e ∷ es) keep = ap (λ n. mapped_by n es) (keep.0 m) ∙ maps_stay m es keep.1
-
-pub no_object : (bucket : List ℕ) (moment : ℕ) → slots_in standard_settings (making bucket moment) 1 ≡ no_slots
-no_object bucket moment = λ i container name. at_name container name i where
-  maps : mapped_by no_maps (making bucket moment) ≡ no_maps
-  maps = maps_stay no_maps (making bucket moment) (all_making KeepsMaps bucket moment (λ m. refl) (λ n m. refl) (λ m. refl))
-
-  at_name : (container : ℕ) (name : List ℕ) → slots_in standard_settings (making bucket moment) 1 container name ≡ Slots.Nothing
-  at_name container name =
-      let made = (world_of standard_settings (making bucket moment)).stripes.made in
-      ap (λ (m : Maps). whole_slot made 1 (slot_at (m 1 container) name)) maps ∙ rw at-none refl
-
--- ---- the row
 
 -- where there was none, a swap leaves the row, and the other rows as they were
 swap_leaves : (root : Root) (name : List ℕ) (new : Bucket) (number : ℕ) (q : List ℕ) → at root.buckets name ≡ None → at (swapped root name 0 (Some new) true number).buckets q ≡ cond (bytes_eq q name) (Some (stored None new true number)) (at root.buckets q)
@@ -99,39 +67,91 @@ swap_leaves root name new number q none =
     ap left none
     ∙ (at-with_name root.buckets name (stored None new true number) q ∙ ap (λ b. cond b (Some (stored None new true number)) (at root.buckets q)) (is_eq-slice_cmp q name))
 
-no_row : (bucket : List ℕ) (moment : ℕ) (name : List ℕ) → row_now standard_settings (front bucket moment) name ≡ None
-no_row bucket moment name =
-    makes_stay standard_settings (look maker bucket moment ∷ []) maker 1 moment standard_settings.shards name
-    ∙ ap (λ (st : State). at (st.root 1).buckets name) (state-next standard_settings [] (look maker bucket moment))
-    ∙ at-none name
+-- no event of these changes a slot
+abbrev KeepsMaps : Event → Type 0
+KeepsMaps e = (m : Maps) → mapped m e.op e.reply ≡ m
 
-pub row_is : (bucket : List ℕ) (moment : ℕ) → rows_in standard_settings (making bucket moment) 1 ≡ one_row bucket
-row_is bucket moment = λ i name. at_name name i where
-  number : number_next (state_of standard_settings (front bucket moment)) ≡ 13
-  number = next_is standard_settings (front bucket moment)
+maps_stay : (m : Maps) (es : List Event) → AllByRecursion KeepsMaps es → mapped_by m es ≡ m
+maps_stay m [] keep = refl
+maps_stay m (e ∷ es) keep = ap (λ n. mapped_by n es) (keep.0 m) ∙ maps_stay m es keep.1
 
-  at_name : (name : List ℕ) → rows_in standard_settings (making bucket moment) 1 name ≡ one_row bucket name
-  at_name name =
-      let history = front bucket moment in
-      let st : State = at_moment (state_of standard_settings history) moment in
-      let new = new_row standard_settings (account_of standard_user) 1 in
-      ap (λ (s : State). at (s.root 1).buckets name) (state-next standard_settings history (swap bucket moment))
-      ∙ swap_leaves (st.root 1) bucket new (number_next st) name (no_row bucket moment bucket)
-      ∙ ap (λ o. cond (bytes_eq name bucket) (Some (stored None new true (number_next st))) o) (no_row bucket moment name)
-      ∙ ap (λ n. cond (bytes_eq name bucket) (Some (made_row standard_settings (account_of standard_user) 1 n)) None) number
+no_slot : (settings : SettingsView) (history : List Event) → mapped_by no_maps history ≡ no_maps → slots_in settings history 1 ≡ no_slots
+no_slot settings history maps = λ i container name. at_name container name i where
+  at_name : (container : ℕ) (name : List ℕ) → slots_in settings history 1 container name ≡ Slots.Nothing
+  at_name container name =
+      let made = (world_of settings history).stripes.made in
+      ap (λ (m : Maps). whole_slot made 1 (slot_at (m 1 container) name)) maps ∙ rw at-none refl
 
--- ---- the settings
+-- ---- the making of the container
 
-pub standard_is : IsSettings standard_settings
-standard_is = record {
-  zones = record { least = omega arith; most = omega arith };
-  stripe = record { least = omega arith; most = omega arith };
-  frame = record { least = omega arith; most = omega arith };
-  frames = record { least = omega arith; most = omega arith };
-  shards = record { least = omega arith; most = omega arith };
-  tag_life = record { least = omega arith; most = omega arith };
-  wait = record { least = omega arith; most = omega arith };
-  largest = record { least = omega arith; most = omega arith };
-  threshold = record { least = omega arith; most = omega arith };
-  space = omega arith;
+module _ (settings : SettingsView) (bucket : List ℕ) (moment : ℕ) where
+  abbrev swap : Event
+  swap = event_by maker (row_op settings bucket (account_of standard_user) 1) moment Done
+
+  -- the read of the name, and the shards
+  abbrev front : List Event
+  front = look maker bucket moment ∷ makes maker 1 moment settings.shards
+
+  abbrev made : List Event
+  made = making settings bucket moment
+
+  all_making : (P : Event → Type 0) → P (look maker bucket moment) → ((n : ℕ) → P (event_by maker (shard_op 1 n) moment Done)) → P swap → AllByRecursion P made
+  all_making P first each last = (first, all_both P (makes maker 1 moment settings.shards) (swap ∷ []) (all_makes P maker 1 moment each settings.shards) (last, tt))
+
+  made_at : AreAt moment made
+  made_at = all_making (λ e. e.moment ≡ moment) refl (λ n. refl) refl
+
+  -- no later actor of the pass
+  made_by_first : NoneFrom 1 1 made
+  made_by_first count low =
+      none_of_other 1 count 0 made (λ same. omega (arith, same, low))
+      (all_making (λ e. actor_of e ≡ actor_of_pass 1 0) refl (λ n. refl) refl)
+
+  no_object : slots_in settings made 1 ≡ no_slots
+  no_object = no_slot settings made (maps_stay no_maps made (all_making KeepsMaps (λ m. refl) (λ n m. refl) (λ m. refl)))
+
+  no_row : (name : List ℕ) → row_now settings front name ≡ None
+  no_row name =
+      makes_stay settings (look maker bucket moment ∷ []) maker 1 moment settings.shards name
+      ∙ ap (λ (st : State). at (st.root 1).buckets name) (state-next settings [] (look maker bucket moment))
+      ∙ at-none name
+
+  number : number_next (state_of settings front) ≡ settings.shards + 2
+  number =
+      let next = next_is settings front in
+      let many = so_many maker 1 moment settings.shards in
+      omega (arith, next, many)
+
+  row_at : (name : List ℕ) → rows_in settings made 1 name ≡ one_row settings (Some bucket) name
+  row_at name =
+      let st : State = at_moment (state_of settings front) moment in
+      let new = new_row settings (account_of standard_user) 1 in
+      ap (λ (s : State). at (s.root 1).buckets name) (state-next settings front swap)
+      ∙ swap_leaves (st.root 1) bucket new (number_next st) name (no_row bucket)
+      ∙ ap (λ o. cond (bytes_eq name bucket) (Some (stored None new true (number_next st))) o) (no_row name)
+      ∙ ap (λ n. cond (bytes_eq name bucket) (Some (made_row settings (account_of standard_user) 1 n)) None) number
+
+-- ---- before the connection
+
+-- what stands there, where all moments are that one
+pub record IsPrepared (settings : SettingsView) (bucket : Option (List ℕ)) (moment : ℕ) (used : Bool) (before : List Event) : Type 0 where
+  pub unused : NoneFrom 1 (next_count (door_at used before)) before
+  pub low : (state_of settings before).clock ≤ counted_moment moment
+  pub slots : slots_in settings before 1 ≡ no_slots
+  pub rows : rows_in settings before 1 ≡ one_row settings bucket
+
+pub none_prepared : (settings : SettingsView) (moment : ℕ) → IsPrepared settings None moment false []
+none_prepared settings moment = record {
+  unused = λ count low. tt;
+  low = omega arith;
+  slots = no_slot settings [] refl;
+  rows = λ i name. at-none name i;
+}
+
+pub one_prepared : (settings : SettingsView) (bucket : List ℕ) (moment : ℕ) → IsPrepared settings (Some bucket) moment true (making settings bucket moment)
+one_prepared settings bucket moment = record {
+  unused = made_by_first settings bucket moment;
+  low = clock_behind settings [] (making settings bucket moment) moment (omega arith) (made_at settings bucket moment);
+  slots = no_object settings bucket moment;
+  rows = λ i name. row_at settings bucket moment name i;
 }

@@ -4,11 +4,11 @@ use Rattle.gw_io.specs.Ends.{EndsState}
 use Rattle.gw_io.specs.Memory.{StepState, TellsOnly, moments_of, plan_of}
 use Rattle.realm_core.specs.Realms.{RealmView}
 use Rattle.rgw_run.specs.declared.once_end.OnceEnd.TheVariants.{Unmade, Unbegun, Ended, Stopped}
-use Rattle.rgw_words.specs.declared.once.Once.{Once}
-use Rattle.rgw_words.specs.declared.script.ScriptWords.{ScriptWords}
+use Rattle.rgw_words.specs.declared.run_words.RunWords.{RunWords}
 use Rattle.turn_cell.specs.declared.machine.DoorFault.{DoorFault}
 use Rattle.turn_cell.specs.declared.machine.DoorFault.TheVariants as Door
 use Rattle.realm_model.specs.Histories.{Legal}
+use Rattle.realm_model.specs.Settings.{SettingsView}
 use Rattle.gateway.specs.declared.serve.ConnEnd.{ConnEnd}
 use Rattle.gateway.specs.declared.serve.ConnEnd.TheVariants.{Clean, Closed, Cut, Refused}
 use Rattle.call_service.specs.declared.fault.ServeFault.{ServeFault}
@@ -22,8 +22,8 @@ use Rattle.rgw_run.specs.Runs.{RunsByClock, with_clock, RunsAt, RunsBy, RunsOnce
 
 -- ---- memory was wanting before anything was done
 
-unmade : (bucket : List ℕ) (ends : EndsState) (realm : Option RealmView) → realm ≡ None → RunsByClock bucket ends ends realm 4
-unmade bucket ends realm none = record {
+unmade : (settings : SettingsView) (bucket : Option (List ℕ)) (ends : EndsState) (realm : Option RealmView) → realm ≡ None → RunsByClock settings bucket ends ends realm 4
+unmade settings bucket ends realm none = record {
   end = Unmade;
   in_time = tt;
   leaves = (none, refl);
@@ -37,26 +37,26 @@ unmade bucket ends realm none = record {
   };
 }
 
-unmade_by : (now : Option ℕ) (bucket : List ℕ) (ends : EndsState) (realm : Option RealmView) → realm ≡ None → RunsBy now bucket ends ends realm 4
-unmade_by None bucket ends realm none = unmade bucket ends realm none
-unmade_by (Some moment) bucket ends realm none =
-    record { told = []; each = λ k d few. absurd (omega (arith, few)); runs = unmade bucket (with_clock ends moment []) realm none; plan = refl }
+unmade_by : (now : Option ℕ) (settings : SettingsView) (bucket : Option (List ℕ)) (ends : EndsState) (realm : Option RealmView) → realm ≡ None → RunsBy now settings bucket ends ends realm 4
+unmade_by None settings bucket ends realm none = unmade settings bucket ends realm none
+unmade_by (Some moment) settings bucket ends realm none =
+    record { told = []; each = λ k d few. absurd (omega (arith, few)); runs = unmade settings bucket (with_clock ends moment []) realm none; plan = refl }
 
-scripted_unmade : (script : Option ScriptWords) (ends : EndsState) (realm : Option RealmView) → realm ≡ None → IfSome script (λ asked. RunsScripted asked ends ends realm 4)
+scripted_unmade : (script : Option RunWords) (ends : EndsState) (realm : Option RealmView) → realm ≡ None → IfSome script (λ asked. RunsScripted asked ends ends realm 4)
 scripted_unmade None ends realm none = tt
 scripted_unmade (Some script) ends realm none = inl (record { none = none; same = refl; memory = refl })
 
 -- the words were not read for want of memory
-pub unread : (once : Option Once) (script : Option ScriptWords) (ends : EndsState) (realm : Option RealmView) → realm ≡ None → IsSome once → Runs once script ends ends realm 4
+pub unread : (once : Option RunWords) (script : Option RunWords) (ends : EndsState) (realm : Option RealmView) → realm ≡ None → IsSome once → Runs once script ends ends realm 4
 unread (Some once) script ends realm none there = record {
   refused = (λ e. absurd (omega (arith, e)), λ e. absurd (cc));
   nothing = λ e. absurd (cc);
-  once_runs = unmade_by once.now once.bucket ends realm none;
+  once_runs = unmade_by once.now once.settings once.bucket ends realm none;
   script_runs = scripted_unmade script ends realm none;
 }
 unread None script ends realm none there = absurd (cc)
 
-pub unread_script : (once : Option Once) (script : Option ScriptWords) (ends : EndsState) (realm : Option RealmView) → once ≡ None → realm ≡ None → IsSome script → Runs once script ends ends realm 4
+pub unread_script : (once : Option RunWords) (script : Option RunWords) (ends : EndsState) (realm : Option RealmView) → once ≡ None → realm ≡ None → IsSome script → Runs once script ends ends realm 4
 unread_script None (Some script) ends realm other none there = record {
   refused = (λ e. absurd (omega (arith, e)), λ e. let clash : Some script ≡ None = e.1 in absurd (cc));
   nothing = λ _ e. let clash : Some script ≡ None = e in absurd (cc);
@@ -91,9 +91,9 @@ not_refused (Unbegun fault) e = not_of_door fault e
 not_refused (Ended served) e = not_of_end served.end e
 not_refused (Stopped fault) e = not_of_fault fault e
 
-once_not_refused : (now : Option ℕ) (bucket : List ℕ) (old new : EndsState) (realm : Option RealmView) (status : ℕ) → RunsBy now bucket old new realm status → status ≡ 1 → ⊥
-once_not_refused None bucket old new realm status runs e = not_refused runs.end (sym runs.ended ∙ e)
-once_not_refused (Some moment) bucket old new realm status runs e = not_refused runs.runs.end (sym runs.runs.ended ∙ e)
+once_not_refused : (now : Option ℕ) (settings : SettingsView) (bucket : Option (List ℕ)) (old new : EndsState) (realm : Option RealmView) (status : ℕ) → RunsBy now settings bucket old new realm status → status ≡ 1 → ⊥
+once_not_refused None settings bucket old new realm status runs e = not_refused runs.end (sym runs.ended ∙ e)
+once_not_refused (Some moment) settings bucket old new realm status runs e = not_refused runs.runs.end (sym runs.runs.ended ∙ e)
 
 script_not_refused : (result : Result (Unit {0}) ScriptFault) → script_status result ≡ 1 → ⊥
 script_not_refused (Ok done) e = absurd (omega (arith, e))
@@ -103,28 +103,28 @@ script_not_refused (Err Script.OutOfMemory) e = absurd (omega (arith, e))
 script_not_refused (Err (Script.BadLine line)) e = absurd (omega (arith, e))
 script_not_refused (Err Script.Worn) e = absurd (omega (arith, e))
 
-scripted_not_refused : (script : ScriptWords) (old new : EndsState) (realm : Option RealmView) (status : ℕ) → RunsScripted script old new realm status → status ≡ 1 → ⊥
+scripted_not_refused : (script : RunWords) (old new : EndsState) (realm : Option RealmView) (status : ℕ) → RunsScripted script old new realm status → status ≡ 1 → ⊥
 scripted_not_refused script old new realm status (inl unmade) e = let four = unmade.memory in absurd (omega (arith, e, four))
 scripted_not_refused script old new realm status (inr run) e = script_not_refused run.result (sym run.ended ∙ e)
 
 -- ---- by the words
 
-asked_once : (asked : Once) (old new : EndsState) (realm : Option RealmView) (status : ℕ) → RunsOnce asked old new realm status → Runs (Some asked) None old new realm status
+asked_once : (asked : RunWords) (old new : EndsState) (realm : Option RealmView) (status : ℕ) → RunsOnce asked old new realm status → Runs (Some asked) None old new realm status
 asked_once asked old new realm status runs = record {
-  refused = (λ e. absurd (once_not_refused asked.now asked.bucket old new realm status runs e), λ e. let clash : Some asked ≡ None = e.0 in absurd (cc));
+  refused = (λ e. absurd (once_not_refused asked.now asked.settings asked.bucket old new realm status runs e), λ e. let clash : Some asked ≡ None = e.0 in absurd (cc));
   nothing = λ e _. let clash : Some asked ≡ None = e in absurd (cc);
   once_runs = runs;
   script_runs = tt;
 }
 
 -- the words ask to serve a connection
-pub runs_once : (once : Option Once) (script : Option ScriptWords) (asked : Once) (old new : EndsState) (realm : Option RealmView) (status : ℕ)
+pub runs_once : (once : Option RunWords) (script : Option RunWords) (asked : RunWords) (old new : EndsState) (realm : Option RealmView) (status : ℕ)
     → once ≡ Some asked → script ≡ None → RunsOnce asked old new realm status → Runs once script old new realm status
 runs_once once script asked old new realm status is none runs =
     subst (λ o. Runs o script old new realm status) (sym is)
     (subst (λ s. Runs (Some asked) s old new realm status) (sym none) (asked_once asked old new realm status runs))
 
-asked_script : (asked : ScriptWords) (old new : EndsState) (realm : Option RealmView) (status : ℕ) → RunsScripted asked old new realm status → Runs None (Some asked) old new realm status
+asked_script : (asked : RunWords) (old new : EndsState) (realm : Option RealmView) (status : ℕ) → RunsScripted asked old new realm status → Runs None (Some asked) old new realm status
 asked_script asked old new realm status runs = record {
   refused = (λ e. absurd (scripted_not_refused asked old new realm status runs e), λ e. let clash : Some asked ≡ None = e.1 in absurd (cc));
   nothing = λ _ e. let clash : Some asked ≡ None = e in absurd (cc);
@@ -133,14 +133,14 @@ asked_script asked old new realm status runs = record {
 }
 
 -- the words ask to run a script
-pub runs_script : (once : Option Once) (script : Option ScriptWords) (asked : ScriptWords) (old new : EndsState) (realm : Option RealmView) (status : ℕ)
+pub runs_script : (once : Option RunWords) (script : Option RunWords) (asked : RunWords) (old new : EndsState) (realm : Option RealmView) (status : ℕ)
     → once ≡ None → script ≡ Some asked → RunsScripted asked old new realm status → Runs once script old new realm status
 runs_script once script asked old new realm status none is runs =
     subst (λ o. Runs o script old new realm status) (sym none)
     (subst (λ s. Runs None s old new realm status) (sym is) (asked_script asked old new realm status runs))
 
 -- a script over the realm that is left
-pub has_run : (script : ScriptWords) (old new : EndsState) (made : RealmView) (realm : Option RealmView) (moment : ℕ) (result : Result (Unit {0}) ScriptFault) (status : ℕ)
+pub has_run : (script : RunWords) (old new : EndsState) (made : RealmView) (realm : Option RealmView) (moment : ℕ) (result : Result (Unit {0}) ScriptFault) (status : ℕ)
     → moment ≡ unwrap_or script.now 0 → realm ≡ Some made → made.settings ≡ script.settings → Legal script.settings made.history
     → RunsScript script.settings (record { bucket = script.bucket; moment = moment }) old.left new.left old.taken new.taken made.history result
     → HasScriptCause old.read_faults new.read_faults old.write_faults new.write_faults result
@@ -163,19 +163,26 @@ has_run script old new made realm moment result status begins left settings lega
 abbrev still : ℕ → StepState
 still moment = record { first = moment; step = 0; calls = 0 }
 
-by_still : (bucket : List ℕ) (moment : ℕ) (old new : EndsState) (later : StepState) (realm : Option RealmView) (status : ℕ) → TellsOnly (still moment) moment
-    → RunsByClock bucket (with_clock old moment []) (record new { told = Some (moments_of later); plan = plan_of later }) realm status
-    → RunsAt bucket moment (record old { told = None; plan = None }) (record new { told = None; plan = None }) realm status
-by_still bucket moment old new later realm status tells runs = record {
-  told = moments_of later;
-  each = tells later (moments_of later) runs.cause.plan refl;
-  runs = subst (λ p. RunsByClock bucket (with_clock old moment []) (record new { told = Some (moments_of later); plan = p }) realm status) runs.cause.plan runs;
-  plan = refl;
-}
+module _ (settings : SettingsView) (bucket : Option (List ℕ)) (moment : ℕ) (old new : EndsState) where
+  abbrev before : EndsState
+  before = record old { told = None; plan = None }
 
-pub at_moment : (bucket : List ℕ) (moment : ℕ) (old new : EndsState) (first later : StepState) (realm : Option RealmView) (status : ℕ) → first ≡ still moment → TellsOnly first moment
-    → RunsByClock bucket (record old { told = Some (moments_of first); plan = plan_of first }) (record new { told = Some (moments_of later); plan = plan_of later }) realm status
-    → RunsAt bucket moment (record old { told = None; plan = None }) (record new { told = None; plan = None }) realm status
-at_moment bucket moment old new first later realm status is tells runs =
-    by_still bucket moment old new later realm status (subst (λ f. TellsOnly f moment) is tells)
-    (subst (λ (f : StepState). RunsByClock bucket (record old { told = Some (moments_of f); plan = plan_of f }) (record new { told = Some (moments_of later); plan = plan_of later }) realm status) is runs)
+  abbrev after : EndsState
+  after = record new { told = None; plan = None }
+
+  by_still : (later : StepState) (realm : Option RealmView) (status : ℕ) → TellsOnly (still moment) moment
+      → RunsByClock settings bucket (with_clock old moment []) (record new { told = Some (moments_of later); plan = plan_of later }) realm status
+      → RunsAt settings bucket moment before after realm status
+  by_still later realm status tells runs = record {
+    told = moments_of later;
+    each = tells later (moments_of later) runs.cause.plan refl;
+    runs = subst (λ p. RunsByClock settings bucket (with_clock old moment []) (record new { told = Some (moments_of later); plan = p }) realm status) runs.cause.plan runs;
+    plan = refl;
+  }
+
+  pub at_moment : (first later : StepState) (realm : Option RealmView) (status : ℕ) → first ≡ still moment → TellsOnly first moment
+      → RunsByClock settings bucket (record old { told = Some (moments_of first); plan = plan_of first }) (record new { told = Some (moments_of later); plan = plan_of later }) realm status
+      → RunsAt settings bucket moment before after realm status
+  at_moment first later realm status is tells runs =
+      by_still later realm status (subst (λ f. TellsOnly f moment) is tells)
+      (subst (λ (f : StepState). RunsByClock settings bucket (record old { told = Some (moments_of f); plan = plan_of f }) (record new { told = Some (moments_of later); plan = plan_of later }) realm status) is runs)

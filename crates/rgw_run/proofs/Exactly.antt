@@ -1,5 +1,5 @@
--- The calls of a run at one moment are replied by the bucket map of the container.
-use Rattle.std.proofs.Common.{◌≡◌, ◌⊎◌, inl, inr, ℕ, ◌≤◌, ◌<◌, ◌^◌, Bool, false, List, [], ◌∷◌, ◌++◌, length, Option, Some, None, Result, Ok, Err, refl, sym, ◌∙◌, ap, subst, arith, append_assoc}
+-- The calls of a run at one moment are replied by the bucket map of the container, or by none.
+use Rattle.std.proofs.Common.{◌≡◌, inl, inr, ℕ, ◌≤◌, ◌<◌, ◌^◌, Bool, true, false, List, [], ◌∷◌, ◌++◌, length, Option, Some, None, Result, Ok, Err, refl, sym, ◌∙◌, ap, subst, arith, append_assoc}
 use Rattle.std.specs.Prelude.{IfSome}
 use Rattle.std.specs.Io.KnownBytes.{Appends}
 use Rattle.std.proofs.KnownBytes.{Appends-nil, Appends-trans}
@@ -7,10 +7,10 @@ use Rattle.std.proofs.lemmas.List.Elements.{recursion_from_All}
 use Rattle.gw_io.specs.Ends.{EndsState}
 use Rattle.http_intake.specs.Intake.{IntakeState, fresh}
 use Rattle.http_model.specs.declared.reply.ReplyForm.{ReplyForm}
-use Rattle.http_model.specs.declared.reply.StreamEnd.{StreamEnd}
 use Rattle.rgw_model.specs.Stamps.{counted_moment}
 use Rattle.realm_core.specs.Realms.{RealmView}
 use Rattle.realm_model.specs.Doors.{DoorView}
+use Rattle.realm_model.specs.Settings.{SettingsView, IsSettings}
 use Rattle.realm_model.specs.Owns.{NoneBy}
 use Rattle.realm_model.specs.Worlds.{start}
 use Rattle.realm_model.specs.Histories.{Legal}
@@ -25,15 +25,16 @@ use Rattle.swift_requests.specs.Asks.{asked_of}
 use Rattle.swift_requests.specs.declared.asked.Asked.{Asked}
 use Rattle.swift_requests.specs.declared.asked.Asked.TheVariants as Asks
 use Rattle.swift_requests.specs.declared.body.BodyUse.{BodyUse}
-use Rattle.call_words.specs.Streams.{use_of, form_of}
-use Rattle.call_service.specs.Bodies.{HasGivenAll}
-use Rattle.call_service.specs.Serving.{Site, Side, side, Asks as AsksClock, LeavesUnwritten, IsInPart, IsLeft, IsStopped}
+use Rattle.call_words.specs.Streams.{use_of, CallsEnd}
+use Rattle.swift_requests.specs.Bodies.{is_awaited}
+use Rattle.call_service.specs.Serving.{Site, Side, side, Asks as AsksClock}
 use Rattle.call_service.specs.declared.fault.ServeFault.{ServeFault}
 use Rattle.call_service.specs.declared.fault.ServeFault.TheVariants as faults
 use Rattle.gateway.specs.Calls.{standard_asker, site_of, AreSettled}
 use Rattle.gateway.specs.Moments.{AreTold}
 use Rattle.gateway.specs.Requests.{IsIdle, LeavesAsked, LeavesRequest}
-use Rattle.gateway.specs.Texts.{place_after}
+use Rattle.gateway.proofs.Turning.{AsksSome, stopped_asks, put_asks}
+use Rattle.gateway.specs.Texts.{form_before, place_after}
 use Rattle.gateway.specs.Serving.{RepliesTo, LeavesHead, LeavesNext, StopsFrom, LeavesAt, ServesConnection}
 use Rattle.gateway.specs.declared.serve.Served.{Served}
 use Rattle.once_law.specs.Maps.{rows_in, slots_in}
@@ -43,11 +44,10 @@ use Rattle.once_law.proofs.Full.{full}
 use Rattle.once_law.proofs.Moments.{clocks_at}
 use Rattle.rgw_run.specs.declared.once_end.OnceEnd.{OnceEnd}
 use Rattle.rgw_run.specs.declared.once_end.OnceEnd.TheVariants.{Unmade, Unbegun, Ended, Stopped}
-use Rattle.rgw_words.specs.declared.once.Once.{Once}
-use Rattle.rgw_words.specs.declared.script.ScriptWords.{ScriptWords}
-use Rattle.rgw_run.specs.Runs.{standard_settings, making, door_behind, with_clock, Leaves, RunsAt, RunsBy, RunsOnce, Runs}
+use Rattle.rgw_words.specs.declared.run_words.RunWords.{RunWords}
+use Rattle.rgw_run.specs.Runs.{door_at, making, Prepares, with_clock, Leaves, RunsAt, RunsBy, RunsOnce, Runs}
 use Rattle.rgw_run.specs.Exact.{fixed_at, AreExact, calls_before, calls_in, IsExactEnd, RunsExactly, RunsExactlyIf}
-use Rattle.rgw_run.proofs.Container.{made_by_first, made_clock, no_object, row_is, standard_is}
+use Rattle.rgw_run.proofs.Container.{IsPrepared, none_prepared, one_prepared}
 use Rattle.rgw_run.proofs.Told.{AreMoment, both_are, calls_at}
 
 -- ---- the events of the calls alone
@@ -74,13 +74,13 @@ shorter (x ∷ xs) ys = let rest = shorter xs ys in omega (arith, rest)
 
 -- ---- calls that the history bears out
 
-module _ (bucket : List ℕ) (moment : ℕ) (e : DoorView) (calls : List Call) (last : ℕ) (moments rest : List ℕ)
-    (settled : AreSettled (Unit {0}) (site_of standard_settings 1) (door_behind (making bucket moment)) e calls last)
+module _ (settings : SettingsView) (good : IsSettings settings) (bucket : Option (List ℕ)) (moment : ℕ) (used : Bool) (before : List Event) (prepared : IsPrepared settings bucket moment used before)
+    (e : DoorView) (calls : List Call) (last : ℕ) (moments rest : List ℕ) (settled : AreSettled (Unit {0}) (site_of settings 1) (door_at used before) e calls last)
     (told : AreTold (Unit {0}) e.seen 1 calls moments rest) (are : AreMoment moment moments) where
-  abbrev before : List Event
-  before = making bucket moment
+  abbrev next : ℕ
+  next = next_count (door_at used before)
 
-  pub exact_calls : AreExact bucket moment calls
+  pub exact_calls : AreExact settings bucket moment calls
   exact_calls =
       let only = settled.only tt in
       let c = cut 1 calls only.more only.later only.made in
@@ -88,27 +88,25 @@ module _ (bucket : List ℕ) (moment : ℕ) (e : DoorView) (calls : List Call) (
       let seen : e.seen ≡ before ++ (c.events ++ only.later) = only.grows ∙ ap (λ l. before ++ l) c.joined in
       let split : e.seen ≡ front ++ only.later = seen ∙ sym (append_assoc before c.events only.later) in
       let may = settled.advances.may_begin in
-      let legal = legal_front standard_settings (start standard_settings) front only.later (subst (Legal standard_settings) split may.legal) in
+      let legal = legal_front settings (start settings) front only.later (subst (Legal settings) split may.legal) in
       let room = subst (λ l. length l ≤ 2 ^ 62) split may.counted.room in
       let short = shorter front only.later in
       let few : length front ≤ 2 ^ 62 = omega (arith, room, short) in
-      let same = λ (count : ℕ) (low : 1 ≤ count) (high : count < last).
+      let same = λ (count : ℕ) (low : next ≤ count) (high : count < last).
       let none : NoneBy (actor_of_pass 1 count) only.later = none_of_other 1 count last only.later (λ is. omega (arith, is, high)) only.by_last in
-      let s = same_after_others standard_settings front only.later (actor_of_pass 1 count) none in
-      let back : IsSame standard_settings (front ++ only.later) front (actor_of_pass 1 count) = record { events = sym s.events; doings = sym s.doings } in back in
-      let right = stay standard_settings 1 standard_asker 1 (front ++ only.later) front 1 calls last same
-      (subst (λ l. AreRight standard_settings 1 standard_asker 1 l 1 calls last) split settled.right) in
+      let s = same_after_others settings front only.later (actor_of_pass 1 count) none in
+      let back : IsSame settings (front ++ only.later) front (actor_of_pass 1 count) = record { events = sym s.events; doings = sym s.doings } in back in
+      let right = stay settings 1 standard_asker 1 (front ++ only.later) front next calls last same
+      (subst (λ l. AreRight settings 1 standard_asker 1 l next calls last) split settled.right) in
       let at = calls_at 1 moment e.seen only.later before c.events calls moments rest seen told c.made are in
-      let low = made_clock bucket moment in
-      let unused = made_by_first bucket moment in
-      let clocks = clocks_at standard_settings 1 before c.events 1 moment low at unused in
-      let of_maps = fold standard_settings standard_is 1 standard_asker 1 (λ count. counted_moment moment) before c.events 1 calls last [] legal few unused right c.made tt clocks in
-      let x_is : record { zone = 1; asker = standard_asker; rows = rows_in standard_settings before 1; clocks = λ count. counted_moment moment } ≡ fixed_at bucket moment =
-      λ i. record { zone = 1; asker = standard_asker; rows = row_is bucket moment i; clocks = λ count. counted_moment moment } in
+      let clocks = clocks_at settings 1 before c.events next moment prepared.low at prepared.unused in
+      let of_maps = fold settings good 1 standard_asker 1 (λ count. counted_moment moment) before c.events next calls last [] legal few prepared.unused right c.made tt clocks in
+      let x_is : record { zone = 1; asker = standard_asker; rows = rows_in settings before 1; clocks = λ count. counted_moment moment } ≡ fixed_at settings bucket moment =
+      λ i. record { zone = 1; asker = standard_asker; rows = prepared.rows i; clocks = λ count. counted_moment moment } in
       record {
-        folded = subst (λ l. AreFolded (fixed_at bucket moment) l calls) (no_object bucket moment)
-            (subst (λ x. AreFolded x (slots_in standard_settings before 1) calls) x_is of_maps.folded);
-        full = full standard_settings standard_is 1 standard_asker 1 moment before c.events 1 calls last [] legal unused right c.made tt low at;
+        folded = subst (λ l. AreFolded (fixed_at settings bucket moment) l calls) prepared.slots
+            (subst (λ x. AreFolded x (slots_in settings before 1) calls) x_is of_maps.folded);
+        full = full settings good 1 standard_asker 1 moment before c.events next calls last [] legal prepared.unused right c.made tt prepared.low at;
       }
 
 -- ---- what was told behind them
@@ -126,28 +124,18 @@ module _ (site : Site) (form : ReplyForm) where
   unfolding Grew
   idle_grew z y idle = ([], idle.untold)
 
-  left_grew : (asked : Asked) (x y : Side) → IsLeft (Unit {0}) (Unit {0}) site form asked x y → Grew x.ends.told y.ends.told
-  left_grew asked x y (inl (given, has, more, unwritten)) = asks_grew more x.door y.door x.ends.told y.ends.told unwritten.asks
-  left_grew asked x y (inr part) = asks_grew part.more x.door y.door x.ends.told y.ends.told part.asks
-
-  stopped_grew : (asked : Asked) (found : List Event) (x y : Side) (fault : ServeFault) → IsStopped (Unit {0}) (Unit {0}) site form asked found x y fault → Grew x.ends.told y.ends.told
-  stopped_grew asked found x y faults.ReadFault (body, fails, unwritten) = asks_grew false x.door y.door x.ends.told y.ends.told unwritten.asks
-  stopped_grew asked found x y faults.OutOfMemory left = left_grew asked x y left
-  stopped_grew asked found x y faults.Worn left = left_grew asked x y left.1
-  stopped_grew asked found x y faults.WriteFault left = asks_grew (left.0).more x.door y.door x.ends.told y.ends.told (left.0).asks
-  stopped_grew asked found x y (faults.Late read_at clock) left = by_part left.1
-    where
-      by_part : ((given : List ℕ) × HasGivenAll x.intake y.intake x.ends.left y.ends.left given × LeavesUnwritten (Unit {0}) (Unit {0}) site false x y)
-          ⊎ ((part : IsInPart (Unit {0}) (Unit {0}) site form asked x y) × (part.more ≡ false)) → Grew x.ends.told y.ends.told
-      by_part (inl (given, all, unwritten)) = asks_grew false x.door y.door x.ends.told y.ends.told unwritten.asks
-      by_part (inr (part, none)) = asks_grew part.more x.door y.door x.ends.told y.ends.told part.asks
+  some_grew : (x y : Side) → AsksSome (Unit {0}) (Unit {0}) site x y → Grew x.ends.told y.ends.told
+  some_grew x y (more, asks) = asks_grew more x.door y.door x.ends.told y.ends.told asks
 
   asked_grew : (asked : Asked) (plan : BodyUse) (found : List Event) (z y : Side) (fault : ServeFault) → LeavesAsked (Unit {0}) (Unit {0}) site form asked plan found z y fault → Grew z.ends.told y.ends.told
   asked_grew Asks.BadHost plan found z y fault left = idle_grew z y left.1
   asked_grew (Asks.Refused why) plan found z y fault left = idle_grew z y left.1
-  asked_grew (Asks.Put c) plan found z y fault (d, begun, left) = stopped_grew (Asks.Put c) found (side d z.intake z.ends) y fault left
-  asked_grew (Asks.Get c) plan found z y fault (d, begun, left) = stopped_grew (Asks.Get c) found (side d z.intake z.ends) y fault left
-  asked_grew (Asks.Listing c l) plan found z y fault (d, begun, left) = stopped_grew (Asks.Listing c l) found (side d z.intake z.ends) y fault left
+  asked_grew (Asks.Put c) plan found z y fault (d, begun, left) =
+      some_grew (side d z.intake z.ends) y (put_asks (Unit {0}) (Unit {0}) site form found (is_awaited plan) c (side d z.intake z.ends) y fault left)
+  asked_grew (Asks.Get c) plan found z y fault (d, begun, left) =
+      some_grew (side d z.intake z.ends) y (stopped_asks (Unit {0}) (Unit {0}) site form found (Asks.Get c) plan (side d z.intake z.ends) y fault left)
+  asked_grew (Asks.Listing c l) plan found z y fault (d, begun, left) =
+      some_grew (side d z.intake z.ends) y (stopped_asks (Unit {0}) (Unit {0}) site form found (Asks.Listing c l) plan (side d z.intake z.ends) y fault left)
 
   request_grew : (asked : Asked) (plan : BodyUse) (found : List Event) (z y : Side) (fault : ServeFault) → LeavesRequest (Unit {0}) (Unit {0}) site form asked plan found z y fault → Grew z.ends.told y.ends.told
   unfolding Grew
@@ -164,83 +152,109 @@ next_grew : (site : Site) (k : ℕ) (found : List Event) (x y : Side) (fault : S
 next_grew site k found x y fault (inl left) = head_grew x y fault left
 next_grew site k found x y fault (inr (head, z, reads, left)) =
     subst (λ told. Grew told y.ends.told) reads.told
-    (request_grew site (form_of site.settings.largest k head) (asked_of site.settings.largest head) (use_of site.settings.largest head) found z y fault left)
+    (request_grew site (form_before site.settings.largest k head) (asked_of site.settings.largest head) (use_of site.settings.largest head) found z y fault left)
+
+-- ---- where the connection begins
+
+-- the door before the connection, where each moment that was told is that one
+record IsReadyAt (settings : SettingsView) (bucket : Option (List ℕ)) (moment : ℕ) (ready : DoorView) : Type 0 where
+  used : Bool
+  before : List Event
+  is : ready ≡ door_at used before
+  prepared : IsPrepared settings bucket moment used before
+
+ready_at : (settings : SettingsView) (bucket : Option (List ℕ)) (moment : ℕ) (firsts : List ℕ) (ready : DoorView) → Prepares settings bucket firsts ready → AreMoment moment firsts → IsReadyAt settings bucket moment ready
+ready_at settings None moment firsts ready (none, is) are =
+    record { used = false; before = []; is = is; prepared = none_prepared settings moment }
+ready_at settings (Some name) moment firsts ready (made, one, is) are =
+    let all : AreMoment moment (made ∷ []) = subst (AreMoment moment) one are in
+    let same : made ≡ moment = all.0 in
+    record {
+      used = true;
+      before = making settings name moment;
+      is = is ∙ ap (λ m. door_at true (making settings name m)) same;
+      prepared = one_prepared settings name moment;
+    }
 
 -- ---- the connection
 
-module _ (bucket : List ℕ) (moment made : ℕ) (told : List ℕ) (each : AreMoment moment told) (old middle : Option (List ℕ)) (none : old ≡ Some []) (first : Appends old middle (made ∷ [])) where
+module _ (settings : SettingsView) (good : IsSettings settings) (bucket : Option (List ℕ)) (moment : ℕ) (firsts : List ℕ) (ready : DoorView) (prepares : Prepares settings bucket firsts ready)
+    (told : List ℕ) (each : AreMoment moment told) (old middle : Option (List ℕ)) (none : old ≡ Some []) (first : Appends old middle firsts) where
   -- the container was made at the moment, and the calls were told it
-  moments_are : (moments : List ℕ) → Appends middle (Some told) moments → (made ≡ moment) × AreMoment moment moments
+  moments_are : (moments : List ℕ) → Appends middle (Some told) moments → AreMoment moment firsts × AreMoment moment moments
   moments_are moments second =
-      let both = subst (λ o. Appends o (Some told) (made ∷ moments)) none (Appends-trans old middle (Some told) (made ∷ []) moments first second) in
-      let are : AreMoment moment (made ∷ moments) = subst (AreMoment moment) both each in
-      (are.0, are.1)
+      let both = subst (λ o. Appends o (Some told) (firsts ++ moments)) none (Appends-trans old middle (Some told) firsts moments first second) in
+      both_are moment firsts moments (subst (AreMoment moment) both each)
 
-  calls_exact : (e : DoorView) (calls : List Call) (last : ℕ) (moments rest : List ℕ) → AreSettled (Unit {0}) (site_of standard_settings 1) (door_behind (making bucket made)) e calls last
-      → AreTold (Unit {0}) e.seen 1 calls moments rest → (made ≡ moment) × AreMoment moment moments → AreExact bucket moment calls
-  calls_exact e calls last moments rest settled told are =
-      exact_calls bucket moment e calls last moments rest (subst (λ m. AreSettled (Unit {0}) (site_of standard_settings 1) (door_behind (making bucket m)) e calls last) are.0 settled) told are.1
+  calls_exact : (e : DoorView) (calls : List Call) (last : ℕ) (moments rest : List ℕ) → AreSettled (Unit {0}) (site_of settings 1) ready e calls last
+      → AreTold (Unit {0}) e.seen ready.pass calls moments rest → AreMoment moment firsts → AreMoment moment moments → AreExact settings bucket moment calls
+  calls_exact e calls last moments rest settled told begun are =
+      let r = ready_at settings bucket moment firsts ready prepares begun in
+      exact_calls settings good bucket moment r.used r.before r.prepared e calls last moments rest
+      (subst (λ d. AreSettled (Unit {0}) (site_of settings 1) d e calls last) r.is settled)
+      (subst (λ (d : DoorView). AreTold (Unit {0}) e.seen d.pass calls moments rest) r.is told) are
 
   stopped_exact : (found : List Event) (e : DoorView) (intake intake' : IntakeState) (old_ends new_ends : EndsState) (fault : ServeFault) → old_ends.told ≡ middle → new_ends.told ≡ Some told
-      → (l : StopsFrom (Unit {0}) (Unit {0}) (site_of standard_settings 1) 1 found (side (door_behind (making bucket made)) intake old_ends) (side e intake' new_ends) fault) → AreExact bucket moment l.calls
+      → (l : StopsFrom (Unit {0}) (Unit {0}) (site_of settings 1) 1 found (side ready intake old_ends) (side e intake' new_ends) fault) → AreExact settings bucket moment l.calls
   unfolding Grew
   stopped_exact found e intake intake' old_ends new_ends fault at_middle at_end l =
-      let grew = next_grew (site_of standard_settings 1) (place_after 1 l.calls) found l.between (side e intake' new_ends) fault l.left in
+      let grew = next_grew (site_of settings 1) (place_after 1 l.calls) found l.between (side e intake' new_ends) fault l.left in
       let all : Appends middle (Some told) (l.moments ++ grew.0) = subst (λ o. Appends o (Some told) (l.moments ++ grew.0)) at_middle
       (subst (λ o. Appends old_ends.told o (l.moments ++ grew.0)) at_end (Appends-trans old_ends.told l.between.ends.told new_ends.told l.moments grew.0 l.asked_clock grew.1)) in
       let are = moments_are (l.moments ++ grew.0) all in
-      calls_exact e l.calls (next_count l.between.door) l.moments [] (l.settled tt) l.told (are.0, (both_are moment l.moments grew.0 are.1).0)
+      calls_exact e l.calls (next_count l.between.door) l.moments [] (l.settled tt) l.told are.0 (both_are moment l.moments grew.0 are.1).0
 
-  replied_exact : (e : DoorView) (old_ends new_ends : EndsState) (calls : List Call) (end : StreamEnd) → old_ends.told ≡ middle → new_ends.told ≡ Some told
-      → RepliesTo (Unit {0}) (Unit {0}) (site_of standard_settings 1) 1 [] (door_behind (making bucket made)) e old_ends new_ends calls end → AreExact bucket moment calls
+  replied_exact : (e : DoorView) (old_ends new_ends : EndsState) (calls : List Call) (end : CallsEnd) → old_ends.told ≡ middle → new_ends.told ≡ Some told
+      → RepliesTo (Unit {0}) (Unit {0}) (site_of settings 1) 1 [] ready e old_ends new_ends calls end → AreExact settings bucket moment calls
   replied_exact e old_ends new_ends calls end at_middle at_end r =
       let all = subst (λ o. Appends o (Some told) r.moments) at_middle (subst (λ o. Appends old_ends.told o r.moments) at_end r.asked_clock) in
-      calls_exact e calls r.last r.moments r.later (r.settled tt) r.told (moments_are r.moments all)
+      let are = moments_are r.moments all in
+      calls_exact e calls r.last r.moments r.later (r.settled tt) r.told are.0 are.1
 
-  connection_exact : (found : List Event) (e : DoorView) (old_ends new_ends : EndsState) (result : Result Served ServeFault) → old_ends.told ≡ middle → new_ends.told ≡ Some told
-      → (s : ServesConnection (Unit {0}) (Unit {0}) (site_of standard_settings 1) found (door_behind (making bucket made)) e old_ends new_ends result)
-      → AreExact bucket moment (calls_in found (door_behind (making bucket made)) e old_ends new_ends result s)
+  pub connection_exact : (found : List Event) (e : DoorView) (old_ends new_ends : EndsState) (result : Result Served ServeFault) → old_ends.told ≡ middle → new_ends.told ≡ Some told
+      → (s : ServesConnection (Unit {0}) (Unit {0}) (site_of settings 1) found ready e old_ends new_ends result)
+      → AreExact settings bucket moment (calls_in settings found ready e old_ends new_ends result s)
   connection_exact found e old_ends new_ends (Ok served) at_middle at_end s =
       replied_exact e old_ends new_ends s.served.calls s.served.stream_end at_middle at_end s.served.replied
   connection_exact found e old_ends new_ends (Err fault) at_middle at_end s = by_fault fault (s.left fault refl).0 (s.left fault refl).1
     where
-      by_fault : (fault : ServeFault) (intake : IntakeState) (l : LeavesAt (Unit {0}) (Unit {0}) (site_of standard_settings 1) 1 found (side (door_behind (making bucket made)) (fresh standard_settings.largest) old_ends) (side e intake new_ends) fault)
-          → AreExact bucket moment (calls_before found (side (door_behind (making bucket made)) (fresh standard_settings.largest) old_ends) (side e intake new_ends) fault l)
+      by_fault : (fault : ServeFault) (intake : IntakeState) (l : LeavesAt (Unit {0}) (Unit {0}) (site_of settings 1) 1 found (side ready (fresh settings.largest) old_ends) (side e intake new_ends) fault)
+          → AreExact settings bucket moment (calls_before settings found (side ready (fresh settings.largest) old_ends) (side e intake new_ends) fault l)
       by_fault faults.ReadFault intake l = replied_exact e old_ends new_ends l.calls l.stream_end at_middle at_end l.replied
-      by_fault faults.OutOfMemory intake l = stopped_exact found e (fresh standard_settings.largest) intake old_ends new_ends faults.OutOfMemory at_middle at_end l
-      by_fault faults.WriteFault intake l = stopped_exact found e (fresh standard_settings.largest) intake old_ends new_ends faults.WriteFault at_middle at_end l
-      by_fault faults.Worn intake l = stopped_exact found e (fresh standard_settings.largest) intake old_ends new_ends faults.Worn at_middle at_end l
-      by_fault (faults.Late read_at clock) intake l = stopped_exact found e (fresh standard_settings.largest) intake old_ends new_ends (faults.Late read_at clock) at_middle at_end l
+      by_fault faults.OutOfMemory intake l = stopped_exact found e (fresh settings.largest) intake old_ends new_ends faults.OutOfMemory at_middle at_end l
+      by_fault faults.WriteFault intake l = stopped_exact found e (fresh settings.largest) intake old_ends new_ends faults.WriteFault at_middle at_end l
+      by_fault faults.Worn intake l = stopped_exact found e (fresh settings.largest) intake old_ends new_ends faults.Worn at_middle at_end l
+      by_fault (faults.Late read_at clock) intake l = stopped_exact found e (fresh settings.largest) intake old_ends new_ends (faults.Late read_at clock) at_middle at_end l
 
 -- ---- the run
 
-module _ (bucket : List ℕ) (moment : ℕ) (old new : EndsState) (realm : Option RealmView) (told : List ℕ) (each : AreMoment moment told) where
-  end_exact : (end : OnceEnd) (l : Leaves bucket (with_clock old moment []) (with_clock new moment told) realm end) → IsExactEnd bucket moment (with_clock old moment []) (with_clock new moment told) realm end l
+module _ (settings : SettingsView) (bucket : Option (List ℕ)) (moment : ℕ) (old new : EndsState) (realm : Option RealmView) (told : List ℕ) (each : AreMoment moment told) where
+  end_exact : (end : OnceEnd) (l : Leaves settings bucket (with_clock old moment []) (with_clock new moment told) realm end) → IsExactEnd settings bucket moment (with_clock old moment []) (with_clock new moment told) realm end l
   end_exact Unmade l = tt
   end_exact (Unbegun fault) l = tt
   end_exact (Ended served) l =
-      connection_exact bucket moment l.moment told each (Some []) (l.middle).told refl l.tells.told l.door.seen l.door l.middle (with_clock new moment told) (Ok served) refl refl l.serves
+      connection_exact settings l.bounds bucket moment l.moments l.ready l.prepares told each (Some []) (l.middle).told refl l.tells.told l.door.seen l.door l.middle (with_clock new moment told) (Ok served) refl refl l.serves
   end_exact (Stopped fault) l =
-      connection_exact bucket moment l.moment told each (Some []) (l.middle).told refl l.tells.told l.door.seen l.door l.middle (with_clock new moment told) (Err fault) refl refl l.serves
+      connection_exact settings l.bounds bucket moment l.moments l.ready l.prepares told each (Some []) (l.middle).told refl l.tells.told l.door.seen l.door l.middle (with_clock new moment told) (Err fault) refl refl l.serves
 
-exactly : (bucket : List ℕ) (moment : ℕ) (old new : EndsState) (realm : Option RealmView) (status : ℕ) → RunsAt bucket moment old new realm status → RunsExactly bucket moment old new realm status
-exactly bucket moment old new realm status runs = record {
+exactly : (settings : SettingsView) (bucket : Option (List ℕ)) (moment : ℕ) (old new : EndsState) (realm : Option RealmView) (status : ℕ) → RunsAt settings bucket moment old new realm status → RunsExactly settings bucket moment old new realm status
+exactly settings bucket moment old new realm status runs = record {
   runs = runs;
-  exact = end_exact bucket moment old new realm runs.told (recursion_from_All (λ m. m ≡ moment) runs.told runs.each) runs.runs.end runs.runs.leaves;
+  exact = end_exact settings bucket moment old new realm runs.told (recursion_from_All (λ m. m ≡ moment) runs.told runs.each) runs.runs.end runs.runs.leaves;
 }
 
 -- where the words say the moment
-pub exactly_if : (once : Once) (old new : EndsState) (realm : Option RealmView) (status : ℕ) → RunsOnce once old new realm status → IfSome once.now (λ moment. RunsExactly once.bucket moment old new realm status)
+pub exactly_if : (once : RunWords) (old new : EndsState) (realm : Option RealmView) (status : ℕ) → RunsOnce once old new realm status → IfSome once.now (λ moment. RunsExactly once.settings once.bucket moment old new realm status)
 exactly_if once old new realm status = by_now once.now
   where
-    by_now : (now : Option ℕ) → RunsBy now once.bucket old new realm status → IfSome now (λ moment. RunsExactly once.bucket moment old new realm status)
+    by_now : (now : Option ℕ) → RunsBy now once.settings once.bucket old new realm status → IfSome now (λ moment. RunsExactly once.settings once.bucket moment old new realm status)
     by_now None runs = tt
-    by_now (Some moment) runs = exactly once.bucket moment old new realm status runs
+    by_now (Some moment) runs = exactly once.settings once.bucket moment old new realm status runs
 
-pub exactly_of : (words : Option Once) (script : Option ScriptWords) (old new : EndsState) (realm : Option RealmView) (status : ℕ) → Runs words script old new realm status → RunsExactlyIf words old new realm status
+pub exactly_of : (words : Option RunWords) (script : Option RunWords) (old new : EndsState) (realm : Option RealmView) (status : ℕ) → Runs words script old new realm status → RunsExactlyIf words old new realm status
 exactly_of None script old new realm status runs = tt
 exactly_of (Some once) script old new realm status runs = exactly_if once old new realm status runs.once_runs
 
-pub exactly_said : (words : Option Once) (once : Once) (old new : EndsState) (realm : Option RealmView) (status : ℕ) → words ≡ Some once → RunsOnce once old new realm status → RunsExactlyIf words old new realm status
+pub exactly_said : (words : Option RunWords) (once : RunWords) (old new : EndsState) (realm : Option RealmView) (status : ℕ) → words ≡ Some once → RunsOnce once old new realm status → RunsExactlyIf words old new realm status
 exactly_said words once old new realm status said runs =
     subst (λ asked. RunsExactlyIf asked old new realm status) (sym said) (exactly_if once old new realm status runs)

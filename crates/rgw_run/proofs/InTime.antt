@@ -1,5 +1,5 @@
 -- In a run that nobody else's events come into no reply breaks off: no stripe is gone.
-use Rattle.std.proofs.Common.{◌≡◌, inl, inr, ℕ, List, [], Result, Ok, Err, refl, sym, subst}
+use Rattle.std.proofs.Common.{◌≡◌, inl, inr, ℕ, Bool, true, false, List, [], Result, Ok, Err, refl, sym, subst}
 use Rattle.gw_io.specs.Ends.{EndsState}
 use Rattle.http_model.specs.declared.reply.ReplyForm.{ReplyForm}
 use Rattle.realm_model.specs.Doors.{DoorView, actor_at}
@@ -8,7 +8,10 @@ use Rattle.realm_model.specs.declared.event.Event.{Event}
 use Rattle.swift_requests.specs.declared.asked.Asked.{Asked}
 use Rattle.swift_requests.specs.declared.asked.Asked.TheVariants.{BadHost, Refused, Put, Get, Listing}
 use Rattle.swift_requests.specs.declared.body.BodyUse.{BodyUse}
-use Rattle.call_service.specs.Serving.{Site, Side}
+use Rattle.swift_requests.specs.Bodies.{is_awaited}
+use Rattle.task_words.specs.declared.command.PutCommand.{PutCommand}
+use Rattle.call_service.specs.Serving.{Site, Side, side}
+use Rattle.call_service.specs.Waiting.{IsPutStopped}
 use Rattle.call_service.specs.declared.fault.ServeFault.{ServeFault}
 use Rattle.call_service.specs.declared.fault.ServeFault.TheVariants as faults
 use Rattle.gateway.specs.Requests.{LeavesAsked, LeavesRequest}
@@ -19,11 +22,18 @@ use Rattle.rgw_run.specs.declared.once_end.OnceEnd.{OnceEnd}
 use Rattle.rgw_run.specs.Runs.{IsInTime, end_of}
 
 module _ (site : Site) (found : List Event) (read_at clock : ℕ) where
+  -- no stripe is read for a PUT, whether its client waits for a 100 or not
+  put_in_time : (form : ReplyForm) (waits : Bool) (c : PutCommand) (x y : Side) → IsPutStopped waits (Unit {0}) (Unit {0}) site form c found x y (faults.Late read_at clock) → ⊥
+  put_in_time form false c x y stopped = absurd (stopped.0 tt)
+  put_in_time form true c x y (inl stopped) = absurd (stopped.0 tt)
+  put_in_time form true c x y (inr (inl (write, front))) = let e : faults.Late read_at clock ≡ faults.WriteFault = write in cc
+  put_in_time form true c x y (inr (inr behind)) = absurd (behind.goes.0 tt)
+
   asked_in_time : (asked : Asked) (form : ReplyForm) (plan : BodyUse) (z y : Side) → Legal site.settings y.door.seen
       → LeavesAsked (Unit {0}) (Unit {0}) site form asked plan found z y (faults.Late read_at clock) → ⊥
   asked_in_time BadHost form plan z y legal leaves = absurd leaves.0
   asked_in_time (Refused why) form plan z y legal leaves = absurd leaves.0
-  asked_in_time (Put c) form plan z y legal leaves = absurd (leaves.2.0 tt)
+  asked_in_time (Put c) form plan z y legal leaves = put_in_time form (is_awaited plan) c (side leaves.0 z.intake z.ends) y leaves.2
   asked_in_time (Listing c l) form plan z y legal leaves = absurd (leaves.2.0 tt)
   asked_in_time (Get c) form plan z y legal leaves =
       let missed = (leaves.2.0 tt).1 in

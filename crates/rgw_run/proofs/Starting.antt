@@ -1,47 +1,63 @@
--- A realm of its own: the container is made, and then the connection is served.
-use Rattle.std.proofs.Common.{◌≡◌, ℕ, ◌+◌, ⊎_elim, List, [], ◌++◌, length, Option, None, Result, Ok, Err, sym, ap, ◌∙◌, subst}
+-- A realm of its own: a container is made, where the words name one, and then the connection is served.
+use Rattle.std.proofs.Common.{◌≡◌, ℕ, ◌+◌, ◌^◌, ⊎_elim, true, List, [], ◌∷◌, ◌++◌, length, Option, None, Some, Result, Ok, Err, sym, refl, ap, ◌∙◌, subst}
+use Rattle.std.specs.Io.KnownBytes.{Appends}
 use Rattle.gw_io.specs.Ends.{EndsState}
 use Rattle.object_words.proofs.NameLemmas.{at-none}
+use Rattle.realm_core.specs.Realms.{RealmView}
 use Rattle.realm_model.specs.Settings.{SettingsView}
 use Rattle.realm_model.specs.Doors.{DoorView, actor_at}
-use Rattle.realm_model.specs.declared.event.Event.{Event}
 use Rattle.realm_door.specs.Steps.{Grows, IsLater}
 use Rattle.swift_auth.specs.Users.{standard_user, account_of}
-use Rattle.container_preset.specs.Presets.{preset, row_now}
+use Rattle.container_preset.specs.Presets.{preset, row_now, Stops}
+use Rattle.turn_cell.specs.declared.machine.DoorFault.{DoorFault}
+use Rattle.turn_cell.specs.declared.machine.DoorFault.TheVariants as Door
 use Rattle.call_service.specs.declared.fault.ServeFault.{ServeFault}
-use Rattle.gateway.specs.Calls.{site_of}
-use Rattle.gateway.specs.Serving.{ServesConnection}
 use Rattle.gateway.specs.declared.serve.Served.{Served}
-use Rattle.realm_core.specs.Realms.{RealmView}
 use Rattle.rgw_run.specs.declared.once_end.OnceEnd.{OnceEnd}
-use Rattle.rgw_run.specs.Runs.{standard_settings, first_door, making, door_behind, end_of, LeavesServed, Leaves}
+use Rattle.rgw_run.specs.declared.once_end.OnceEnd.TheVariants.{Unbegun}
+use Rattle.rgw_run.specs.Preparing.{HasPrepared, StopsPreparing}
+use Rattle.rgw_run.specs.Runs.{realm_of, door_at, first_door, making, Prepares, end_of, LeavesServed, Leaves}
 
--- the container was made: where the door stands then
-behind : (bucket : List ℕ) (moment : ℕ) (e : DoorView) → Grows standard_settings first_door e → e.seen ≡ making bucket moment → e ≡ door_behind (making bucket moment)
-behind bucket moment e grows seen = ⊎_elim
-    (λ (later : IsLater first_door e). λ i. record { pass = grows.pass i; count = grows.count i; used = later.used i; seen = seen i })
-    (λ (same : e ≡ first_door). let clash : making bucket moment ≡ [] = sym seen ∙ ap (λ (x : DoorView). x.seen) same in absurd (cc))
-    grows.later
+-- ---- the container
 
-pub serves_behind : (bucket : List ℕ) (moment : ℕ) (found : List Event) (first d e : DoorView) (settings : SettingsView) (owner : List ℕ) (middle new : EndsState) (result : Result Served ServeFault)
-    → settings ≡ standard_settings → owner ≡ account_of standard_user → first ≡ first_door
-    → Grows settings first d
-    → (row_now settings first.seen bucket ≡ None → d.seen ≡ first.seen ++ preset settings (actor_at first) bucket owner (length first.seen + 1) moment)
-    → ServesConnection (Unit {0}) (Unit {0}) (site_of settings 1) found d e middle new result
-    → ServesConnection (Unit {0}) (Unit {0}) (site_of standard_settings 1) found (door_behind (making bucket moment)) e middle new result
-serves_behind bucket moment found first d e settings owner middle new result same own begins grows made serves =
-    let grown : Grows standard_settings first_door d = subst (λ s. Grows s first_door d) same (subst (λ f. Grows settings f d) begins grows) in
-    let seen : d.seen ≡ making bucket moment =
-    subst (λ s. row_now s [] bucket ≡ None → d.seen ≡ preset s (actor_at first_door) bucket (account_of standard_user) 1 moment) same
-    (subst (λ o. row_now settings [] bucket ≡ None → d.seen ≡ preset settings (actor_at first_door) bucket o 1 moment) own
-    (subst (λ (f : DoorView). row_now settings f.seen bucket ≡ None → d.seen ≡ f.seen ++ preset settings (actor_at f) bucket owner (length f.seen + 1) moment) begins made)) (at-none bucket) in
-    subst (λ x. ServesConnection (Unit {0}) (Unit {0}) (site_of standard_settings 1) found x e middle new result) (behind bucket moment d grown seen)
-    (subst (λ s. ServesConnection (Unit {0}) (Unit {0}) (site_of s 1) found d e middle new result) same serves)
+module _ (settings : SettingsView) (first : DoorView) (begins : first ≡ first_door) where
+  -- the container was made: where the door stands then
+  behind : (bucket : List ℕ) (moment : ℕ) (e : DoorView) → Grows settings first_door e → e.seen ≡ making settings bucket moment → e ≡ door_at true (making settings bucket moment)
+  behind bucket moment e grows seen = ⊎_elim
+      (λ (later : IsLater first_door e). λ i. record { pass = grows.pass i; count = grows.count i; used = later.used i; seen = seen i })
+      (λ (same : e ≡ first_door). let clash : making settings bucket moment ≡ [] = sym seen ∙ ap (λ (x : DoorView). x.seen) same in absurd (cc))
+      grows.later
 
-leaves_by : (bucket : List ℕ) (old new : EndsState) (realm : Option RealmView) (result : Result Served ServeFault) → LeavesServed bucket old new realm result → Leaves bucket old new realm (end_of result)
-leaves_by bucket old new realm (Ok served) leaves = leaves
-leaves_by bucket old new realm (Err fault) leaves = leaves
+  pub prepares_so : (bucket : Option (List ℕ)) (owner : List ℕ) (e : DoorView) (told told' : Option (List ℕ)) → owner ≡ account_of standard_user → HasPrepared (Unit {0}) (Unit {0}) settings bucket owner first e told told'
+      → (moments : List ℕ) × Prepares settings bucket moments e × Appends told told' moments
+  prepares_so None owner e told told' own (same, quiet) = ([], (refl, same ∙ begins), quiet)
+  prepares_so (Some bucket) owner e told told' own (moment, asked, grows, made) =
+      let grown : Grows settings first_door e = subst (λ f. Grows settings f e) begins (grows tt) in
+      let seen : e.seen ≡ making settings bucket moment =
+      subst (λ o. row_now settings [] bucket ≡ None → e.seen ≡ preset settings (actor_at first_door) bucket o 1 moment) own
+      (subst (λ (f : DoorView). row_now settings f.seen bucket ≡ None → e.seen ≡ f.seen ++ preset settings (actor_at f) bucket owner (length f.seen + 1) moment) begins (made tt tt)) (at-none bucket) in
+      (moment ∷ [], (moment, refl, behind bucket moment e grown seen), asked)
 
--- whatever the connection came to
-pub leaves_so : (bucket : List ℕ) (old new : EndsState) (realm : Option RealmView) (result : Result Served ServeFault) (end : OnceEnd) → end ≡ end_of result → LeavesServed bucket old new realm result → Leaves bucket old new realm end
-leaves_so bucket old new realm result end is leaves = subst (λ e. Leaves bucket old new realm e) (sym is) (leaves_by bucket old new realm result leaves)
+  -- it was not made
+  pub unbegun_so : (bucket : Option (List ℕ)) (e : DoorView) (fault : DoorFault) (old new : EndsState) (realm : Option RealmView) → StopsPreparing (Unit {0}) (Unit {0}) settings bucket first e old.told new.told
+      → new ≡ record old { told = new.told } → realm ≡ Some (realm_of settings e.seen) → (fault ≡ Door.Worn → length e.seen ≡ 2 ^ 62) → Leaves settings bucket old new realm (Unbegun fault)
+  unbegun_so None e fault old new realm stops other left worn = absurd stops
+  unbegun_so (Some bucket) e fault old new realm (moment, asked, stops) other left worn = record {
+    moment = moment;
+    tells = record { told = asked; other = other };
+    door = e;
+    left = left;
+    stops = subst (λ f. Stops settings (Unit {0}) f e bucket moment) begins (stops tt);
+    worn = worn;
+  }
+
+-- ---- the connection
+
+module _ (settings : SettingsView) (bucket : Option (List ℕ)) (old new : EndsState) (realm : Option RealmView) where
+  leaves_by : (result : Result Served ServeFault) → LeavesServed settings bucket old new realm result → Leaves settings bucket old new realm (end_of result)
+  leaves_by (Ok served) leaves = leaves
+  leaves_by (Err fault) leaves = leaves
+
+  -- whatever the connection came to
+  pub leaves_so : (result : Result Served ServeFault) (end : OnceEnd) → end ≡ end_of result → LeavesServed settings bucket old new realm result → Leaves settings bucket old new realm end
+  leaves_so result end is leaves = subst (λ e. Leaves settings bucket old new realm e) (sym is) (leaves_by result leaves)

@@ -1,9 +1,11 @@
--- What a run of `once` at one moment replies: the replies of one bucket map, folded over the calls from the empty container.
-use Rattle.std.specs.Prelude.{ℕ, List, [], bytes_eq, Option, Some, None, Result, Ok, Err, IfSome, refl, if◌then◌else◌}
+-- What a run of `once` at one moment replies: the replies of one bucket map, folded over the calls from the empty container, or
+-- from no container.
+use Rattle.std.specs.Prelude.{ℕ, ◌+◌, List, [], bytes_eq, Option, Some, None, Result, Ok, Err, IfSome, refl, if◌then◌else◌}
 use Rattle.gw_io.specs.Ends.{EndsState}
 use Rattle.rgw_model.specs.Stamps.{counted_moment}
 use Rattle.realm_core.specs.Realms.{RealmView}
 use Rattle.realm_model.specs.Doors.{DoorView}
+use Rattle.realm_model.specs.Settings.{SettingsView}
 use Rattle.realm_model.specs.declared.event.Event.{Event}
 use Rattle.swift_auth.specs.Users.{standard_user, account_of}
 use Rattle.container_preset.specs.Presets.{made_row}
@@ -19,65 +21,67 @@ use Rattle.once_law.specs.Maps.{Rows, no_slots}
 use Rattle.once_law.specs.Folds.{Fixed, AreFolded, AreRepliedOrFull}
 use Rattle.rgw_run.specs.declared.once_end.OnceEnd.{OnceEnd}
 use Rattle.rgw_run.specs.declared.once_end.OnceEnd.TheVariants.{Unmade, Unbegun, Ended, Stopped}
-use Rattle.rgw_words.specs.declared.once.Once.{Once}
-use Rattle.rgw_run.specs.Runs.{standard_settings, making, door_behind, with_clock, Leaves, RunsAt}
+use Rattle.rgw_words.specs.declared.run_words.RunWords.{RunWords}
+use Rattle.rgw_run.specs.Runs.{with_clock, Leaves, RunsAt}
 
 -- ---- the calls
 
 -- the calls that were replied whole before a fault
-abbrev pub calls_before : (found : List Event) (x y : Side) (fault : ServeFault) → LeavesAt (Unit {0}) (Unit {0}) (site_of standard_settings 1) 1 found x y fault → List Call
-calls_before found x y faults.ReadFault left = left.calls
-calls_before found x y faults.OutOfMemory left = left.calls
-calls_before found x y faults.WriteFault left = left.calls
-calls_before found x y faults.Worn left = left.calls
-calls_before found x y (faults.Late read_at clock) left = left.calls
+abbrev pub calls_before : (settings : SettingsView) (found : List Event) (x y : Side) (fault : ServeFault) → LeavesAt (Unit {0}) (Unit {0}) (site_of settings 1) 1 found x y fault → List Call
+calls_before settings found x y faults.ReadFault left = left.calls
+calls_before settings found x y faults.OutOfMemory left = left.calls
+calls_before settings found x y faults.WriteFault left = left.calls
+calls_before settings found x y faults.Worn left = left.calls
+calls_before settings found x y (faults.Late read_at clock) left = left.calls
 
 -- the calls of a connection whose replies were written whole
-abbrev pub calls_in : (found : List Event) (d e : DoorView) (old new : EndsState) (result : Result Served ServeFault) → ServesConnection (Unit {0}) (Unit {0}) (site_of standard_settings 1) found d e old new result → List Call
-calls_in found d e old new (Ok served) serves = serves.served.calls
-calls_in found d e old new (Err fault) serves =
+abbrev pub calls_in : (settings : SettingsView) (found : List Event) (d e : DoorView) (old new : EndsState) (result : Result Served ServeFault) → ServesConnection (Unit {0}) (Unit {0}) (site_of settings 1) found d e old new result → List Call
+calls_in settings found d e old new (Ok served) serves = serves.served.calls
+calls_in settings found d e old new (Err fault) serves =
     let left = serves.left fault refl in
-    calls_before found (side d (fresh standard_settings.largest) old) (side e left.0 new) fault left.1
+    calls_before settings found (side d (fresh settings.largest) old) (side e left.0 new) fault left.1
 
 -- ---- the bucket map
 
--- the one row, of a container that the first 13 events of the realm make: a read of its name, its 11 shards, and the row
-abbrev pub one_row : List ℕ → Rows
-one_row bucket name =
-    if bytes_eq name bucket then Some (made_row standard_settings (account_of standard_user) 1 13) else None
+-- the one row, of a container that the first events of the realm make: a read of its name, its shards, and the row; none where
+-- none was made
+abbrev pub one_row : SettingsView → Option (List ℕ) → Rows
+one_row settings None name = None
+one_row settings (Some bucket) name =
+    if bytes_eq name bucket then Some (made_row settings (account_of standard_user) 1 (settings.shards + 2)) else None
 
 -- what stays the same from call to call of a run at one moment
-abbrev pub fixed_at : List ℕ → ℕ → Fixed
-fixed_at bucket moment = record {
+abbrev pub fixed_at : SettingsView → Option (List ℕ) → ℕ → Fixed
+fixed_at settings bucket moment = record {
   zone = 1;
   asker = standard_asker;
-  rows = one_row bucket;
+  rows = one_row settings bucket;
   clocks = λ actor. counted_moment moment;
 }
 
--- The calls are replied as the map of the one container says, which has no name at first; but where there is no room, which
--- leaves the map as it was.
-pub record AreExact (bucket : List ℕ) (moment : ℕ) (calls : List Call) : Type 0 where
-  pub folded : AreFolded (fixed_at bucket moment) no_slots calls
+-- The calls are replied as the map of the one container says, which has no name at first; but where a body broke off, or there
+-- is no room, which leaves the map as it was.
+pub record AreExact (settings : SettingsView) (bucket : Option (List ℕ)) (moment : ℕ) (calls : List Call) : Type 0 where
+  pub folded : AreFolded (fixed_at settings bucket moment) no_slots calls
   pub full : AreRepliedOrFull calls
 
 -- ---- a run
 
 -- the calls whose replies were written whole are so replied, however the run ended
-abbrev pub IsExactEnd : (bucket : List ℕ) (moment : ℕ) (old new : EndsState) (realm : Option RealmView) (end : OnceEnd) → Leaves bucket old new realm end → Type 0
-IsExactEnd bucket moment old new realm Unmade leaves = Unit {0}
-IsExactEnd bucket moment old new realm (Unbegun fault) leaves = Unit {0}
-IsExactEnd bucket moment old new realm (Ended served) leaves =
-    AreExact bucket moment (calls_in leaves.door.seen (door_behind (making bucket leaves.moment)) leaves.door leaves.middle new (Ok served) leaves.serves)
-IsExactEnd bucket moment old new realm (Stopped fault) leaves =
-    AreExact bucket moment (calls_in leaves.door.seen (door_behind (making bucket leaves.moment)) leaves.door leaves.middle new (Err fault) leaves.serves)
+abbrev pub IsExactEnd : (settings : SettingsView) (bucket : Option (List ℕ)) (moment : ℕ) (old new : EndsState) (realm : Option RealmView) (end : OnceEnd) → Leaves settings bucket old new realm end → Type 0
+IsExactEnd settings bucket moment old new realm Unmade leaves = Unit {0}
+IsExactEnd settings bucket moment old new realm (Unbegun fault) leaves = Unit {0}
+IsExactEnd settings bucket moment old new realm (Ended served) leaves =
+    AreExact settings bucket moment (calls_in settings leaves.door.seen leaves.ready leaves.door leaves.middle new (Ok served) leaves.serves)
+IsExactEnd settings bucket moment old new realm (Stopped fault) leaves =
+    AreExact settings bucket moment (calls_in settings leaves.door.seen leaves.ready leaves.door leaves.middle new (Err fault) leaves.serves)
 
 -- a run at one moment, with the replies of the bucket map
-pub record RunsExactly (bucket : List ℕ) (moment : ℕ) (old new : EndsState) (realm : Option RealmView) (status : ℕ) : Type 0 where
-  pub runs : RunsAt bucket moment old new realm status
-  pub exact : IsExactEnd bucket moment (with_clock old moment []) (with_clock new moment runs.told) realm runs.runs.end runs.runs.leaves
+pub record RunsExactly (settings : SettingsView) (bucket : Option (List ℕ)) (moment : ℕ) (old new : EndsState) (realm : Option RealmView) (status : ℕ) : Type 0 where
+  pub runs : RunsAt settings bucket moment old new realm status
+  pub exact : IsExactEnd settings bucket moment (with_clock old moment []) (with_clock new moment runs.told) realm runs.runs.end runs.runs.leaves
 
 -- where the words say the moment
-abbrev pub RunsExactlyIf : Option Once → EndsState → EndsState → Option RealmView → ℕ → Type 0
+abbrev pub RunsExactlyIf : Option RunWords → EndsState → EndsState → Option RealmView → ℕ → Type 0
 RunsExactlyIf words old new realm status =
-    IfSome words (λ asked. IfSome asked.now (λ moment. RunsExactly asked.bucket moment old new realm status))
+    IfSome words (λ asked. IfSome asked.now (λ moment. RunsExactly asked.settings asked.bucket moment old new realm status))

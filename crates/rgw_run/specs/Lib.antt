@@ -1,3 +1,4 @@
 pub mod Scripted
 pub mod Runs
+pub mod Preparing
 pub mod Exact

@@ -1,5 +1,5 @@
--- What a run of the program comes to: a new realm with one container, and a connection that is served to it.
-use Rattle.std.specs.Prelude.{◌≡◌, ◌≢◌, ◌↔◌, ℕ, ◌*◌, ◌^◌, List, [], ◌∷◌, length, true, false, All, IfSome, Option, None, Some, Result, Ok, Err}
+-- What a run of the program comes to: a new realm, with a container or not, and a connection that is served to it.
+use Rattle.std.specs.Prelude.{◌≡◌, ◌≢◌, ◌↔◌, ℕ, ◌^◌, Bool, List, [], ◌∷◌, length, true, false, All, IfSome, Option, None, Some, Result, Ok, Err}
 use Rattle.std.specs.Io.KnownBytes.{Appends}
 use Rattle.gw_io.specs.Ends.{EndsState}
 use Rattle.gw_io.specs.Memory.{moment_at}
@@ -7,7 +7,7 @@ use Rattle.gw_io.specs.Outside.{Rose}
 use Rattle.turn_cell.specs.declared.machine.DoorFault.{DoorFault}
 use Rattle.turn_cell.specs.declared.machine.DoorFault.TheVariants as Door
 use Rattle.realm_model.specs.Doors.{DoorView, actor_at}
-use Rattle.realm_model.specs.Settings.{SettingsView, settings_of, second}
+use Rattle.realm_model.specs.Settings.{SettingsView, IsSettings}
 use Rattle.realm_model.specs.declared.event.Event.{Event}
 use Rattle.realm_core.specs.Realms.{RealmView}
 use Rattle.swift_auth.specs.Users.{standard_user, account_of}
@@ -21,31 +21,32 @@ use Rattle.call_service.specs.declared.fault.ServeFault.{ServeFault}
 use Rattle.call_service.specs.declared.fault.ServeFault.TheVariants as Fault
 use Rattle.rgw_run.specs.declared.once_end.OnceEnd.{OnceEnd}
 use Rattle.rgw_run.specs.declared.once_end.OnceEnd.TheVariants.{Unmade, Unbegun, Ended, Stopped}
-use Rattle.rgw_words.specs.declared.once.Once.{Once}
-use Rattle.rgw_words.specs.declared.script.ScriptWords.{ScriptWords}
+use Rattle.rgw_words.specs.declared.run_words.RunWords.{RunWords}
 use Rattle.rgw_run.specs.Scripted.{RunsScripted}
 
 -- ---- the realm
 
--- the settings of a realm of which no word says otherwise: one zone with stripes of 4 MiB and 64 MiB in frames of 4 KiB, 11
--- shards in a new container, 120 seconds for a tag, two hours for a chain, objects up to 5 GiB, 100000 objects in a shard
-abbrev pub standard_settings : SettingsView
-standard_settings = settings_of 1 4194304 4096 16384 11 (120 * second) (7200 * second) 5368709120 100000
+abbrev pub realm_of : SettingsView → List Event → RealmView
+realm_of settings history = record { settings = settings; history = history }
 
-abbrev pub realm_of : List Event → RealmView
-realm_of history = record { settings = standard_settings; history = history }
+-- a door of the first actor of the first pass, behind this history
+abbrev pub door_at : Bool → List Event → DoorView
+door_at used history = record { pass = 1; count = 0; used = used; seen = history }
 
--- the door before the first event: the first actor of the first pass acts
+-- the door before the first event
 abbrev pub first_door : DoorView
-first_door = record { pass = 1; count = 0; used = false; seen = [] }
+first_door = door_at false []
 
 -- the events that make the container, all at one moment
-abbrev pub making : List ℕ → ℕ → List Event
-making bucket moment = preset standard_settings (actor_at first_door) bucket (account_of standard_user) 1 moment
+abbrev pub making : SettingsView → List ℕ → ℕ → List Event
+making settings bucket moment = preset settings (actor_at first_door) bucket (account_of standard_user) 1 moment
 
--- the door behind these
-abbrev pub door_behind : List Event → DoorView
-door_behind history = record { pass = 1; count = 0; used = true; seen = history }
+-- before the connection the container was made that the words name, at one moment that the clock told; or none is named, and
+-- nothing was
+abbrev pub Prepares : SettingsView → Option (List ℕ) → List ℕ → DoorView → Type 0
+Prepares settings None moments d = (moments ≡ []) × (d ≡ first_door)
+Prepares settings (Some bucket) moments d =
+    (moment : ℕ) × (moments ≡ moment ∷ []) × (d ≡ door_at true (making settings bucket moment))
 
 -- ---- statuses
 
@@ -81,36 +82,45 @@ end_of (Err fault) = Stopped fault
 
 -- ---- what a run of `once` leaves
 
--- one moment was told, and nothing was read or written
-pub record TellsOne (old new : EndsState) (moment : ℕ) : Type 0 where
-  pub told : Appends old.told new.told (moment ∷ [])
+-- these moments were told, and nothing was read or written
+pub record TellsOnly (old new : EndsState) (moments : List ℕ) : Type 0 where
+  pub told : Appends old.told new.told moments
   pub other : new ≡ record old { told = new.told }
 
 -- the container was not made whole
-pub record LeavesUnbegun (bucket : List ℕ) (old new : EndsState) (realm : Option RealmView) (fault : DoorFault) : Type 0 where
+pub record LeavesUnbegun (settings : SettingsView) (bucket : List ℕ) (old new : EndsState) (realm : Option RealmView) (fault : DoorFault) : Type 0 where
   pub moment : ℕ
-  pub tells : TellsOne old new moment
+  pub tells : TellsOnly old new (moment ∷ [])
   pub door : DoorView
-  pub left : realm ≡ Some (realm_of door.seen)
-  pub stops : Stops standard_settings (Unit {0}) first_door door bucket moment
+  pub left : realm ≡ Some (realm_of settings door.seen)
+  pub stops : Stops settings (Unit {0}) first_door door bucket moment
   pub worn : fault ≡ Door.Worn → length door.seen ≡ 2 ^ 62
 
--- the container was made, and then the connection came to that, which the history of the realm that is left bears out
-pub record LeavesServed (bucket : List ℕ) (old new : EndsState) (realm : Option RealmView) (result : Result Served ServeFault) : Type 0 where
-  pub moment : ℕ
+-- the container was made that the words name, if they name one, and then the connection came to that, which the history of
+-- the realm that is left bears out
+pub record LeavesServed (settings : SettingsView) (bucket : Option (List ℕ)) (old new : EndsState) (realm : Option RealmView) (result : Result Served ServeFault) : Type 0 where
+  pub bounds : IsSettings settings
+  pub moments : List ℕ
+  pub ready : DoorView
+  pub prepares : Prepares settings bucket moments ready
   pub middle : EndsState
-  pub tells : TellsOne old middle moment
+  pub tells : TellsOnly old middle moments
   pub door : DoorView
-  pub left : realm ≡ Some (realm_of door.seen)
-  pub serves : ServesConnection (Unit {0}) (Unit {0}) (site_of standard_settings 1) door.seen (door_behind (making bucket moment)) door middle new result
+  pub left : realm ≡ Some (realm_of settings door.seen)
+  pub serves : ServesConnection (Unit {0}) (Unit {0}) (site_of settings 1) door.seen ready door middle new result
+
+-- the container was not made that the words name
+abbrev pub LeavesUnmade : SettingsView → Option (List ℕ) → EndsState → EndsState → Option RealmView → DoorFault → Type 0
+LeavesUnmade settings None old new realm fault = ⊥
+LeavesUnmade settings (Some bucket) old new realm fault = LeavesUnbegun settings bucket old new realm fault
 
 -- memory was wanting before there was a realm; the container was not made; the connection was served to its end; or left at
 -- a fault
-abbrev pub Leaves : List ℕ → EndsState → EndsState → Option RealmView → OnceEnd → Type 0
-Leaves bucket old new realm Unmade = (realm ≡ None) × (new ≡ old)
-Leaves bucket old new realm (Unbegun fault) = LeavesUnbegun bucket old new realm fault
-Leaves bucket old new realm (Ended served) = LeavesServed bucket old new realm (Ok served)
-Leaves bucket old new realm (Stopped fault) = LeavesServed bucket old new realm (Err fault)
+abbrev pub Leaves : SettingsView → Option (List ℕ) → EndsState → EndsState → Option RealmView → OnceEnd → Type 0
+Leaves settings bucket old new realm Unmade = (realm ≡ None) × (new ≡ old)
+Leaves settings bucket old new realm (Unbegun fault) = LeavesUnmade settings bucket old new realm fault
+Leaves settings bucket old new realm (Ended served) = LeavesServed settings bucket old new realm (Ok served)
+Leaves settings bucket old new realm (Stopped fault) = LeavesServed settings bucket old new realm (Err fault)
 
 -- no reply broke off since a stripe was gone
 abbrev pub IsInTime : OnceEnd → Type 0
@@ -128,10 +138,10 @@ pub record HasRunCause (old new : EndsState) (status : ℕ) : Type 0 where
   pub write_kept : status ≢ 3 → new.write_faults ≡ old.write_faults
 
 -- a run whose moments the clock tells
-pub record RunsByClock (bucket : List ℕ) (old new : EndsState) (realm : Option RealmView) (status : ℕ) : Type 0 where
+pub record RunsByClock (settings : SettingsView) (bucket : Option (List ℕ)) (old new : EndsState) (realm : Option RealmView) (status : ℕ) : Type 0 where
   pub end : OnceEnd
   pub in_time : IsInTime end
-  pub leaves : Leaves bucket old new realm end
+  pub leaves : Leaves settings bucket old new realm end
   pub ended : status ≡ status_by end
   pub cause : HasRunCause old new status
 
@@ -140,23 +150,23 @@ abbrev pub with_clock : EndsState → ℕ → List ℕ → EndsState
 with_clock ends moment told = record ends { told = Some told; plan = Some (moment_at moment 0) }
 
 -- A run at one moment is one with a clock that tells it each time; the clock that was handed in has no part in it.
-pub record RunsAt (bucket : List ℕ) (moment : ℕ) (old new : EndsState) (realm : Option RealmView) (status : ℕ) : Type 0 where
+pub record RunsAt (settings : SettingsView) (bucket : Option (List ℕ)) (moment : ℕ) (old new : EndsState) (realm : Option RealmView) (status : ℕ) : Type 0 where
   pub told : List ℕ
   pub each : All (λ m. m ≡ moment) told
-  pub runs : RunsByClock bucket (with_clock old moment []) (with_clock new moment told) realm status
+  pub runs : RunsByClock settings bucket (with_clock old moment []) (with_clock new moment told) realm status
   pub plan : new.plan ≡ old.plan
 
-abbrev pub RunsBy : Option ℕ → List ℕ → EndsState → EndsState → Option RealmView → ℕ → Type 0
-RunsBy None bucket old new realm status = RunsByClock bucket old new realm status
-RunsBy (Some moment) bucket old new realm status = RunsAt bucket moment old new realm status
+abbrev pub RunsBy : Option ℕ → SettingsView → Option (List ℕ) → EndsState → EndsState → Option RealmView → ℕ → Type 0
+RunsBy None settings bucket old new realm status = RunsByClock settings bucket old new realm status
+RunsBy (Some moment) settings bucket old new realm status = RunsAt settings bucket moment old new realm status
 
 -- what a run comes to whose words ask that
-abbrev pub RunsOnce : Once → EndsState → EndsState → Option RealmView → ℕ → Type 0
-RunsOnce once old new realm status = RunsBy once.now once.bucket old new realm status
+abbrev pub RunsOnce : RunWords → EndsState → EndsState → Option RealmView → ℕ → Type 0
+RunsOnce once old new realm status = RunsBy once.now once.settings once.bucket old new realm status
 
 -- What a run with such words comes to, which ask to serve a connection, or to run a script, or neither; where they are refused
 -- nothing happens.
-pub record Runs (once : Option Once) (script : Option ScriptWords) (old new : EndsState) (realm : Option RealmView) (status : ℕ) : Type 0 where
+pub record Runs (once : Option RunWords) (script : Option RunWords) (old new : EndsState) (realm : Option RealmView) (status : ℕ) : Type 0 where
   pub refused : (status ≡ 1) ↔ ((once ≡ None) × (script ≡ None))
   pub nothing : once ≡ None → script ≡ None → (realm ≡ None) × (new ≡ old)
   pub once_runs : IfSome once (λ asked. RunsOnce asked old new realm status)

@@ -8,10 +8,10 @@ use Rattle.rgw_script.specs.Runs.{RunsScript, HasScriptCause}
 use Rattle.rgw_script.specs.declared.fault.ScriptFault.{ScriptFault}
 use Rattle.rgw_script.specs.declared.fault.ScriptFault.TheVariants as Fault
 use Rattle.rgw_script.specs.declared.running.ScriptPlan.{ScriptPlan}
-use Rattle.rgw_words.specs.declared.script.ScriptWords.{ScriptWords}
+use Rattle.rgw_words.specs.declared.run_words.RunWords.{RunWords}
 
 -- what the script is run on: its clock begins at 0 where the words say no moment
-abbrev pub plan_of : ScriptWords → ScriptPlan
+abbrev pub plan_of : RunWords → ScriptPlan
 plan_of script = record { bucket = script.bucket; moment = unwrap_or script.now 0 }
 
 abbrev pub script_status : Result (Unit {0}) ScriptFault → ℕ
@@ -29,7 +29,7 @@ pub record IsUnmade (old new : EndsState) (realm : Option RealmView) (status : �
   pub memory : status ≡ 4
 
 -- the script was run over a new realm, which is left with a legal history that bears it out; the clock has no part in it
-pub record HasRun (script : ScriptWords) (old new : EndsState) (realm : Option RealmView) (status : ℕ) : Type 0 where
+pub record HasRun (script : RunWords) (old new : EndsState) (realm : Option RealmView) (status : ℕ) : Type 0 where
   pub history : List Event
   pub left : realm ≡ Some (record { settings = script.settings; history = history })
   pub legal : Legal script.settings history
@@ -40,5 +40,5 @@ pub record HasRun (script : ScriptWords) (old new : EndsState) (realm : Option R
   pub told : new.told ≡ old.told
   pub plan : new.plan ≡ old.plan
 
-abbrev pub RunsScripted : ScriptWords → EndsState → EndsState → Option RealmView → ℕ → Type 0
+abbrev pub RunsScripted : RunWords → EndsState → EndsState → Option RealmView → ℕ → Type 0
 RunsScripted script old new realm status = IsUnmade old new realm status ⊎ HasRun script old new realm status

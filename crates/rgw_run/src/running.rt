@@ -1,11 +1,15 @@
 // A run of the program, over any input, output and clock.
-ghost use Rattle.std.specs.Prelude.{◌≡◌, IfSome, IsSome, None, Some, [], map, string_bytes, IfOk};
+ghost use Rattle.std.specs.Prelude.{◌≡◌, ◌^◌, IfSome, IsSome, None, Some, [], length, map, string_bytes, IfOk, IfErr, OnOk, OnErr};
 ghost use Rattle.swift_auth.specs.Users.{standard_user, account_of};
 ghost use Rattle.realm_core.specs.Realms.{new_realm};
-ghost use Rattle.rgw_words.specs.Words.{once_of};
-ghost use Rattle.rgw_words.specs.Scripts.{script_of};
+ghost use Rattle.realm_model.specs.Settings.{IsSettings};
+ghost use Rattle.container_preset.specs.Presets.{IsFresh};
+ghost use Rattle.realm_model.specs.Histories.{Legal};
+ghost use Rattle.rgw_words.specs.Words.{once_of, script_of};
+ghost use Rattle.turn_cell.specs.declared.machine.DoorFault.TheVariants.{Worn};
 ghost use Rattle.rgw_run.specs.Exact.{RunsExactlyIf};
-ghost use Rattle.rgw_run.specs.Runs.{Runs, RunsOnce, RunsByClock, RunsAt, HasRunCause, IsInTime, Leaves, standard_settings, end_of, status_by, end_status, fault_status, door_status};
+ghost use Rattle.rgw_run.specs.Preparing.{HasPrepared, StopsPreparing};
+ghost use Rattle.rgw_run.specs.Runs.{Runs, RunsOnce, RunsByClock, RunsAt, HasRunCause, IsInTime, Leaves, end_of, status_by, end_status, fault_status, door_status};
 
 use crate::once_end::OnceEnd;
 use crate::scripted::run_scripted;
@@ -15,9 +19,10 @@ use gateway::{ConnEnd, ServeFault, Served, serve_connection};
 use gw_io::{Clock, Ends, Sink, Source, StepClock};
 use object_words::BucketName;
 use realm_core::{Realm, SoloDoor};
+use realm_door::Door;
 use realm_model::{Actor, Settings};
 use rgw_types::Text;
-use rgw_words::{Once, WordsFault, read_once, read_script};
+use rgw_words::{RunWords, WordsFault, read_once, read_script};
 use std::alloc::{AllocError, Global};
 use swift_auth::Users;
 use turn_cell::DoorFault;
@@ -93,72 +98,83 @@ fn run_other<S: Source, K: Sink, C: Clock>(
 /// Serves the one connection.
 fn serve_once<S: Source, K: Sink, C: Clock>(
     alloc: Global,
-    once: Once,
+    once: RunWords,
     input: &mut S,
     output: &mut K,
     clock: &mut C,
     realm: &mut Option<Realm>,
 ) -> Status
-    requires { realm.old ≡ None }
+    requires new { realm.old ≡ None }
+    requires bounds { IsSettings once.settings }
     ensures runs { RunsOnce once
         (⟦<(S, K, C) as Ends>⟧.ends (input.old, output.old, clock.old))
         (⟦<(S, K, C) as Ends>⟧.ends (input.new, output.new, clock.new)) realm.new result.number }
     ensures unasked { IsSome once.now → clock.new ≡ clock.old }
 {
-    let Once { bucket, now } = once;
+    let RunWords {
+        bucket,
+        settings,
+        now,
+    } = once;
     match now {
-        None => serve_by_clock(alloc, bucket, input, output, clock, realm),
-        Some(moment) => serve_at(alloc, bucket, moment, input, output, realm),
+        None => serve_by_clock(alloc, &settings, &bucket, input, output, clock, realm),
+        Some(moment) => serve_at(alloc, &settings, &bucket, moment, input, output, realm),
     }
 }
 
 /// Serves the connection, each event at this moment.
 fn serve_at<S: Source, K: Sink>(
     alloc: Global,
-    bucket: BucketName,
+    settings: &Settings,
+    bucket: &Option<BucketName>,
     moment: u64,
     input: &mut S,
     output: &mut K,
     realm: &mut Option<Realm>,
 ) -> Status
-    requires { realm.old ≡ None }
-    ensures { RunsAt bucket moment
+    requires new { realm.old ≡ None }
+    requires bounds { IsSettings settings.now }
+    ensures { RunsAt settings.now bucket.now moment
         (record { left = S.left input.old; taken = K.taken output.old; told = None; plan = None; read_faults = S.faults input.old; write_faults = K.faults output.old })
         (record { left = S.left input.new; taken = K.taken output.new; told = None; plan = None; read_faults = S.faults input.new; write_faults = K.faults output.new }) realm.new result.number }
 {
     let mut clock = StepClock::new(moment, 0);
-    serve_by_clock(alloc, bucket, input, output, &mut clock, realm)
+    serve_by_clock(alloc, settings, bucket, input, output, &mut clock, realm)
 }
 
 /// Serves the connection, each event at the moment that the clock tells.
 fn serve_by_clock<S: Source, K: Sink, C: Clock>(
     alloc: Global,
-    bucket: BucketName,
+    settings: &Settings,
+    bucket: &Option<BucketName>,
     input: &mut S,
     output: &mut K,
     clock: &mut C,
     realm: &mut Option<Realm>,
 ) -> Status
-    requires { realm.old ≡ None }
-    ensures { RunsByClock bucket
+    requires new { realm.old ≡ None }
+    requires bounds { IsSettings settings.now }
+    ensures { RunsByClock settings.now bucket.now
         (⟦<(S, K, C) as Ends>⟧.ends (input.old, output.old, clock.old))
         (⟦<(S, K, C) as Ends>⟧.ends (input.new, output.new, clock.new)) realm.new result.number }
 {
-    let end = serve_container(alloc, &bucket, input, output, clock, realm);
+    let end = serve_realm(alloc, settings, bucket, input, output, clock, realm);
     status_of(end)
 }
 
-/// Makes the realm and the container in it, serves the connection to it, and leaves the realm.
-fn serve_container<S: Source, K: Sink, C: Clock>(
+/// Makes the realm, and the container in it that is named, serves the connection to it, and leaves the realm.
+fn serve_realm<S: Source, K: Sink, C: Clock>(
     alloc: Global,
-    bucket: &BucketName,
+    settings: &Settings,
+    bucket: &Option<BucketName>,
     input: &mut S,
     output: &mut K,
     clock: &mut C,
     realm: &mut Option<Realm>,
 ) -> OnceEnd
-    requires { realm.old ≡ None }
-    ensures leaves { Leaves bucket.now
+    requires new { realm.old ≡ None }
+    requires bounds { IsSettings settings.now }
+    ensures leaves { Leaves settings.now bucket.now
         (⟦<(S, K, C) as Ends>⟧.ends (input.old, output.old, clock.old))
         (⟦<(S, K, C) as Ends>⟧.ends (input.new, output.new, clock.new)) realm.new result }
     ensures cause { HasRunCause
@@ -166,35 +182,34 @@ fn serve_container<S: Source, K: Sink, C: Clock>(
         (⟦<(S, K, C) as Ends>⟧.ends (input.new, output.new, clock.new)) (status_by result) }
     ensures in_time { IsInTime result }
 {
-    let settings = standard_settings();
     let Ok(owner) = standard_owner(alloc) else {
         return OnceEnd::Unmade;
     };
-    let Ok(mut made) = Realm::new(alloc, &settings) else {
+    let Ok(mut made) = Realm::new(alloc, settings) else {
         return OnceEnd::Unmade;
     };
     let end = serve_in(
-        alloc, &settings, bucket, &owner, &mut made, input, output, clock,
+        alloc, settings, bucket, &owner, &mut made, input, output, clock,
     );
     *realm = Some(made);
     end
 }
 
-/// Makes the container in a new realm, and serves the connection to it.
+/// Makes the container that is named in a new realm, and serves the connection to it.
 fn serve_in<S: Source, K: Sink, C: Clock>(
     alloc: Global,
     settings: &Settings,
-    bucket: &BucketName,
+    bucket: &Option<BucketName>,
     owner: &Text,
     realm: &mut Realm,
     input: &mut S,
     output: &mut K,
     clock: &mut C,
 ) -> OnceEnd
-    requires settings { settings.now ≡ standard_settings }
+    requires bounds { IsSettings settings.now }
     requires owner { owner.now ≡ account_of standard_user }
-    requires new { realm.old ≡ new_realm standard_settings }
-    ensures leaves { Leaves bucket.now
+    requires new { realm.old ≡ new_realm settings.now }
+    ensures leaves { Leaves settings.now bucket.now
         (⟦<(S, K, C) as Ends>⟧.ends (input.old, output.old, clock.old))
         (⟦<(S, K, C) as Ends>⟧.ends (input.new, output.new, clock.new)) (Some realm.new) result }
     ensures cause { HasRunCause
@@ -204,12 +219,42 @@ fn serve_in<S: Source, K: Sink, C: Clock>(
 {
     let mut actor = Actor::new(1);
     let mut door = SoloDoor::new(realm, &mut actor);
-    let moment = clock.now();
-    if let Err(fault) = preset_bucket(alloc, settings, &mut door, bucket, owner, moment) {
+    if let Err(fault) = prepare(alloc, settings, bucket, owner, &mut door, clock) {
         return OnceEnd::Unbegun(fault);
     }
+    settings.has_zone_one();
     let outcome = serve_connection(alloc, settings, &mut door, 1, input, output, clock);
     end_of(outcome)
+}
+
+/// Makes the container that is named, if one is, at the moment now.
+fn prepare<D: Door, C: Clock>(
+    alloc: Global,
+    settings: &Settings,
+    bucket: &Option<BucketName>,
+    owner: &Text,
+    door: &mut D,
+    clock: &mut C,
+) -> Result<(), DoorFault>
+    requires settings { D.settings door.old ≡ settings.now }
+    requires fresh { D.tells → IsFresh settings.now (D.told door.old) }
+    ensures ready { OnOk result (HasPrepared D.tells D.alone settings.now bucket.now owner.now
+        (D.told door.old) (D.told door.new) (C.told clock.old) (C.told clock.new)) }
+    ensures stopped { OnErr result (StopsPreparing D.tells D.alone settings.now bucket.now
+        (D.told door.old) (D.told door.new) (C.told clock.old) (C.told clock.new)) }
+    ensures legal { D.tells → Legal settings.now (D.told door.new).seen }
+    ensures worn { IfErr result (λ f. D.tells → f ≡ Worn → length (D.found door.new) ≡ 2 ^ 62) }
+    ensures plan { C.plan clock.new ≡ C.plan clock.old }
+    ensures settings { D.settings door.new ≡ D.settings door.old }
+    ensures home { D.home door.new ≡ D.home door.old }
+{
+    match bucket {
+        None => Ok(()),
+        Some(name) => {
+            let moment = clock.now();
+            preset_bucket(alloc, settings, door, name, owner, moment)
+        }
+    }
 }
 
 /// How the run ended, by what the connection came to.
@@ -220,24 +265,6 @@ fn end_of(outcome: Result<Served, ServeFault>) -> OnceEnd
         Ok(served) => OnceEnd::Ended(served),
         Err(fault) => OnceEnd::Stopped(fault),
     }
-}
-
-/// The settings of a realm of which no word says otherwise.
-fn standard_settings() -> Settings
-    ensures { result ≡ standard_settings }
-{
-    Settings::new(
-        1,
-        4_194_304,
-        4096,
-        16_384,
-        11,
-        120_000_000,
-        7_200_000_000,
-        5_368_709_120,
-        100_000,
-    )
-    .unwrap()
 }
 
 /// The account of the one user.

@@ -6,13 +6,13 @@ use crate::status::Status;
 use gw_io::{Clock, Ends, Sink, Source};
 use realm_core::Realm;
 use rgw_script::{ScriptFault, ScriptPlan, run_script};
-use rgw_words::ScriptWords;
+use rgw_words::RunWords;
 use std::alloc::Global;
 
 /// Makes the realm, runs the script of the input over it, and leaves the realm. The clock is not asked.
 pub(crate) fn run_scripted<S: Source, K: Sink, C: Clock>(
     alloc: Global,
-    script: ScriptWords,
+    script: RunWords,
     input: &mut S,
     output: &mut K,
     clock: &C,
@@ -23,7 +23,7 @@ pub(crate) fn run_scripted<S: Source, K: Sink, C: Clock>(
         (⟦<(S, K, C) as Ends>⟧.ends (input.old, output.old, clock.now))
         (⟦<(S, K, C) as Ends>⟧.ends (input.new, output.new, clock.now)) realm.new result.number }
 {
-    let ScriptWords {
+    let RunWords {
         bucket,
         settings,
         now,

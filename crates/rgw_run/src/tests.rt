@@ -34,12 +34,38 @@ const GET_OF_NOTHING: &[u8] =
 const NO_OBJECT: &[u8] =
     b"HTTP/1.1 404 Not Found\r\nContent-Length: 15\r\nContent-Type: text/plain; charset=utf-8\r\n\r\nNo such object\n";
 
+const NO_CONTAINER: &[u8] =
+    b"HTTP/1.1 404 Not Found\r\nContent-Length: 18\r\nContent-Type: text/plain; charset=utf-8\r\n\r\nNo such container\n";
+
+/// A PUT of 17 bytes, where a frame has 16 and there is one.
+const PUT_OF_SEVENTEEN: &[u8] =
+    b"PUT /swift/v1/AUTH_acme/box/k HTTP/1.1\r\nHost: h\r\nX-Auth-Token: AUTH_tk1\r\nContent-Length: 17\r\n\r\nabcdefghijklmnopq";
+
+const NO_SPACE: &[u8] =
+    b"HTTP/1.1 507 Insufficient Storage\r\nContent-Length: 17\r\nContent-Type: text/plain; charset=utf-8\r\n\r\nNo space: 0 of 1\n";
+
 const BAD_HEAD: &[u8] =
     b"HTTP/1.1 400 Bad Request\r\nContent-Length: 18\r\nContent-Type: text/plain; charset=utf-8\r\nConnection: close\r\n\r\nBad request: head\n";
 
 const AT_ONE_MOMENT: &[&str] = &["once", "--bucket", "box", "--now", "1700000000000000"];
 
 const BY_THE_CLOCK: &[&str] = &["once", "--bucket", "box"];
+
+const WITHOUT_CONTAINER: &[&str] = &["once", "--now", "1700000000000000"];
+
+const ONE_FRAME: &[&str] = &[
+    "once",
+    "--frames",
+    "1",
+    "--frame",
+    "16",
+    "--stripe",
+    "16",
+    "--now",
+    "1700000000000000",
+    "--bucket",
+    "box",
+];
 
 fn strings(alloc: Global, words: &[&str]) -> Result<Vec<String>, AllocError> {
     let mut all = Vec::new(alloc);
@@ -84,12 +110,14 @@ fn outcome(
 
 #[test]
 fn connections_are_replied_so_in_any_pieces(rt: HostRuntime) -> Result<(), Fail> {
-    let table: [(&[&str], &[u8], &[u8], u8); 7] = [
+    let table: [(&[&str], &[u8], &[u8], u8); 9] = [
         (AT_ONE_MOMENT, PUT_THEN_GET, STORED_AND_SHOWN, 0),
         (BY_THE_CLOCK, PUT_THEN_GET, STORED_AND_SHOWN_BY_THE_CLOCK, 0),
         (AT_ONE_MOMENT, b"", b"", 0),
         (AT_ONE_MOMENT, GET_WITHOUT_TOKEN, UNAUTHORIZED, 0),
         (AT_ONE_MOMENT, GET_OF_NOTHING, NO_OBJECT, 0),
+        (WITHOUT_CONTAINER, GET_OF_NOTHING, NO_CONTAINER, 0),
+        (ONE_FRAME, PUT_OF_SEVENTEEN, NO_SPACE, 0),
         (AT_ONE_MOMENT, b"GET\r\n\r\n", BAD_HEAD, 5),
         (AT_ONE_MOMENT, CUT_PUT, b"", 5),
     ];

@@ -4,11 +4,11 @@ use Rattle.std.specs.Prelude.{is_some}
 use Rattle.realm_core.specs.Realms.{RealmView}
 use Rattle.realm_model.specs.Settings.{SettingsView}
 use Rattle.realm_model.specs.declared.event.Event.{Event}
-use Rattle.task_words.specs.declared.outcome.Outcome.{Outcome}
 use Rattle.script_words.specs.Replies.{outcome_text, reply_line, named_line, count_line}
 use Rattle.script_words.specs.declared.line.Line.{Line}
 use Rattle.script_words.specs.declared.line.Line.TheVariants as lines
 use Rattle.script_words.specs.declared.line.Verb.{Verb}
+use Rattle.script_words.specs.declared.outcome.ActorOutcome.{ActorOutcome}
 use Rattle.script_player.specs.Meanings.{Means}
 use Rattle.script_player.specs.Plays.{fits}
 use Rattle.script_player.specs.declared.player.Gone.{Gone}
@@ -118,7 +118,7 @@ module _ (settings : SettingsView) (script : Script) (h h' : List Event) (a b : 
   told_so : b.used ≡ has_acted b.pass h' → door_to b h' ≡ view_of b.pass h'
   told_so used = λ i. record { pass = b.pass; count = 0; used = used i; seen = h' }
 
-  pub ends_so : (count : ℕ) (outcome : Outcome) (shown : List ℕ) → Acts (scene_of script h) a.pass count h' → HasEnded settings h' b → BearsOut b outcome shown
+  pub ends_so : (count : ℕ) (outcome : ActorOutcome) (shown : List ℕ) → Acts (scene_of script h) a.pass count h' → HasEnded settings h' b → BearsOut b outcome shown
       → Ends settings (scene_of script h) (role_of a) count h' outcome shown
   ends_so count outcome shown acts ended bears = record {
     acts = acts;
@@ -137,7 +137,7 @@ module _ (settings : SettingsView) (script : Script) (h h' : List Event) (a b : 
 
 -- how an actor ended is told behind what was there
 pub record Tells (b : Active) (text : List ℕ → List ℕ) (old new : List ℕ) : Type 0 where
-  pub outcome : Outcome
+  pub outcome : ActorOutcome
   pub shown : List ℕ
   pub bears : BearsOut b outcome shown
   pub told : new ≡ old ++ text (outcome_text outcome shown)

@@ -2,11 +2,11 @@
 use Rattle.std.specs.Prelude.{◌≡◌, ◌≢◌, ◌⊎◌, ℕ, ◌≤◌, List, [], ◌∷◌, ◌++◌}
 use Rattle.realm_model.specs.Settings.{SettingsView}
 use Rattle.realm_model.specs.declared.event.Event.{Event}
-use Rattle.task_words.specs.declared.outcome.Outcome.{Outcome}
 use Rattle.script_words.specs.Lines.{IsLine}
 use Rattle.script_words.specs.Replies.{outcome_text, reply_line, named_line, count_line}
 use Rattle.script_words.specs.declared.line.Line.{Line}
 use Rattle.script_words.specs.declared.line.Line.TheVariants.{Clock, Start, Step, Run, Stop, Do}
+use Rattle.script_words.specs.declared.outcome.ActorOutcome.{ActorOutcome}
 use Rattle.script_player.specs.Going.{ActsAlone}
 use Rattle.script_player.specs.Meanings.{Means}
 use Rattle.script_player.specs.Plays.{asked, fits, IsPlaying}
@@ -20,7 +20,7 @@ abbrev pub Acts : Scene → ℕ → ℕ → List Event → Type 0
 Acts s pass count history = ActsAlone s.moment count (view_of pass s.history) (view_of pass history)
 
 -- the actor made so many events, and ended so: its own events bear that out
-pub record Ends (settings : SettingsView) (s : Scene) (role : Role) (count : ℕ) (history : List Event) (outcome : Outcome) (shown : List ℕ) : Type 0 where
+pub record Ends (settings : SettingsView) (s : Scene) (role : Role) (count : ℕ) (history : List Event) (outcome : ActorOutcome) (shown : List ℕ) : Type 0 where
   pub acts : Acts s role.pass count history
   pub means : Means role.zone role.verb outcome shown settings (view_of role.pass history)
 
@@ -44,7 +44,7 @@ pub record StepsOn (settings : SettingsView) (s : Scene) (name : List ℕ) (role
 -- the actor of this name ended by so many events, and its reply is told
 pub record RunsOut (settings : SettingsView) (s : Scene) (name : List ℕ) (role : Role) (count : ℕ) (t : Scene) (printed : List ℕ) : Type 0 where
   pub history : List Event
-  pub outcome : Outcome
+  pub outcome : ActorOutcome
   pub shown : List ℕ
   pub ends : Ends settings s role count history outcome shown
   pub leaves : t ≡ with_part (with_history s history) name gone
@@ -54,7 +54,7 @@ pub record RunsOut (settings : SettingsView) (s : Scene) (name : List ℕ) (role
 pub record Does (settings : SettingsView) (s : Scene) (role : Role) (t : Scene) (printed : List ℕ) : Type 0 where
   pub count : ℕ
   pub history : List Event
-  pub outcome : Outcome
+  pub outcome : ActorOutcome
   pub shown : List ℕ
   pub ends : Ends settings s role count history outcome shown
   pub leaves : t ≡ with_next (with_history s history)

@@ -6,10 +6,10 @@ use Rattle.realm_model.specs.Doors.{DoorView}
 use Rattle.realm_model.specs.Histories.{Legal}
 use Rattle.realm_model.specs.Settings.{SettingsView}
 use Rattle.realm_model.specs.declared.event.Event.{Event}
-use Rattle.task_words.specs.declared.outcome.Outcome.{Outcome}
 use Rattle.script_words.specs.declared.line.Line.{Line}
 use Rattle.script_words.specs.declared.line.Line.TheVariants.{Start, Do}
 use Rattle.script_words.specs.declared.line.Verb.{Verb}
+use Rattle.script_words.specs.declared.outcome.ActorOutcome.{ActorOutcome}
 use Rattle.script_player.specs.Going.{ActsAlone}
 use Rattle.script_player.specs.Meanings.{Means}
 use Rattle.script_player.specs.Plays.{asked, fits, IsPlaying, IsEnded}
@@ -112,7 +112,7 @@ StopsAt history Worn = length history ≡ 2 ^ 62
 StopsAt history fault = ⊥
 
 -- its own events bear out that it ended so
-abbrev pub BearsOut : Active → Outcome → List ℕ → Type 0
+abbrev pub BearsOut : Active → ActorOutcome → List ℕ → Type 0
 BearsOut a outcome shown = (settings : SettingsView) (d : DoorView) → fits a.player settings d
     → Means (asked a.player).zone (asked a.player).verb outcome shown settings d
 

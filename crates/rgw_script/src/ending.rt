@@ -2,7 +2,7 @@
 ghost use Rattle.std.specs.Prelude.{◌≡◌, ◌++◌, ℕ, List, OnOk};
 ghost use Rattle.script_player.specs.Plays.{IsEnded};
 ghost use Rattle.script_words.specs.Replies.{outcome_text, reply_line, named_line};
-ghost use Rattle.task_words.specs.declared.outcome.Outcome.{Outcome as OutcomeOf};
+ghost use Rattle.script_words.specs.declared.outcome.ActorOutcome.{ActorOutcome as OutcomeOf};
 ghost use Rattle.rgw_script.specs.Stages.{BearsOut};
 
 use crate::active::Active;

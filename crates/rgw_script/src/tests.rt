@@ -28,6 +28,20 @@ const LISTED: &[u8] =
 const LISTED_PRINTS: &[u8] =
     b"201 d41d8cd98f00b204e9800998ecf8427e\n201 d41d8cd98f00b204e9800998ecf8427e\nw 3\n200 a/1 b\nw 1\n200 a/1 b c\n";
 
+/// A writer that stops behind its head is repaired once its tag is due.
+const STOPPED_WRITER: &[u8] =
+    b"clock 1000000\nstart w 1 put box/k hello\nstep w 4\nstop w\ndo 1 list box\ndo 1 stat box\nclock 121000000\ndo 1 check box\ndo 1 stat box\n";
+
+const STOPPED_WRITER_PRINTS: &[u8] =
+    b"w 4\n200 k\n200 objects=0 bytes=0\n200 repaired=1 left=0\n200 objects=1 bytes=5\n";
+
+/// A check whose page is old by the time that it suggests.
+const LATE_SUGGESTION: &[u8] =
+    b"start w 1 put box/k hello\nstep w 4\nstop w\nclock 120000000\nstart c 1 check box\nstep c 3\ndo 1 put box/k -\nrun c\ndo 1 stat box\ndo 1 check box\ndo 1 check jar\n";
+
+const LATE_SUGGESTION_PRINTS: &[u8] =
+    b"w 4\nc 3\n201 d41d8cd98f00b204e9800998ecf8427e\nc 200 repaired=0 left=1\n200 objects=1 bytes=0\n200 repaired=1 left=0\n404 No such container\n";
+
 /// What a script prints that is read and written in pieces, and how it ends.
 fn printed_by(alloc: Global, script: &[u8]) -> Result<(Vec<u8>, Result<(), ScriptFault>), Fail> {
     let settings = Settings::new(
@@ -66,6 +80,22 @@ fn a_lost_race_and_a_bad_line(rt: HostRuntime) -> Result<(), Fail> {
 fn a_tag_expires(rt: HostRuntime) -> Result<(), Fail> {
     let (printed, end) = printed_by(rt.alloc(), EXPIRED_TAG)?;
     assert!(rt; printed.as_slice() == EXPIRED_TAG_PRINTS);
+    assert_eq!(rt; end, Ok(()));
+    Ok(())
+}
+
+#[test]
+fn a_stopped_writer_is_repaired(rt: HostRuntime) -> Result<(), Fail> {
+    let (printed, end) = printed_by(rt.alloc(), STOPPED_WRITER)?;
+    assert!(rt; printed.as_slice() == STOPPED_WRITER_PRINTS);
+    assert_eq!(rt; end, Ok(()));
+    Ok(())
+}
+
+#[test]
+fn a_late_suggestion_is_refused(rt: HostRuntime) -> Result<(), Fail> {
+    let (printed, end) = printed_by(rt.alloc(), LATE_SUGGESTION)?;
+    assert!(rt; printed.as_slice() == LATE_SUGGESTION_PRINTS);
     assert_eq!(rt; end, Ok(()));
     Ok(())
 }

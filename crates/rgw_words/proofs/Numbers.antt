@@ -5,7 +5,7 @@ use Rattle.std.specs.Char.{is_ascii_digit}
 use Rattle.std.specs.Str.Parse.{digits_value, ParsesUnsigned}
 use Rattle.std.proofs.lemmas.Str.Parse.{IsNumeralModel, numerals_by_value, parse_digits}
 use Rattle.std.proofs.lemmas.Grind.{common_steps}
-use Rattle.rgw_words.specs.Words.{moment_of}
+use Rattle.rgw_words.specs.Values.{moment_of}
 use Rattle.rgw_words.specs.Options.{number_in}
 
 digits : IsNumeralModel (λ ds. list_all is_ascii_digit ds ≡ true) (digits_value 10)

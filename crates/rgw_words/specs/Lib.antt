@@ -1,3 +1,3 @@
-pub mod Words
+pub mod Values
 pub mod Options
-pub mod Scripts
+pub mod Words

@@ -2,7 +2,7 @@
 use Rattle.std.specs.Prelude.{ℕ, Bool, not, ◌&&◌, true, false, nat_le, List, [], ◌∷◌, Option, Some, None, is_some, if◌then◌else◌, bytes_eq, codes}
 use Rattle.std.specs.List.{list_any}
 use Rattle.std.specs.Str.Parse.{digits_value}
-use Rattle.rgw_words.specs.Words.{begins_with_dash, is_number}
+use Rattle.rgw_words.specs.Values.{begins_with_dash, is_number}
 
 -- the value behind the first of these names
 abbrev pub value_of : List ℕ → List (List ℕ) → Option (List ℕ)
@@ -10,7 +10,7 @@ value_of name [] = None
 value_of name (word ∷ []) = None
 value_of name (word ∷ value ∷ words) = if bytes_eq word name then Some value else value_of name words
 
--- the options of `script`
+-- the options
 abbrev pub option_names : List (List ℕ)
 option_names =
     codes "--bucket" ∷ codes "--stripe" ∷ codes "--frame" ∷ codes "--frames" ∷ codes "--shards" ∷ codes "--tag-seconds"

@@ -1,42 +1,64 @@
--- What the words of the command line mean: `once --bucket NAME`, with or without `--now N` behind it.
-use Rattle.std.specs.Prelude.{ℕ, Bool, not, ◌&&◌, ◌==◌, List, [], ◌∷◌, length, slice_index, Option, Some, None, if◌then◌else◌, nat_lt, nat_le, bytes_eq, codes}
-use Rattle.std.specs.List.{list_all}
+-- What the words of the command line mean: `once` or `script`, and options behind it.
+use Rattle.std.specs.Prelude.{ℕ, ◌*◌, ◌&&◌, nat_le, List, [], ◌∷◌, Option, Some, None, option_and_then, if◌then◌else◌, bytes_eq, codes}
 use Rattle.std.specs.Option.{option_map}
-use Rattle.std.specs.Char.{is_ascii_digit}
-use Rattle.std.specs.Str.Parse.{digits_value}
-use Rattle.object_words.specs.Limits.{is_name}
-use Rattle.date_words.specs.declared.TheConstants.{LATEST_MOMENT}
-use Rattle.rgw_words.specs.declared.once.Once.{Once}
+use Rattle.realm_model.specs.Settings.{SettingsView, settings_of, second}
+use Rattle.rgw_words.specs.Values.{is_bucket, moment_of}
+use Rattle.rgw_words.specs.Options.{value_of, are_options, number_in}
+use Rattle.rgw_words.specs.declared.run_words.RunWords.{RunWords}
 
--- the word begins with a dash, as an option does and no value may
-abbrev pub begins_with_dash : List ℕ → Bool
-begins_with_dash word = slice_index word 0 == 45
+-- the container that is made first, if one is
+abbrev pub bucket_in : Option (List ℕ) → Option (Option (List ℕ))
+bucket_in None = Some None
+bucket_in (Some word) = if is_bucket word then Some (Some word) else None
 
--- the word can be the value of `--bucket`
-abbrev pub is_bucket : List ℕ → Bool
-is_bucket word = not (begins_with_dash word) && is_name 256 word
+-- the moment that is said, if one is
+abbrev pub now_in : Option (List ℕ) → Option (Option ℕ)
+now_in None = Some None
+now_in (Some word) = option_map (λ moment. Some moment) (moment_of word)
 
--- one or more decimal digits, leading zeros among them
-abbrev pub is_number : List ℕ → Bool
-is_number word = nat_lt 0 (length word) && list_all is_ascii_digit word
+-- the settings of one zone: the frames have at most 8 GiB; a chain waits two hours, an object has up to 5 GiB, and a shard
+-- 100000 objects
+abbrev pub settings_with : ℕ → ℕ → ℕ → ℕ → ℕ → Option SettingsView
+settings_with stripe frame frames shards seconds =
+    if nat_le (frames * frame) 8589934592
+    then Some (settings_of 1 stripe frame frames shards (seconds * second) (7200 * second) 5368709120 100000) else None
 
--- the moment that the value of `--now` says, in microseconds since 1970
-abbrev pub moment_of : List ℕ → Option ℕ
-moment_of word =
-    if is_number word && nat_le (digits_value 10 word) LATEST_MOMENT then Some (digits_value 10 word) else None
+-- the settings that the options say: stripes of 4 MiB, 16384 frames of 4 KiB, 11 shards in a new container and 120 seconds for
+-- a tag where they say nothing
+abbrev pub settings_in : List (List ℕ) → Option SettingsView
+settings_in options =
+    option_and_then (λ stripe.
+    option_and_then (λ frame.
+    option_and_then (λ frames.
+    option_and_then (λ shards.
+    option_and_then (λ seconds. settings_with stripe frame frames shards seconds)
+    (number_in 1 86400 120 (value_of (codes "--tag-seconds") options)))
+    (number_in 1 1999 11 (value_of (codes "--shards") options)))
+    (number_in 1 4194304 16384 (value_of (codes "--frames") options)))
+    (number_in 16 65536 4096 (value_of (codes "--frame") options)))
+    (number_in 16 4194304 4194304 (value_of (codes "--stripe") options))
 
--- the first two words, before the container's name
-abbrev pub begins_once : List ℕ → List ℕ → Bool
-begins_once command option = bytes_eq command (codes "once") && bytes_eq option (codes "--bucket")
+abbrev pub words_with : Option (List ℕ) → SettingsView → Option ℕ → RunWords
+words_with bucket settings now = record { bucket = bucket; settings = settings; now = now }
 
-abbrev pub at_moment : List ℕ → ℕ → Once
-at_moment bucket moment = record { bucket = bucket; now = Some moment }
+abbrev pub with_options : List (List ℕ) → Option RunWords
+with_options options =
+    option_and_then (λ bucket.
+    option_and_then (λ settings.
+    option_map (words_with bucket settings) (now_in (value_of (codes "--now") options)))
+    (settings_in options))
+    (bucket_in (value_of (codes "--bucket") options))
 
--- what the words ask; nothing where they are refused
-abbrev pub once_of : List (List ℕ) → Option Once
-once_of (command ∷ option ∷ bucket ∷ []) =
-    if begins_once command option && is_bucket bucket then Some (record { bucket = bucket; now = None }) else None
-once_of (command ∷ option ∷ bucket ∷ now ∷ moment ∷ []) =
-    if begins_once command option && (is_bucket bucket && bytes_eq now (codes "--now"))
-    then option_map (at_moment bucket) (moment_of moment) else None
-once_of words = None
+-- what the words ask, where they are this command and options behind it; nothing where they are refused
+abbrev pub words_behind : List ℕ → List (List ℕ) → Option RunWords
+words_behind command [] = None
+words_behind command (word ∷ options) =
+    if bytes_eq word command && are_options options then with_options options else None
+
+-- to serve a connection
+abbrev pub once_of : List (List ℕ) → Option RunWords
+once_of words = words_behind (codes "once") words
+
+-- to run a script
+abbrev pub script_of : List (List ℕ) → Option RunWords
+script_of words = words_behind (codes "script") words

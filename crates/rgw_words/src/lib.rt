@@ -2,13 +2,12 @@
 #![tactic(auto)]
 
 mod fault;
-mod once;
 mod options;
-mod script;
+mod run_words;
+mod values;
 
 pub use fault::WordsFault;
-pub use once::{Once, read_once};
-pub use script::{ScriptWords, read_script};
+pub use run_words::{RunWords, read_once, read_script};
 
 #[cfg(test)]
 mod tests;

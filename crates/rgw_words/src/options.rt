@@ -2,7 +2,7 @@
 ghost use Rattle.std.specs.Prelude.{◌≡◌, None, Some, MatchOption, map, string_bytes};
 ghost use Rattle.rgw_words.specs.Options.{value_of, is_option, begins_option, are_options, number_in};
 
-use crate::once::{all_digits, begins_with_dash};
+use crate::values::{all_digits, begins_with_dash};
 
 /// The value behind the first word of this name.
 pub(crate) fn value_of<'a>(name: &str, words: &'a [String]) -> Option<&'a str>

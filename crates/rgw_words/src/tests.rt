@@ -5,7 +5,6 @@ use std::test::Fail;
 
 const REFUSED: &[&[&str]] = &[
     &[],
-    &["once"],
     &["once", "x"],
     &["once", "--bucket"],
     &["once", "box"],
@@ -24,7 +23,8 @@ const REFUSED: &[&[&str]] = &[
     &["once", "--bucket", "box", "--now", "1x"],
     &["once", "--bucket", "box", "--now", "1", "x"],
     &["once", "--bucket", "box", "--bucket", "box"],
-    &["once", "--now", "1", "--bucket", "box"],
+    &["once", "--stripe", "15"],
+    &["once", "--stripe", "16", "--stripe", "16"],
     &["Once", "--bucket", "box"],
     &["serve", "--bucket", "box"],
     &["--bucket", "box"],
@@ -80,20 +80,25 @@ fn fault_of(alloc: Global, words: &[&str]) -> Result<Option<WordsFault>, AllocEr
 fn words_of_once_are_taken(rt: HostRuntime) -> Result<(), Fail> {
     let longest = letters(rt.alloc(), 256)?;
     let longest = longest.as_str();
-    let table: [(&[&str], &str, Option<u64>); 8] = [
-        (&["once", "--bucket", "box"], "box", None),
+    let table: [(&[&str], Option<&str>, Option<u64>); 10] = [
+        (&["once"], None, None),
+        (&["once", "--bucket", "box"], Some("box"), None),
         (
             &["once", "--bucket", "box", "--now", "1700000000000000"],
-            "box",
+            Some("box"),
             Some(1_700_000_000_000_000),
         ),
         (
-            &["once", "--bucket", "box", "--now", "253402300799999999"],
-            "box",
+            &["once", "--now", "253402300799999999", "--bucket", "box"],
+            Some("box"),
             Some(253_402_300_799_999_999),
         ),
-        (&["once", "--bucket", "box", "--now", "0"], "box", Some(0)),
-        (&["once", "--bucket", "box", "--now", "00"], "box", Some(0)),
+        (
+            &["once", "--bucket", "box", "--now", "0"],
+            Some("box"),
+            Some(0),
+        ),
+        (&["once", "--now", "00"], None, Some(0)),
         (
             &[
                 "once",
@@ -102,26 +107,46 @@ fn words_of_once_are_taken(rt: HostRuntime) -> Result<(), Fail> {
                 "--now",
                 "000000000000000000000000000007",
             ],
-            "box",
+            Some("box"),
             Some(7),
         ),
         (
             &["once", "--bucket", "a-b é/", "--now", "7"],
-            "a-b é/",
+            Some("a-b é/"),
             Some(7),
         ),
-        (&["once", "--bucket", longest], longest, None),
+        (&["once", "--bucket", longest], Some(longest), None),
+        (&["once", "--shards", "1"], None, None),
     ];
     for (words, bucket, now) in table {
         let words = strings(rt.alloc(), words)?;
         match read_once(rt.alloc(), &words) {
             Ok(once) => {
-                assert_eq!(rt; once.bucket.as_text().as_str(), bucket);
+                assert_eq!(rt;
+                    once.bucket.as_ref().map(|name| name.as_text().as_str()),
+                    bucket,
+                    "{words:?}"
+                );
                 assert_eq!(rt; once.now, now, "{words:?}");
             }
             Err(fault) => panic!(rt; "{words:?}: {fault:?}"),
         }
     }
+    Ok(())
+}
+
+#[test]
+fn options_of_once_are_those_of_a_script(rt: HostRuntime) -> Result<(), Fail> {
+    let words = strings(
+        rt.alloc(),
+        &[
+            "once", "--frames", "3", "--stripe", "16", "--frame", "32", "--shards", "2",
+        ],
+    )?;
+    let once = read_once(rt.alloc(), &words).ok().ok_or("no words")?;
+    let settings = once.settings;
+    assert!(rt; settings.stripe == 16 && settings.frame == 32 && settings.frames == 3);
+    assert!(rt; settings.shards == 2 && settings.tag_life == 120_000_000);
     Ok(())
 }
 

@@ -14,7 +14,7 @@ use Rattle.task_container.specs.declared.task.ContainerTask.{ContainerTask}
 use Rattle.task_words.specs.declared.outcome.Outcome.{Outcome}
 use Rattle.script_words.specs.declared.line.Verb.TheVariants.{Stat}
 use Rattle.script_player.specs.Going.{Steps}
-use Rattle.script_player.specs.Meanings.{Means}
+use Rattle.script_player.specs.Meanings.{MeansRequest}
 use Rattle.script_player.specs.Plays.{asked_stat, FitsStat, StatEnded}
 use Rattle.script_player.specs.Requests.{stat_request}
 use Rattle.script_player.proofs.Going.{goes_once}
@@ -40,6 +40,6 @@ steps_if tells alone settings moment t d e (Ok a) made few = λ is. inl (goes_on
 steps_if tells alone settings moment t d e (Err f) made few = tt
 
 pub stat_means : (t : ContainerTask) (settings : SettingsView) (d : DoorView) (outcome : Outcome) → FitsStat t settings d
-    → IsContainerOutcome (request_of t) outcome (account_of settings d.seen (actor_at d)) (own_events d.seen (actor_at d)) → Means (asked_stat t).zone (asked_stat t).verb outcome [] settings d
+    → IsContainerOutcome (request_of t) outcome (account_of settings d.seen (actor_at d)) (own_events d.seen (actor_at d)) → MeansRequest (asked_stat t).zone (asked_stat t).verb outcome [] settings d
 stat_means t settings d outcome f m =
     (subst (λ (q : ContainerRequest). IsContainerOutcome q outcome (account_of settings d.seen (actor_at d)) (own_events d.seen (actor_at d))) f.is_stat m, refl)

@@ -32,7 +32,7 @@ use Rattle.task_get.specs.Tasks.{account_at, phase_at, events_at, request_of, st
 use Rattle.task_get.proofs.Giving.{next_piece_follows, none_at_first}
 use Rattle.script_words.specs.declared.line.Verb.TheVariants.{Get}
 use Rattle.script_player.specs.Requests.{get_request}
-use Rattle.script_player.specs.Meanings.{AreBytesOf, Means}
+use Rattle.script_player.specs.Meanings.{AreBytesOf, MeansRequest}
 use Rattle.script_player.specs.Plays.{asked_get, FitsGet}
 use Rattle.script_player.specs.declared.get.GetPlay.{GetPlay}
 
@@ -126,7 +126,7 @@ module _ (settings : SettingsView) (t : GetTask) (d : DoorView) (fits : Fits t s
       record { event = m.0.by_map.event; is_last = last; front = record { rest = front.rest; joined = front.joined ∙ ap (λ l. l ++ front.rest) (sym is) } }
   bytes_shown outcome shown is m = absurd m
 
-pub get_means : (x : GetPlay) (settings : SettingsView) (d : DoorView) (outcome : Outcome) → FitsGet x settings d → means (request_of x.task) outcome settings d → Means (asked_get x).zone (asked_get x).verb outcome x.shown.items settings d
+pub get_means : (x : GetPlay) (settings : SettingsView) (d : DoorView) (outcome : Outcome) → FitsGet x settings d → means (request_of x.task) outcome settings d → MeansRequest (asked_get x).zone (asked_get x).verb outcome x.shown.items settings d
 get_means x settings d outcome f m =
     let bytes = bytes_shown settings x.task d f.task outcome x.shown.items f.shown m in
     subst (λ (q : GetRequest). means q outcome settings d × AreBytesOf q outcome x.shown.items (account_at settings d)) f.is_get (m, bytes)

@@ -4,5 +4,6 @@ pub mod Putting
 pub mod Getting
 pub mod Counting
 pub mod Listing
+pub mod Checking
 pub mod Staying
 pub mod Words

@@ -12,7 +12,7 @@ use Rattle.task_list.specs.declared.task.ListTask.{ListTask}
 use Rattle.task_words.specs.declared.outcome.Outcome.{Outcome}
 use Rattle.script_words.specs.declared.line.Verb.TheVariants as verbs
 use Rattle.script_player.specs.Going.{Steps}
-use Rattle.script_player.specs.Meanings.{Means}
+use Rattle.script_player.specs.Meanings.{MeansRequest}
 use Rattle.script_player.specs.Plays.{asked_list, FitsList, ListEnded}
 use Rattle.script_player.specs.Requests.{list_request}
 use Rattle.script_player.proofs.Going.{goes_once}
@@ -30,6 +30,6 @@ list_steps_if tells alone settings moment t d e (Ok a) made few = λ is. inl (go
 list_steps_if tells alone settings moment t d e (Err f) made few = tt
 
 pub list_means : (t : ListTask) (settings : SettingsView) (d : DoorView) (outcome : Outcome) → FitsList t settings d
-    → IsListOutcome (request_of t) outcome (account_of settings d.seen (actor_at d)) (own_events d.seen (actor_at d)) → Means (asked_list t).zone (asked_list t).verb outcome [] settings d
+    → IsListOutcome (request_of t) outcome (account_of settings d.seen (actor_at d)) (own_events d.seen (actor_at d)) → MeansRequest (asked_list t).zone (asked_list t).verb outcome [] settings d
 list_means t settings d outcome f m =
     (subst (λ (q : ListRequest). IsListOutcome q outcome (account_of settings d.seen (actor_at d)) (own_events d.seen (actor_at d))) f.is_list m, refl)

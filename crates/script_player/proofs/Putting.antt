@@ -35,7 +35,7 @@ use Rattle.script_words.specs.Bodies.{body_bytes}
 use Rattle.script_words.specs.declared.line.ScriptBody.{ScriptBody}
 use Rattle.script_words.specs.declared.line.Verb.TheVariants.{Put}
 use Rattle.script_player.specs.Requests.{standard_asker, plain_put, put_request}
-use Rattle.script_player.specs.Meanings.{Means}
+use Rattle.script_player.specs.Meanings.{MeansRequest}
 use Rattle.script_player.specs.Plays.{asked_put, EndsAt, IsPut, TakesNext, PutStands, unended, left_of, FitsPut}
 use Rattle.script_player.specs.declared.put.PutPlay.{PutPlay}
 
@@ -242,7 +242,7 @@ module _ (zone : ℕ) (asker : Asker) (c : PutCommand) (all : List ℕ) (y : Acc
   whole_end (Some Failed) at outcome ends m = absurd ends
 
 -- what the outcome says, of the whole body
-pub put_means : (x : PutPlay) (settings : SettingsView) (d : DoorView) (outcome : Outcome) → FitsPut x settings d → IsPutEnd (request_of x.task) outcome settings d → Means (asked_put x).zone (asked_put x).verb outcome [] settings d
+pub put_means : (x : PutPlay) (settings : SettingsView) (d : DoorView) (outcome : Outcome) → FitsPut x settings d → IsPutEnd (request_of x.task) outcome settings d → MeansRequest (asked_put x).zone (asked_put x).verb outcome [] settings d
 put_means x settings d outcome f m =
     let r = request_of x.task in
     let plain : IsPutEnd (put_request r.zone r.command.container r.command.name (take x.fed (body_bytes x.body)) r.end) outcome settings d = subst (λ (q : PutRequest). IsPutEnd q outcome settings d) f.is_put.plain m in (

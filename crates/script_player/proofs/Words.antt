@@ -56,6 +56,7 @@ verb_few words (Put container name body) all is =
 verb_few words (Get container name) all is = tt
 verb_few words (Stat container) all is = tt
 verb_few words (verbs.List container) all is = tt
+verb_few words (verbs.Job job) all is = tt
 
 pub start_few : (zones : ℕ) (bytes actor : List ℕ) (zone : ℕ) (verb : Verb) → length bytes ≤ most_bytes → IsLine zones bytes (Start actor zone verb) → HasFewBytes verb
 start_few zones bytes actor zone verb few is =

@@ -1,5 +1,7 @@
 -- What an end says of the actor's own events.
 use Rattle.std.specs.Prelude.{◌≡◌, ℕ, List, [], Option, Some}
+use Rattle.job_words.specs.declared.job.Job.TheVariants.{Check}
+use Rattle.job_words.specs.declared.outcome.JobOutcome.{JobOutcome}
 use Rattle.realm_model.specs.Settings.{SettingsView}
 use Rattle.realm_model.specs.Accounts.{Decided, Account}
 use Rattle.realm_model.specs.Doors.{DoorView, actor_at}
@@ -15,11 +17,14 @@ use Rattle.task_get.specs.Gets.{IsFront, shown_at}
 use Rattle.task_get.specs.Tasks.{account_at, means}
 use Rattle.task_container.specs.Counts.{IsContainerOutcome}
 use Rattle.task_list.specs.Listed.{IsListOutcome}
+use Rattle.task_repair.specs.Repairs.{IsRepairOutcome}
 use Rattle.script_words.specs.Bodies.{body_bytes}
 use Rattle.script_words.specs.declared.line.Verb.{Verb}
 use Rattle.script_words.specs.declared.line.Verb.TheVariants.{Put, Get, Stat}
 use Rattle.script_words.specs.declared.line.Verb.TheVariants as verbs
-use Rattle.script_player.specs.Requests.{put_request, get_request, stat_request, list_request}
+use Rattle.script_words.specs.declared.outcome.ActorOutcome.{ActorOutcome}
+use Rattle.script_words.specs.declared.outcome.ActorOutcome.TheVariants as actors
+use Rattle.script_player.specs.Requests.{put_request, get_request, stat_request, list_request, check_request}
 
 -- a front of the bytes that the bucket map shows at the event that decides
 pub record AreFront (r : GetRequest) (shown : List ℕ) (last : Option Decided) : Type 0 where
@@ -33,16 +38,29 @@ abbrev pub AreBytesOf : GetRequest → Outcome → List ℕ → Account → Type
 AreBytesOf r (LateRead read_at clock) shown y = AreFront r shown y.decided
 AreBytesOf r outcome shown y = AreShownBy r.zone r.get outcome shown y.decided
 
--- the outcome of a verb in a zone, with the bytes that it shows
-abbrev pub Means : ℕ → Verb → Outcome → List ℕ → SettingsView → DoorView → Type 0
-Means zone (Put container name body) outcome shown settings d =
+-- the outcome of a request in a zone, with the bytes that it shows
+abbrev pub MeansRequest : ℕ → Verb → Outcome → List ℕ → SettingsView → DoorView → Type 0
+MeansRequest zone (Put container name body) outcome shown settings d =
     IsPutEnd (put_request zone container name (body_bytes body) (Some Whole)) outcome settings d × (shown ≡ [])
-Means zone (Get container name) outcome shown settings d =
+MeansRequest zone (Get container name) outcome shown settings d =
     means (get_request zone container name) outcome settings d
     × AreBytesOf (get_request zone container name) outcome shown (account_at settings d)
-Means zone (Stat container) outcome shown settings d =
+MeansRequest zone (Stat container) outcome shown settings d =
     IsContainerOutcome (stat_request zone container) outcome (account_of settings d.seen (actor_at d)) (own_events d.seen (actor_at d))
     × (shown ≡ [])
-Means zone (verbs.List container) outcome shown settings d =
+MeansRequest zone (verbs.List container) outcome shown settings d =
     IsListOutcome (list_request zone container) outcome (account_of settings d.seen (actor_at d)) (own_events d.seen (actor_at d))
     × (shown ≡ [])
+MeansRequest zone (verbs.Job job) outcome shown settings d = ⊥
+
+-- the outcome of a job in a zone, which shows no bytes
+abbrev pub MeansJob : ℕ → Verb → JobOutcome → List ℕ → SettingsView → DoorView → Type 0
+MeansJob zone (verbs.Job (Check container)) outcome shown settings d =
+    IsRepairOutcome (check_request zone container) outcome (account_of settings d.seen (actor_at d)) (own_events d.seen (actor_at d))
+    × (shown ≡ [])
+MeansJob zone verb outcome shown settings d = ⊥
+
+-- the outcome of a verb in a zone, with the bytes that it shows
+abbrev pub Means : ℕ → Verb → ActorOutcome → List ℕ → SettingsView → DoorView → Type 0
+Means zone verb (actors.Request outcome) shown settings d = MeansRequest zone verb outcome.now shown settings d
+Means zone verb (actors.Job outcome) shown settings d = MeansJob zone verb outcome.now shown settings d

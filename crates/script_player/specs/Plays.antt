@@ -1,5 +1,6 @@
 -- Where an actor of a script stands.
 use Rattle.std.specs.Prelude.{◌≡◌, ℕ, ◌+◌, ◌-◌, ◌≤◌, List, [], ◌++◌, take, length, Option, Some, None}
+use Rattle.job_words.specs.declared.job.Job.TheVariants.{Check}
 use Rattle.realm_model.specs.Settings.{SettingsView}
 use Rattle.realm_model.specs.Doors.{DoorView}
 use Rattle.task_words.specs.declared.command.BodyEnd.{BodyEnd}
@@ -17,6 +18,9 @@ use Rattle.task_container.specs.Stages as stat
 use Rattle.task_container.specs.declared.task.ContainerTask.{ContainerTask}
 use Rattle.task_list.specs.Tasks as list
 use Rattle.task_list.specs.declared.task.ListTask.{ListTask}
+use Rattle.task_repair.specs.Stages as repair_stages
+use Rattle.task_repair.specs.Tasks as repair
+use Rattle.task_repair.specs.declared.task.RepairTask.{RepairTask}
 use Rattle.put_service.specs.Standing.{IsSteady}
 use Rattle.script_words.specs.Bodies.{body_bytes}
 use Rattle.script_words.specs.declared.line.Verb.{Verb}
@@ -55,11 +59,15 @@ asked_stat t = record { zone = (stat.request_of t).zone; verb = verbs.Stat (name
 abbrev pub asked_list : ListTask → Asked
 asked_list t = record { zone = (list.request_of t).zone; verb = verbs.List ((list.request_of t).command).container }
 
+abbrev pub asked_check : RepairTask → Asked
+asked_check t = record { zone = (repair.request_of t).zone; verb = verbs.Job (Check (repair.request_of t).bucket) }
+
 abbrev pub asked_by : Acting → Asked
 asked_by (actings.Put x) = asked_put x
 asked_by (actings.Get x) = asked_get x
 asked_by (actings.Stat t) = asked_stat t
 asked_by (actings.List t) = asked_list t
+asked_by (actings.Check t) = asked_check t
 
 abbrev pub asked : Player → Asked
 asked p = asked_by p.acting
@@ -108,11 +116,15 @@ pub record ListStands (t : ListTask) : Type 0 where
   pub is_list : IsList t
   pub sound : list.fault_of t ≡ None
 
+abbrev pub CheckStands : RepairTask → Type 0
+CheckStands t = repair.fault_of t ≡ None
+
 abbrev pub StandsBy : Acting → Type 0
 StandsBy (actings.Put x) = PutStands x
 StandsBy (actings.Get x) = GetStands x
 StandsBy (actings.Stat t) = StatStands t
 StandsBy (actings.List t) = ListStands t
+StandsBy (actings.Check t) = CheckStands t
 
 -- so many bytes behind the first were taken: some, if there was room
 pub record TakesNext (bytes : List ℕ) (at : ℕ) (old new : PutTask) (count : ℕ) : Type 0 where
@@ -144,11 +156,15 @@ StatEnded t = stat.IsOver (stat.stage_of t) × (stat.fault_of t ≡ None)
 abbrev pub ListEnded : ListTask → Type 0
 ListEnded t = list.IsOver (list.stage_of t) × (list.fault_of t ≡ None)
 
+abbrev pub CheckEnded : RepairTask → Type 0
+CheckEnded t = repair_stages.IsOver (repair.stage_of t) × (repair.fault_of t ≡ None)
+
 abbrev pub EndedBy : Acting → Type 0
 EndedBy (actings.Put x) = PutEnded x
 EndedBy (actings.Get x) = GetEnded x
 EndedBy (actings.Stat t) = StatEnded t
 EndedBy (actings.List t) = ListEnded t
+EndedBy (actings.Check t) = CheckEnded t
 
 -- the outcome is there
 abbrev pub IsEnded : Player → Type 0
@@ -170,6 +186,7 @@ shown_by (actings.Put x) = []
 shown_by (actings.Get x) = x.shown.items
 shown_by (actings.Stat t) = []
 shown_by (actings.List t) = []
+shown_by (actings.Check t) = []
 
 abbrev pub shown_of : Player → List ℕ
 shown_of p = shown_by p.acting
@@ -195,11 +212,15 @@ pub record FitsList (t : ListTask) (settings : SettingsView) (d : DoorView) : Ty
   pub is_list : IsList t
   pub task : list.fits t settings d
 
+abbrev pub FitsCheck : RepairTask → SettingsView → DoorView → Type 0
+FitsCheck t settings d = repair.fits t settings d
+
 abbrev pub FitsBy : Acting → SettingsView → DoorView → Type 0
 FitsBy (actings.Put x) settings d = FitsPut x settings d
 FitsBy (actings.Get x) settings d = FitsGet x settings d
 FitsBy (actings.Stat t) settings d = FitsStat t settings d
 FitsBy (actings.List t) settings d = FitsList t settings d
+FitsBy (actings.Check t) settings d = FitsCheck t settings d
 
 -- the player stands where the own events of the door's actor bring it
 abbrev pub fits : Player → SettingsView → DoorView → Type 0

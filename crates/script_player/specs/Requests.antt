@@ -1,4 +1,4 @@
--- What an actor of a script asks: as the one user, under the own account, without conditions.
+-- What an actor of a script asks of a task that serves clients: as the one user, under the own account, without conditions.
 use Rattle.std.specs.Prelude.{ℕ, ◌≤◌, true, List, [], length, Option, Some, None}
 use Rattle.object_words.specs.declared.head.Conditions.{Conditions}
 use Rattle.swift_auth.specs.Users.{standard_user, account_of}
@@ -14,6 +14,7 @@ use Rattle.task_container.specs.declared.request.ContainerRequest.{ContainerRequ
 use Rattle.list_words.specs.declared.command.ListCommand.{ListCommand}
 use Rattle.list_words.specs.Listings.{row_limit}
 use Rattle.task_list.specs.declared.request.ListRequest.{ListRequest}
+use Rattle.task_repair.specs.declared.request.RepairRequest.{RepairRequest}
 use Rattle.script_words.specs.Bodies.{body_bytes}
 use Rattle.script_words.specs.declared.line.Verb.{Verb}
 use Rattle.script_words.specs.declared.line.Verb.TheVariants.{Put}
@@ -60,3 +61,7 @@ all_names container =
 
 abbrev pub list_request : ℕ → List ℕ → ListRequest
 list_request zone container = record { zone = zone; asker = standard_asker; command = all_names container }
+
+-- to check a container, which nobody asks as a user
+abbrev pub check_request : ℕ → List ℕ → RepairRequest
+check_request zone container = record { zone = zone; bucket = container }

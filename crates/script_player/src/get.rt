@@ -7,7 +7,7 @@ ghost use Rattle.realm_model.specs.Histories.{Legal};
 ghost use Rattle.call_service.specs.Serving.{IsNew};
 ghost use Rattle.script_words.specs.declared.line.Verb.TheVariants.{Get};
 ghost use Rattle.script_player.specs.Going.{GoesUpTo, Steps};
-ghost use Rattle.script_player.specs.Meanings.{Means};
+ghost use Rattle.script_player.specs.Meanings.{MeansRequest};
 ghost use Rattle.script_player.specs.Plays.{asked_get, GetStands, GetEnded, FitsGet};
 
 use crate::asker::standard_asker;
@@ -93,7 +93,7 @@ impl GetPlay {
     pub(crate) fn outcome(&self) -> Option<&Outcome>
         ensures there { IsSome result ↔ GetEnded self.now }
         ensures right { IfSome result (λ outcome. (settings : SettingsView) (d : DoorView) → FitsGet self.now settings d
-            → Means (asked_get self.now).zone (asked_get self.now).verb outcome.now self.now.shown.items settings d) }
+            → MeansRequest (asked_get self.now).zone (asked_get self.now).verb outcome.now self.now.shown.items settings d) }
     {
         self.task.outcome()
     }

@@ -1,7 +1,9 @@
-//! One actor of a script at work: its request goes on event by event, through any door, and may stop anywhere.
+//! One actor of a script at work: its request or its job goes on event by event, through any door, and may stop
+//! anywhere.
 #![tactic(auto)]
 
 mod asker;
+mod check;
 mod get;
 mod laws;
 mod list;

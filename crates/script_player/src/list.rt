@@ -7,7 +7,7 @@ ghost use Rattle.realm_model.specs.Histories.{Legal};
 ghost use Rattle.call_service.specs.Serving.{IsNew};
 ghost use Rattle.script_words.specs.declared.line.Verb.TheVariants as verbs;
 ghost use Rattle.script_player.specs.Going.{GoesUpTo, Steps};
-ghost use Rattle.script_player.specs.Meanings.{Means};
+ghost use Rattle.script_player.specs.Meanings.{MeansRequest};
 ghost use Rattle.script_player.specs.Plays.{asked_list, ListStands, ListEnded, FitsList};
 
 use crate::asker::standard_asker;
@@ -76,7 +76,7 @@ pub(crate) fn list<D: Door>(
 pub(crate) fn listed(task: &ListTask) -> Option<&Outcome>
     ensures there { IsSome result ↔ ListEnded task.now }
     ensures right { IfSome result (λ outcome. (settings : SettingsView) (d : DoorView) → FitsList task.now settings d
-        → Means (asked_list task.now).zone (asked_list task.now).verb outcome.now [] settings d) }
+        → MeansRequest (asked_list task.now).zone (asked_list task.now).verb outcome.now [] settings d) }
 {
     task.outcome()
 }

@@ -10,17 +10,19 @@ ghost use Rattle.script_player.specs.Meanings.{Means};
 ghost use Rattle.script_player.specs.Plays.{asked, StandsBy, IsPlaying, IsEnded, StandsAs, shown_of, fits};
 ghost use Rattle.script_player.specs.Requests.{HasFewBytes};
 
+use crate::check::{check, checked, new_check};
 use crate::get::GetPlay;
 use crate::list::{list, listed, new_list};
 use crate::put::PutPlay;
 use crate::stat::{count, counted, new_stat};
+use job_words::Job;
 use realm_door::Door;
 use realm_model::Settings;
-use script_words::Verb;
+use script_words::{ActorOutcome, Verb};
 use std::alloc::{AllocError, Global};
 use task_container::ContainerTask;
 use task_list::ListTask;
-use task_words::Outcome;
+use task_repair::RepairTask;
 use turn_cell::DoorFault;
 
 /// How far an actor went.
@@ -32,17 +34,18 @@ pub enum Gone {
     Ended,
 }
 
-/// The request of an actor, as far as it came.
+/// The request or the job of an actor, as far as it came.
 #[derive(Drop)]
 pub(crate) enum Acting {
     Put(PutPlay),
     Get(GetPlay),
     Stat(ContainerTask),
     List(ListTask),
+    Check(RepairTask),
 }
 
-/// One actor of a script: a request of the one user, in one zone, which goes on event by event. It keeps
-/// the bytes that a GET shows; of a body of letters it makes 64 KiB at a time.
+/// One actor of a script: a request of the one user, or a job of an administrator, in one zone, which goes on
+/// event by event. It keeps the bytes that a GET shows; of a body of letters it makes 64 KiB at a time.
 #[derive(Drop)]
 pub struct Player {
     acting: Acting,
@@ -73,6 +76,7 @@ impl Player {
             }
             Verb::Stat { container } => Acting::Stat(new_stat(alloc, zone, container)?),
             Verb::List { container } => Acting::List(new_list(alloc, zone, container)?),
+            Verb::Job(Job::Check { container }) => Acting::Check(new_check(zone, container)),
         };
         Ok(Player { acting })
     }
@@ -96,6 +100,7 @@ impl Player {
             Acting::Get(play) => play.event(alloc, door, moment),
             Acting::Stat(task) => count(alloc, task, door, moment),
             Acting::List(task) => list(alloc, task, door, moment),
+            Acting::Check(task) => check(alloc, task, door, moment),
         }
     }
 
@@ -134,16 +139,17 @@ impl Player {
     }
 
     /// The outcome, from its event on.
-    pub fn outcome(&self) -> Option<&Outcome>
+    pub fn outcome(&self) -> Option<ActorOutcome<'_>>
         ensures there { IsSome result ↔ IsEnded self.now }
         ensures right { IfSome result (λ outcome. (settings : SettingsView) (d : DoorView) → fits self.now settings d
-            → Means (asked self.now).zone (asked self.now).verb outcome.now (shown_of self.now) settings d) }
+            → Means (asked self.now).zone (asked self.now).verb outcome (shown_of self.now) settings d) }
     {
         match &self.acting {
-            Acting::Put(play) => play.outcome(),
-            Acting::Get(play) => play.outcome(),
-            Acting::Stat(task) => counted(task),
-            Acting::List(task) => listed(task),
+            Acting::Put(play) => Some(ActorOutcome::Request(play.outcome()?)),
+            Acting::Get(play) => Some(ActorOutcome::Request(play.outcome()?)),
+            Acting::Stat(task) => Some(ActorOutcome::Request(counted(task)?)),
+            Acting::List(task) => Some(ActorOutcome::Request(listed(task)?)),
+            Acting::Check(task) => Some(ActorOutcome::Job(checked(task)?)),
         }
     }
 

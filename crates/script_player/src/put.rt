@@ -12,7 +12,7 @@ ghost use Rattle.task_put.specs.Taking.{WantsBytes};
 ghost use Rattle.script_words.specs.Bodies.{body_bytes};
 ghost use Rattle.script_words.specs.declared.line.Verb.TheVariants.{Put};
 ghost use Rattle.script_player.specs.Going.{GoesUpTo, Steps};
-ghost use Rattle.script_player.specs.Meanings.{Means};
+ghost use Rattle.script_player.specs.Meanings.{MeansRequest};
 ghost use Rattle.script_player.specs.Plays.{asked_put, TakesNext, PutStands, PutEnded, FitsPut, left_of};
 
 use crate::asker::standard_asker;
@@ -174,7 +174,7 @@ impl PutPlay {
     pub(crate) fn outcome(&self) -> Option<&Outcome>
         ensures there { IsSome result ↔ PutEnded self.now }
         ensures right { IfSome result (λ outcome. (settings : SettingsView) (d : DoorView) → FitsPut self.now settings d
-            → Means (asked_put self.now).zone (asked_put self.now).verb outcome.now [] settings d) }
+            → MeansRequest (asked_put self.now).zone (asked_put self.now).verb outcome.now [] settings d) }
     {
         self.task.outcome()
     }

@@ -7,7 +7,7 @@ ghost use Rattle.realm_model.specs.Histories.{Legal};
 ghost use Rattle.call_service.specs.Serving.{IsNew};
 ghost use Rattle.script_words.specs.declared.line.Verb.TheVariants.{Stat};
 ghost use Rattle.script_player.specs.Going.{GoesUpTo, Steps};
-ghost use Rattle.script_player.specs.Meanings.{Means};
+ghost use Rattle.script_player.specs.Meanings.{MeansRequest};
 ghost use Rattle.script_player.specs.Plays.{asked_stat, StatStands, StatEnded, FitsStat};
 
 use crate::asker::standard_asker;
@@ -64,7 +64,7 @@ pub(crate) fn count<D: Door>(
 pub(crate) fn counted(task: &ContainerTask) -> Option<&Outcome>
     ensures there { IsSome result ↔ StatEnded task.now }
     ensures right { IfSome result (λ outcome. (settings : SettingsView) (d : DoorView) → FitsStat task.now settings d
-        → Means (asked_stat task.now).zone (asked_stat task.now).verb outcome.now [] settings d) }
+        → MeansRequest (asked_stat task.now).zone (asked_stat task.now).verb outcome.now [] settings d) }
 {
     task.outcome()
 }

@@ -8,7 +8,7 @@ use object_words::{BucketName, ObjectName};
 use realm_model::Settings;
 use realm_stage::RealmStage;
 use rgw_types::{Bytes, Text};
-use script_words::{ScriptBody, Verb};
+use script_words::{ActorOutcome, ScriptBody, Verb};
 use std::alloc::Global;
 use std::test::Fail;
 use task_words::{MapReply, Outcome};
@@ -48,17 +48,19 @@ fn object(alloc: Global) -> Result<ObjectName, Fail> {
 }
 
 /// Whether the outcome is that an object of this digest was stored.
-fn is_stored(outcome: Option<&Outcome>, digest: u128) -> bool {
+fn is_stored(outcome: Option<ActorOutcome<'_>>, digest: u128) -> bool {
     match outcome {
-        Some(Outcome::Done(MapReply::Stored { etag, .. })) => u128::from_be_bytes(*etag) == digest,
+        Some(ActorOutcome::Request(Outcome::Done(MapReply::Stored { etag, .. }))) => {
+            u128::from_be_bytes(*etag) == digest
+        }
         _ => false,
     }
 }
 
 /// Whether the outcome is that the container has so many objects and bytes.
-fn is_counted(outcome: Option<&Outcome>, count: u64, sum: u64) -> bool {
+fn is_counted(outcome: Option<ActorOutcome<'_>>, count: u64, sum: u64) -> bool {
     match outcome {
-        Some(Outcome::Done(MapReply::Counted { objects, bytes, .. })) => {
+        Some(ActorOutcome::Request(Outcome::Done(MapReply::Counted { objects, bytes, .. }))) => {
             *objects == count && *bytes == sum
         }
         _ => false,

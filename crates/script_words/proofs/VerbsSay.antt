@@ -1,11 +1,12 @@
 -- Bodies and verbs: the grammar and the reading of words say the same.
-use Rattle.std.proofs.Common.{◌≡◌, inl, inr, ⊎_elim, ℕ, ◌≤◌, ◌==◌, Bool, true, false, cond, List, [], ◌∷◌, Some, None, refl, sym, ap, ◌∙◌, subst, codes}
+use Rattle.std.proofs.Common.{◌≡◌, inl, inr, ⊎_elim, ℕ, ◌≤◌, ◌==◌, Bool, true, false, cond, List, [], ◌∷◌, Option, Some, None, refl, sym, ap, ◌∙◌, subst, codes}
 use Rattle.std.specs.Prelude.{bytes_eq, nat_le}
 use Rattle.std.specs.Option.{option_map, option_and_then}
 use Rattle.std.proofs.lemmas.Bool.{eqb-true, le-leb, leb-true, false_from_ne_true}
 use Rattle.std.proofs.lemmas.Option.{none-some, same_Some, cond_some}
+use Rattle.job_words.specs.declared.job.Job.TheVariants.{Check}
 use Rattle.script_words.specs.Lines.{is_container, most_letters, IsPlain, IsBody, IsVerb}
-use Rattle.script_words.specs.Reading.{number_in, container_in, path_in, times_in, body_in, put_in, get_in, stat_in, list_in, verb_in}
+use Rattle.script_words.specs.Reading.{number_in, container_in, path_in, times_in, body_in, put_in, get_in, stat_in, list_in, check_in, verb_in}
 use Rattle.script_words.specs.declared.line.ScriptBody.{ScriptBody}
 use Rattle.script_words.specs.declared.line.ScriptBody.TheVariants.{Word, Times}
 use Rattle.script_words.specs.declared.line.Verb.{Verb}
@@ -85,6 +86,8 @@ verb_says words (Stat container) is =
     ap verb_in is.0 ∙ ap (option_map (λ c. Stat c)) (kept (is_container container) container container is.1 refl)
 verb_says words (verbs.List container) is =
     ap verb_in is.0 ∙ ap (option_map (λ c. verbs.List c)) (kept (is_container container) container container is.1 refl)
+verb_says words (verbs.Job (Check container)) is =
+    ap verb_in is.0 ∙ ap (option_map (λ c. verbs.Job (Check c))) (kept (is_container container) container container is.1 refl)
 
 put_means : (command : List ℕ) (words : List (List ℕ)) (verb : Verb) → command ≡ codes "put" → put_in words ≡ Some verb → IsVerb (command ∷ words) verb
 put_means command [] verb is read = absurd (none-some verb read)
@@ -120,21 +123,29 @@ list_means command (word ∷ []) verb is read =
     let name = cond_some (is_container word) word first.0 first.1 in
     subst (IsVerb (command ∷ word ∷ [])) (ap (λ c. verbs.List c) name.1 ∙ first.2) (ap (λ c. c ∷ word ∷ []) is, name.0)
 
+check_means : (command : List ℕ) (words : List (List ℕ)) (verb : Verb) → command ≡ codes "check" → check_in words ≡ Some verb → IsVerb (command ∷ words) verb
+check_means command [] verb is read = absurd (none-some verb read)
+check_means command (word ∷ more ∷ words) verb is read = absurd (none-some verb read)
+check_means command (word ∷ []) verb is read =
+    let first = map_some (λ c. verbs.Job (Check c)) (container_in word) verb read in
+    let name = cond_some (is_container word) word first.0 first.1 in
+    subst (IsVerb (command ∷ word ∷ [])) (ap (λ c. verbs.Job (Check c)) name.1 ∙ first.2) (ap (λ c. c ∷ word ∷ []) is, name.0)
+
+-- one of the verbs, or the next
+next_verb : (command text : List ℕ) (words : List (List ℕ)) (verb : Verb) (here rest : Option Verb)
+    → (command ≡ text → here ≡ Some verb → IsVerb (command ∷ words) verb)
+    → (rest ≡ Some verb → IsVerb (command ∷ words) verb)
+    → cond (bytes_eq command text) here rest ≡ Some verb → IsVerb (command ∷ words) verb
+next_verb command text words verb here rest means others read = ⊎_elim
+    (λ (p : (bytes_eq command text ≡ true) × (here ≡ Some verb)). means (same_word command text p.0) p.1)
+    (λ (q : (bytes_eq command text ≡ false) × (rest ≡ Some verb)). others q.1)
+    (either_some (bytes_eq command text) here rest verb read)
+
 pub verb_means : (words : List (List ℕ)) (verb : Verb) → verb_in words ≡ Some verb → IsVerb words verb
 verb_means [] verb read = absurd (none-some verb read)
 verb_means (command ∷ words) verb read =
-    let list = cond (bytes_eq command (codes "list")) (list_in words) None in
-    let stat = cond (bytes_eq command (codes "stat")) (stat_in words) list in
-    let get = cond (bytes_eq command (codes "get")) (get_in words) stat in ⊎_elim
-    (λ (p : (bytes_eq command (codes "put") ≡ true) × (put_in words ≡ Some verb)). put_means command words verb (same_word _ _ p.0) p.1)
-    (λ (q : (bytes_eq command (codes "put") ≡ false) × (get ≡ Some verb)). ⊎_elim
-    (λ (p : (bytes_eq command (codes "get") ≡ true) × (get_in words ≡ Some verb)). get_means command words verb (same_word _ _ p.0) p.1)
-    (λ (r : (bytes_eq command (codes "get") ≡ false) × (stat ≡ Some verb)). ⊎_elim
-    (λ (p : (bytes_eq command (codes "stat") ≡ true) × (stat_in words ≡ Some verb)). stat_means command words verb (same_word _ _ p.0) p.1)
-    (λ (s : (bytes_eq command (codes "stat") ≡ false) × (list ≡ Some verb)). ⊎_elim
-    (λ (p : (bytes_eq command (codes "list") ≡ true) × (list_in words ≡ Some verb)). list_means command words verb (same_word _ _ p.0) p.1)
-    (λ (t : (bytes_eq command (codes "list") ≡ false) × (None ≡ Some verb)). absurd (none-some verb t.1))
-    (either_some _ (list_in words) None verb s.1))
-    (either_some _ (stat_in words) list verb r.1))
-    (either_some _ (get_in words) stat verb q.1))
-    (either_some _ (put_in words) get verb read)
+    next_verb command (codes "put") words verb _ _ (put_means command words verb)
+    (next_verb command (codes "get") words verb _ _ (get_means command words verb)
+    (next_verb command (codes "stat") words verb _ _ (stat_means command words verb)
+    (next_verb command (codes "list") words verb _ _ (list_means command words verb)
+    (next_verb command (codes "check") words verb _ _ (check_means command words verb) (λ none. absurd (none-some verb none)))))) read

@@ -5,6 +5,8 @@ use Rattle.std.specs.List.{list_all, slice_split}
 use Rattle.std.specs.Char.{is_ascii_digit}
 use Rattle.std.specs.Str.{is_utf8}
 use Rattle.std.specs.Str.Parse.{digits_value}
+use Rattle.job_words.specs.declared.job.Job.{Job}
+use Rattle.job_words.specs.declared.job.Job.TheVariants.{Check}
 use Rattle.object_words.specs.Limits.{is_name}
 use Rattle.script_words.specs.Names.{is_actor_name}
 use Rattle.script_words.specs.declared.line.Line.{Line}
@@ -81,6 +83,10 @@ IsBody word (Times n) = (digits : List ℕ) × (word ≡ 42 ∷ digits) × IsNum
 
 -- ---- lines
 
+-- a job of an administrator, by its words
+abbrev pub IsJob : List (List ℕ) → Job → Type 0
+IsJob words (Check container) = (words ≡ codes "check" ∷ container ∷ []) × (is_container container ≡ true)
+
 -- what an actor does, by its words
 abbrev pub IsVerb : List (List ℕ) → Verb → Type 0
 IsVerb words (Put container name body) =
@@ -88,6 +94,7 @@ IsVerb words (Put container name body) =
 IsVerb words (Get container name) = (path : List ℕ) × (words ≡ codes "get" ∷ path ∷ []) × IsPath path container name
 IsVerb words (Stat container) = (words ≡ codes "stat" ∷ container ∷ []) × (is_container container ≡ true)
 IsVerb words (verbs.List container) = (words ≡ codes "list" ∷ container ∷ []) × (is_container container ≡ true)
+IsVerb words (verbs.Job job) = IsJob words job
 
 -- the words are an actor behind this command, and nothing more
 pub record IsOfActor (command : List ℕ) (words : List (List ℕ)) (actor : List ℕ) : Type 0 where

@@ -3,6 +3,7 @@ use Rattle.std.specs.Prelude.{◌≡◌, ℕ, ◌+◌, ◌-◌, ◌==◌, ◌&&�
 use Rattle.std.specs.Option.{option_map, option_and_then}
 use Rattle.std.specs.List.{position}
 use Rattle.std.specs.Str.Parse.{digits_value}
+use Rattle.job_words.specs.declared.job.Job.TheVariants.{Check}
 use Rattle.script_words.specs.Lines.{is_number, is_text, is_slash, is_container, most_letters}
 use Rattle.script_words.specs.Names.{is_actor_name}
 use Rattle.script_words.specs.declared.line.Line.{Line}
@@ -82,13 +83,18 @@ abbrev pub list_in : List (List ℕ) → Option Verb
 list_in (word ∷ []) = option_map (λ container. verbs.List container) (container_in word)
 list_in words = None
 
+abbrev pub check_in : List (List ℕ) → Option Verb
+check_in (word ∷ []) = option_map (λ container. verbs.Job (Check container)) (container_in word)
+check_in words = None
+
 abbrev pub verb_in : List (List ℕ) → Option Verb
 verb_in [] = None
 verb_in (verb ∷ words) =
     if bytes_eq verb (codes "put") then put_in words else
     (if bytes_eq verb (codes "get") then get_in words else
     (if bytes_eq verb (codes "stat") then stat_in words else
-    (if bytes_eq verb (codes "list") then list_in words else None)))
+    (if bytes_eq verb (codes "list") then list_in words else
+    (if bytes_eq verb (codes "check") then check_in words else None))))
 
 -- ---- lines
 

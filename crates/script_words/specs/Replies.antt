@@ -2,14 +2,19 @@
 use Rattle.std.specs.Prelude.{ℕ, List, [], ◌∷◌, ◌++◌, flat_map, Option, Some, None, codes, decimal}
 use Rattle.hex.specs.Hex.{encode_lower}
 use Rattle.call_words.specs.Texts.{refusal_in, refusal_by}
+use Rattle.job_words.specs.declared.outcome.JobOutcome.{JobOutcome}
+use Rattle.job_words.specs.declared.outcome.JobOutcome.TheVariants.{Repaired, NoBucket}
 use Rattle.list_words.specs.declared.row.ListedRow.{ListedRow}
 use Rattle.list_words.specs.Listings.{row_key}
 use Rattle.swift_reply.specs.declared.reply.SwiftRefusal.{SwiftRefusal}
 use Rattle.swift_reply.specs.Replies.{refusal_code, refusal_line}
 use Rattle.task_words.specs.declared.outcome.Outcome.{Outcome}
 use Rattle.task_words.specs.declared.outcome.Outcome.TheVariants.{Done, LateRead}
+use Rattle.script_words.specs.declared.outcome.ActorOutcome.{ActorOutcome}
+use Rattle.script_words.specs.declared.outcome.ActorOutcome.TheVariants as actors
 use Rattle.task_words.specs.declared.reply.MapReply.{MapReply}
 use Rattle.task_words.specs.declared.reply.MapReply.TheVariants.{Stored, Shown, Same, Counted, Listed, Refused}
+use Rattle.task_words.specs.declared.reply.Refusal.TheVariants.{NoContainer}
 
 -- the code and the line of a refusal
 abbrev pub refusal_text : SwiftRefusal → List ℕ
@@ -43,12 +48,22 @@ abbrev pub refusal_text_if : Option SwiftRefusal → List ℕ
 refusal_text_if None = codes "400 Body failed"
 refusal_text_if (Some refusal) = refusal_text refusal
 
--- What is replied where a task ended so, with the bytes that are shown. No script has a condition or a body that fails, so
+-- What is replied where a request ended so, with the bytes that are shown. No script has a condition or a body that fails, so
 -- that the text of such an end is never printed.
-abbrev pub outcome_text : Outcome → List ℕ → List ℕ
-outcome_text (Done reply) shown = map_text reply shown
-outcome_text (LateRead read_at clock) shown = codes "late " ++ decimal read_at ++ 32 ∷ decimal clock
-outcome_text outcome shown = refusal_text_if (refusal_by outcome)
+abbrev pub request_text : Outcome → List ℕ → List ℕ
+request_text (Done reply) shown = map_text reply shown
+request_text (LateRead read_at clock) shown = codes "late " ++ decimal read_at ++ 32 ∷ decimal clock
+request_text outcome shown = refusal_text_if (refusal_by outcome)
+
+-- what is replied where a job ended so
+abbrev pub job_text : JobOutcome → List ℕ
+job_text (Repaired applied left) = codes "200 repaired=" ++ decimal applied ++ codes " left=" ++ decimal left
+job_text NoBucket = refusal_text (refusal_in NoContainer)
+
+-- what is replied where an actor ended so, with the bytes that are shown
+abbrev pub outcome_text : ActorOutcome → List ℕ → List ℕ
+outcome_text (actors.Request outcome) shown = request_text outcome.now shown
+outcome_text (actors.Job outcome) shown = job_text outcome.now
 
 -- ---- the lines that are printed
 

@@ -5,6 +5,7 @@ mod actor;
 mod laws;
 mod line;
 mod no_line;
+mod outcome;
 mod reading;
 mod replies;
 mod verbs;
@@ -13,8 +14,12 @@ mod words;
 pub use actor::ActorName;
 pub use laws::lines_have_one_meaning;
 pub use line::{Line, ScriptBody, Verb};
+pub use outcome::ActorOutcome;
 pub use reading::read_line;
-pub use replies::{push_bad_line, push_count_line, push_named_line, push_outcome, push_reply_line};
+pub use replies::{
+    push_bad_line, push_count_line, push_job_outcome, push_named_line, push_outcome,
+    push_reply_line, push_request_outcome,
+};
 
 #[cfg(test)]
 mod tests;

@@ -1,4 +1,5 @@
 use crate::ActorName;
+use job_words::Job;
 use object_words::{BucketName, ObjectName};
 use rgw_types::Bytes;
 
@@ -33,6 +34,8 @@ pub enum Verb {
     List {
         container: BucketName,
     },
+    /// Does a job of an administrator: `check C`.
+    Job(Job),
 }
 
 /// A line of a script.

@@ -2,9 +2,10 @@
 ghost use Rattle.std.specs.Prelude.{◌≡◌, ◌++◌, ◌∷◌, [], OnOk, codes, decimal};
 ghost use Rattle.call_words.specs.Texts.{refusal_in};
 ghost use Rattle.task_words.specs.declared.reply.Refusal.TheVariants.{Denied};
-ghost use Rattle.script_words.specs.Replies.{refusal_text, behind_blank, listed_text, keys_text, map_text, outcome_text, reply_line, named_line, count_line, bad_line};
+ghost use Rattle.script_words.specs.Replies.{refusal_text, behind_blank, listed_text, keys_text, map_text, request_text, job_text, outcome_text, reply_line, named_line, count_line, bad_line};
 
-use crate::ActorName;
+use crate::{ActorName, ActorOutcome};
+use job_words::JobOutcome;
 use list_words::ListedRow;
 use object_words::etag_digits;
 use std::alloc::AllocError;
@@ -120,11 +121,15 @@ fn push_map_reply(out: &mut Vec<u8>, reply: &MapReply, shown: &[u8]) -> Result<(
     }
 }
 
-/// Adds what is replied where a task ended so, with the bytes that it shows: `201 {etag}`,
+/// Adds what is replied where a request ended so, with the bytes that it shows: `201 {etag}`,
 /// `200 {size} {bytes}`, `200 objects={n} bytes={n}`, `200 {key} {key}` or `204` for a listing,
 /// `late {read_at} {clock}`, or the code and the line of the Swift API's refusal.
-pub fn push_outcome(out: &mut Vec<u8>, outcome: &Outcome, shown: &[u8]) -> Result<(), AllocError>
-    ensures { OnOk result (out.new.items ≡ out.old.items ++ outcome_text outcome.now shown.now) }
+pub fn push_request_outcome(
+    out: &mut Vec<u8>,
+    outcome: &Outcome,
+    shown: &[u8],
+) -> Result<(), AllocError>
+    ensures { OnOk result (out.new.items ≡ out.old.items ++ request_text outcome.now shown.now) }
 {
     match outcome {
         Outcome::Done(reply) => push_map_reply(out, reply, shown),
@@ -141,10 +146,45 @@ pub fn push_outcome(out: &mut Vec<u8>, outcome: &Outcome, shown: &[u8]) -> Resul
     }
 }
 
-/// Adds the line of a reply: how a task ended, with the bytes that it shows.
-pub fn push_reply_line(out: &mut Vec<u8>, outcome: &Outcome, shown: &[u8]) -> Result<(), AllocError>
+/// Adds what is replied where a job ended so: `200 repaired={n} left={n}`, or the code and the line of the
+/// Swift API's refusal.
+pub fn push_job_outcome(out: &mut Vec<u8>, outcome: &JobOutcome) -> Result<(), AllocError>
+    ensures { OnOk result (out.new.items ≡ out.old.items ++ job_text outcome.now) }
+{
+    match outcome {
+        JobOutcome::Repaired { applied, left } => {
+            push_counted(out, "200 repaired=", *applied)?;
+            push_counted(out, " left=", *left)
+        }
+        JobOutcome::NoBucket => {
+            let text = refusal_text(Refusal::NoContainer);
+            out.extend_from_slice(text.as_bytes())
+        }
+    }
+}
+
+/// Adds what is replied where an actor ended so, with the bytes that it shows.
+pub fn push_outcome(
+    out: &mut Vec<u8>,
+    outcome: ActorOutcome<'_>,
+    shown: &[u8],
+) -> Result<(), AllocError>
+    ensures { OnOk result (out.new.items ≡ out.old.items ++ outcome_text outcome.entry shown.now) }
+{
+    match outcome {
+        ActorOutcome::Request(outcome) => push_request_outcome(out, outcome, shown),
+        ActorOutcome::Job(outcome) => push_job_outcome(out, outcome),
+    }
+}
+
+/// Adds the line of a reply: how an actor ended, with the bytes that it shows.
+pub fn push_reply_line(
+    out: &mut Vec<u8>,
+    outcome: ActorOutcome<'_>,
+    shown: &[u8],
+) -> Result<(), AllocError>
     ensures { OnOk result (out.new.items
-        ≡ out.old.items ++ reply_line (outcome_text outcome.now shown.now)) }
+        ≡ out.old.items ++ reply_line (outcome_text outcome.entry shown.now)) }
 {
     push_outcome(out, outcome, shown)?;
     out.extend_from_slice(b"\n")
@@ -162,11 +202,11 @@ fn push_actor(out: &mut Vec<u8>, actor: &ActorName) -> Result<(), AllocError>
 pub fn push_named_line(
     out: &mut Vec<u8>,
     actor: &ActorName,
-    outcome: &Outcome,
+    outcome: ActorOutcome<'_>,
     shown: &[u8],
 ) -> Result<(), AllocError>
     ensures { OnOk result (out.new.items
-        ≡ out.old.items ++ named_line actor.now (outcome_text outcome.now shown.now)) }
+        ≡ out.old.items ++ named_line actor.now (outcome_text outcome.entry shown.now)) }
 {
     push_actor(out, actor)?;
     push_reply_line(out, outcome, shown)

@@ -1,4 +1,5 @@
 use super::*;
+use job_words::JobOutcome;
 use std::test::Fail;
 use task_words::{MapReply, Outcome, Refusal};
 
@@ -18,6 +19,9 @@ fn lines_and_what_is_none(rt: HostRuntime) -> Result<(), Fail> {
         ("do 2 list box", true),
         ("do 1 list", false),
         ("do 1 list box 1", false),
+        ("start c 2 check box", true),
+        ("do 1 check", false),
+        ("do 1 check a/b", false),
         ("do 1 put box/k *5368709120", true),
         ("do 1 put box/k *5368709121", false),
         ("jump", false),
@@ -75,7 +79,26 @@ fn texts_of_replies(rt: HostRuntime) -> Result<(), Fail> {
         ),
     ] {
         let mut out = Vec::new(rt.alloc());
-        push_outcome(&mut out, &outcome, b"")?;
+        push_request_outcome(&mut out, &outcome, b"")?;
+        assert_eq!(rt; out.as_slice(), text.as_bytes());
+    }
+    Ok(())
+}
+
+#[test]
+fn texts_of_jobs(rt: HostRuntime) -> Result<(), Fail> {
+    for (outcome, text) in [
+        (
+            JobOutcome::Repaired {
+                applied: 2,
+                left: 10,
+            },
+            "200 repaired=2 left=10",
+        ),
+        (JobOutcome::NoBucket, "404 No such container"),
+    ] {
+        let mut out = Vec::new(rt.alloc());
+        push_job_outcome(&mut out, &outcome)?;
         assert_eq!(rt; out.as_slice(), text.as_bytes());
     }
     Ok(())
@@ -88,12 +111,13 @@ fn lines_that_are_printed(rt: HostRuntime) -> Result<(), Fail> {
         return Err(Fail::from("no line"));
     };
     push_count_line(&mut out, &actor, 2)?;
-    push_named_line(&mut out, &actor, &Outcome::Busy { id: 1 }, b"")?;
-    push_reply_line(&mut out, &Outcome::LateTag, b"")?;
+    let busy = Outcome::Busy { id: 1 };
+    push_named_line(&mut out, &actor, ActorOutcome::Request(&busy), b"")?;
+    push_reply_line(&mut out, ActorOutcome::Job(&JobOutcome::NoBucket), b"")?;
     push_bad_line(&mut out, 7)?;
     assert_eq!(rt;
         out.as_slice(),
-        b"h 2\nh 503 Busy: 1\n503 Late: tag\nbad line 7\n".as_slice()
+        b"h 2\nh 503 Busy: 1\n404 No such container\nbad line 7\n".as_slice()
     );
     Ok(())
 }

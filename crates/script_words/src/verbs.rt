@@ -2,11 +2,12 @@
 ghost use Rattle.std.specs.Prelude.{◌≡◌, map};
 ghost use Rattle.std.specs.List.{position};
 ghost use Rattle.script_words.specs.Lines.{is_slash};
-ghost use Rattle.script_words.specs.Reading.{Reads, path_in, times_in, body_in, put_in, get_in, stat_in, list_in, verb_in};
+ghost use Rattle.script_words.specs.Reading.{Reads, path_in, times_in, body_in, put_in, get_in, stat_in, list_in, check_in, verb_in};
 
 use crate::no_line::NoLine;
 use crate::words::{container_in, is, name_in, number_in};
 use crate::{ScriptBody, Verb};
+use job_words::Job;
 use object_words::{BucketName, ObjectName};
 use rgw_types::Bytes;
 use std::alloc::Global;
@@ -108,6 +109,16 @@ fn list_in(alloc: Global, words: &[&[u8]]) -> Result<Verb, NoLine>
     })
 }
 
+fn check_in(alloc: Global, words: &[&[u8]]) -> Result<Verb, NoLine>
+    ensures { Reads result (check_in (map (λ word. word.now) words.now)) }
+{
+    let [container] = words else {
+        return Err(NoLine::Bad);
+    };
+    let container = container_in(alloc, container)?;
+    Ok(Verb::Job(Job::Check { container }))
+}
+
 /// The verb with its arguments that the words are.
 pub(crate) fn verb_in(alloc: Global, words: &[&[u8]]) -> Result<Verb, NoLine>
     ensures { Reads result (verb_in (map (λ word. word.now) words.now)) }
@@ -123,6 +134,8 @@ pub(crate) fn verb_in(alloc: Global, words: &[&[u8]]) -> Result<Verb, NoLine>
         stat_in(alloc, arguments)
     } else if is(verb, "list") {
         list_in(alloc, arguments)
+    } else if is(verb, "check") {
+        check_in(alloc, arguments)
     } else {
         Err(NoLine::Bad)
     }

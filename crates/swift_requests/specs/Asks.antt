@@ -51,17 +51,9 @@ has_taken_method head = is_get head || (is_bodiless head.method || is_put head)
 abbrev pub is_sent : List ℕ → Head → Bool
 is_sent name head = list_any (λ field. eq_ignore_case field.name name) head.fields
 
--- no coding of the body, and no wait for a 100
-abbrev pub is_plain : Head → Bool
-is_plain head = not (is_sent (codes "transfer-encoding") head) && not (is_sent (codes "expect") head)
-
 -- a request for an object has a form that is taken; a PUT is no copy
 unfoldable pub is_taken : Head → Bool
-is_taken head = has_taken_method head && (is_plain head && not (is_put head && is_sent (codes "x-copy-from") head))
-
--- a request for a container has a form that is taken: a GET, which lists it
-unfoldable pub is_listed : Head → Bool
-is_listed head = is_get head && is_plain head
+is_taken head = has_taken_method head && not (is_put head && is_sent (codes "x-copy-from") head)
 
 -- the account is that of the one user
 abbrev pub is_own : List ℕ → Bool
@@ -106,11 +98,11 @@ has_put_sizes head = is_kind_if_any (value_of (codes "content-type") head.fields
 
 -- ---- lengths
 
--- no length is told
+-- neither a length is told, nor chunks
 abbrev pub is_without_length : Framing → Bool
 is_without_length Empty = true
 is_without_length (Length n) = false
-is_without_length Chunked = true
+is_without_length Chunked = false
 
 -- a length above that is told
 abbrev pub is_above : ℕ → Framing → Bool
@@ -174,7 +166,7 @@ asked_at largest head query targets.Unknown = Refused NoPath
 asked_at largest head query targets.Auth = Refused NotBuilt
 asked_at largest head query (targets.Account account) = Refused NotBuilt
 asked_at largest head query (targets.Container account container) =
-    if is_own account && is_listed head then list_asked largest container query head else Refused NotBuilt
+    if is_own account && is_get head then list_asked largest container query head else Refused NotBuilt
 asked_at largest head query (targets.Thing account container name) =
     if is_own account && is_taken head then object_asked largest container name head else Refused NotBuilt
 

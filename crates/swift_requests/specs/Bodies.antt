@@ -9,37 +9,40 @@ use Rattle.http_model.specs.Forms.{wants_close, waits}
 use Rattle.swift_requests.specs.declared.asked.Asked.{Asked}
 use Rattle.swift_requests.specs.declared.asked.Asked.TheVariants.{Refused, Put}
 use Rattle.swift_requests.specs.declared.body.BodyUse.{BodyUse}
-use Rattle.swift_requests.specs.declared.body.BodyUse.TheVariants.{Fed, Dropped, Unread}
+use Rattle.swift_requests.specs.declared.body.BodyUse.TheVariants.{Fed, Awaited, Dropped, Unread}
 
--- how many bytes the body has
-abbrev pub body_len : Framing → ℕ
-body_len Empty = 0
-body_len (Length n) = n
-body_len Chunked = 0
-
--- the length is known, and at most that
+-- no length above that is told; what chunks hold shows when they are read
 abbrev pub is_within : ℕ → Framing → Bool
 is_within largest Empty = true
 is_within largest (Length n) = nat_le n largest
-is_within largest Chunked = false
+is_within largest Chunked = true
 
--- the bytes of a body that nobody wants: they are left unread where the client waits for a 100, or has too many of them
+-- a body that nobody wants is left unread where the client waits for a 100, or tells that it is too long
 abbrev pub unwanted : ℕ → Head → BodyUse
-unwanted largest head =
-    if is_within largest head.framing && not (waits head) then Dropped (body_len head.framing) else Unread
+unwanted largest head = if is_within largest head.framing && not (waits head) then Dropped else Unread
 
 -- what becomes of the body of a request that asks this
 abbrev pub body_use : ℕ → Head → Asked → BodyUse
-body_use largest head (Put command) = Fed (body_len head.framing)
+body_use largest head (Put command) = if waits head then Awaited else Fed
 body_use largest head (Refused NotBuilt) = Unread
 body_use largest head (Refused TooLarge) = Unread
 body_use largest head asked = unwanted largest head
 
+-- nothing of the body is read, whatever the container's row says
 abbrev pub is_unread : BodyUse → Bool
-is_unread (Fed n) = false
-is_unread (Dropped n) = false
+is_unread Fed = false
+is_unread Awaited = false
+is_unread Dropped = false
 is_unread Unread = true
 
--- the reply to the kth request of a connection says that the connection is closed (RFC 9112, section 9.6)
-unfoldable pub closes : ℕ → Head → BodyUse → Bool
-closes k head plan = is_unread plan || ((head.minor == 0) || (wants_close head || nat_le REQUEST_LIMIT k))
+-- it is read behind a 100, or left
+abbrev pub is_awaited : BodyUse → Bool
+is_awaited Fed = false
+is_awaited Awaited = true
+is_awaited Dropped = false
+is_awaited Unread = false
+
+-- the reply to the kth request of a connection says that the connection is closed, where its body is left, or not (RFC 9112,
+-- section 9.6)
+unfoldable pub closes : ℕ → Head → Bool → Bool
+closes k head left = left || ((head.minor == 0) || (wants_close head || nat_le REQUEST_LIMIT k))

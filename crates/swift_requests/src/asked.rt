@@ -9,7 +9,7 @@ ghost use Rattle.swift_requests.specs.Metadata.{meta_of};
 
 use crate::command::{conditions, kind, span};
 use crate::etag::sent_etag;
-use crate::form::{has_put_sizes, has_put_texts, has_texts, is_listed, is_taken, is_user};
+use crate::form::{has_put_sizes, has_put_texts, has_texts, is_taken, is_user};
 use crate::metadata::SentMetadata;
 use http_model::{Framing, Head};
 use list_words::ListCommand;
@@ -56,7 +56,7 @@ fn invalid_by(fault: WordFault) -> Invalid
 fn is_without_length(framing: Framing) -> bool
     ensures { result ≡ is_without_length framing }
 {
-    !matches!(framing, Framing::Length(_))
+    framing == Framing::Empty
 }
 
 fn is_above(largest: u64, framing: Framing) -> bool
@@ -239,7 +239,7 @@ fn asked_at(
         Target::Auth => Ok(Asked::Refused(SwiftRefusal::NotBuilt)),
         Target::Account(_account) => Ok(Asked::Refused(SwiftRefusal::NotBuilt)),
         Target::Container(account, container) => {
-            if !account.is(OWN_ACCOUNT) || !is_listed(head) {
+            if !account.is(OWN_ACCOUNT) || !head.is_get() {
                 return Ok(Asked::Refused(SwiftRefusal::NotBuilt));
             }
             Ok(list_asked(largest, container, query, head))
@@ -250,11 +250,10 @@ fn asked_at(
 /// What a request asks, where the largest object has so many bytes. The first of these applies: `BadHost`;
 /// then `Refused` by `TargetTooLong` for a target of more than 8192 bytes, `Invalid` for one that breaks its
 /// grammar, `NoPath` for no path of the API, `NotBuilt` for what is not served yet (all but GET, HEAD and PUT
-/// of the objects and GET of the containers of the one account, without a coding of the body, a wait for a
-/// 100, or a copy),
-/// `Unauthorized` for another token than the one user's, `Invalid(Value)` for a field that is not UTF-8 where
-/// it is to be text, `Invalid(Meta)` for a media type or metadata above their limits, `NoLength` for a PUT
-/// that tells none, and `TooLarge` for a length above the largest; then the command.
+/// of the objects and GET of the containers of the one account, and a PUT that copies), `Unauthorized` for
+/// another token than the one user's, `Invalid(Value)` for a field that is not UTF-8 where it is to be text,
+/// `Invalid(Meta)` for a media type or metadata above their limits, `NoLength` for a PUT that tells none and
+/// sends no chunks, and `TooLarge` for a length above the largest; then the command.
 #[tactic(auto, unfolding(crate::specs::Asks::asked_of))]
 pub fn read_asked(alloc: Global, largest: u64, head: &Head) -> Result<Asked, AllocError>
     ensures { IfOk result (λ asked. asked ≡ asked_of largest head.now) }

@@ -2,7 +2,7 @@
 ghost use Rattle.std.specs.Prelude.{◌≡◌, ◌&&◌, codes};
 ghost use Rattle.http1.specs.Text.{eq_ignore_case};
 ghost use Rattle.http_model.specs.Forms.{lists_close, is_continue, wants_close, waits};
-ghost use Rattle.swift_requests.specs.Bodies.{body_len, is_within, unwanted, body_use, is_unread, closes};
+ghost use Rattle.swift_requests.specs.Bodies.{is_within, unwanted, body_use, is_unread, is_awaited, closes};
 
 use crate::Asked;
 use http_model::{Field, Framing, Head, REQUEST_LIMIT};
@@ -14,32 +14,24 @@ use swift_reply::SwiftRefusal;
 /// What becomes of the bytes behind a head.
 #[derive(Clone, Copy, Debug, PartialEq, Eq)]
 pub enum BodyUse {
-    /// So many bytes are the content that a PUT stores.
-    Fed(u64),
-    /// So many bytes are read and dropped.
-    Dropped(u64),
+    /// It is the content that a PUT stores.
+    Fed,
+    /// It is that, and is read behind a 100; it is left unread where no 100 is written, and the reply then closes
+    /// the connection.
+    Awaited,
+    /// It is read and dropped.
+    Dropped,
     /// Nothing more is read, and the reply closes the connection.
     Unread,
 }
 
-/// How many bytes the body has.
-fn body_len(framing: Framing) -> u64
-    ensures { result ≡ body_len framing }
-{
-    match framing {
-        Framing::Length(length) => length,
-        Framing::Empty | Framing::Chunked => 0,
-    }
-}
-
-/// Whether the length is known, and at most that.
+/// Whether no length above that is told. What chunks hold shows when they are read.
 fn is_within(largest: u64, framing: Framing) -> bool
     ensures { result ≡ is_within largest framing }
 {
     match framing {
-        Framing::Empty => true,
         Framing::Length(length) => length <= largest,
-        Framing::Chunked => false,
+        Framing::Empty | Framing::Chunked => true,
     }
 }
 
@@ -87,20 +79,22 @@ fn unwanted(largest: u64, head: &Head) -> BodyUse
     ensures { result ≡ unwanted largest head.now }
 {
     if is_within(largest, head.framing) && !waits(head) {
-        BodyUse::Dropped(body_len(head.framing))
+        BodyUse::Dropped
     } else {
         BodyUse::Unread
     }
 }
 
 /// What becomes of the body of a request that asks this, where the largest object has so many bytes
-/// (RFC 9112, section 6.3). A PUT is fed its content. The body of any other request is read and dropped,
-/// unless it is above the largest, the client waits for a 100, or the refusal is `NotBuilt` or `TooLarge`.
+/// (RFC 9112, section 6.3). A PUT is fed its content, behind a 100 where the client waits for one. The body of
+/// any other request is read and dropped, unless its length is above the largest, the client waits for a 100, or
+/// the refusal is `NotBuilt` or `TooLarge`.
 pub fn body_use(largest: u64, head: &Head, asked: &Asked) -> BodyUse
     ensures { result ≡ body_use largest head.now asked.now }
 {
     match asked {
-        Asked::Put(_) => BodyUse::Fed(body_len(head.framing)),
+        Asked::Put(_) if waits(head) => BodyUse::Awaited,
+        Asked::Put(_) => BodyUse::Fed,
         Asked::Refused(SwiftRefusal::NotBuilt | SwiftRefusal::TooLarge) => BodyUse::Unread,
         Asked::BadHost | Asked::Refused(_) | Asked::Get(_) | Asked::Listing(_, _) => {
             unwanted(largest, head)
@@ -109,19 +103,27 @@ pub fn body_use(largest: u64, head: &Head, asked: &Asked) -> BodyUse
 }
 
 impl BodyUse {
-    fn is_unread(self) -> bool
+    /// Whether nothing of the body is read.
+    pub fn is_unread(self) -> bool
         ensures { result ≡ is_unread self }
     {
         matches!(self, BodyUse::Unread)
     }
+
+    /// Whether it is read behind a 100, or left.
+    pub fn is_awaited(self) -> bool
+        ensures { result ≡ is_awaited self }
+    {
+        matches!(self, BodyUse::Awaited)
+    }
 }
 
 /// Whether the reply to this request, the `k`th of its connection, counted from 1, says that the connection
-/// is closed (RFC 9112, section 9.6): the body is left unread, the request is of HTTP/1.0 or asks for it, or
-/// it is the last that a connection may have.
+/// is closed (RFC 9112, section 9.6): its body is `left`, unread or in part, the request is of HTTP/1.0 or
+/// asks for it, or it is the last that a connection may have.
 #[tactic(auto, unfolding(crate::specs::Bodies::closes))]
-pub fn closes(k: u64, head: &Head, plan: BodyUse) -> bool
-    ensures { result ≡ closes k head.now plan }
+pub fn closes(k: u64, head: &Head, left: bool) -> bool
+    ensures { result ≡ closes k head.now left }
 {
-    plan.is_unread() || head.minor == 0 || wants_close(head) || REQUEST_LIMIT <= k
+    left || head.minor == 0 || wants_close(head) || REQUEST_LIMIT <= k
 }

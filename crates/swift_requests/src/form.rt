@@ -1,7 +1,7 @@
 //! Which requests are taken, and who is let ask.
 ghost use Rattle.std.specs.Prelude.{◌≡◌, codes};
 ghost use Rattle.std.specs.Str.{is_utf8};
-ghost use Rattle.swift_requests.specs.Asks.{has_taken_method, is_sent, is_plain, is_taken, is_listed, is_user, is_text_field, has_texts, has_put_texts, has_put_sizes, is_kind_if_any};
+ghost use Rattle.swift_requests.specs.Asks.{has_taken_method, is_sent, is_taken, is_user, is_text_field, has_texts, has_put_texts, has_put_sizes, is_kind_if_any};
 ghost use Rattle.swift_requests.specs.Metadata.{meta_of};
 ghost use Rattle.http_model.specs.Framings.{value_of};
 
@@ -29,29 +29,12 @@ fn is_sent(head: &Head, name: &[u8]) -> bool
         .any(|field| eq_ignore_case(field.name.as_bytes(), name))
 }
 
-/// Whether the body has no coding, and the client waits for no 100.
-fn is_plain(head: &Head) -> bool
-    ensures { result ≡ is_plain head.now }
-{
-    !is_sent(head, b"transfer-encoding") && !is_sent(head, b"expect")
-}
-
-/// Whether a request for a container has a form that is taken: a GET whose body has no coding, and that waits
-/// for no 100.
-#[tactic(auto, unfolding(crate::specs::Asks::is_listed))]
-pub(crate) fn is_listed(head: &Head) -> bool
-    ensures { result ≡ is_listed head.now }
-{
-    head.is_get() && is_plain(head)
-}
-
-/// Whether a request for an object has a form that is taken: a GET, HEAD or PUT whose body has no coding, that
-/// waits for no 100, and that copies nothing.
+/// Whether a request for an object has a form that is taken: a GET, a HEAD, or a PUT that copies nothing.
 #[tactic(auto, unfolding(crate::specs::Asks::is_taken))]
 pub(crate) fn is_taken(head: &Head) -> bool
     ensures { result ≡ is_taken head.now }
 {
-    has_taken_method(head) && is_plain(head) && !(head.is_put() && is_sent(head, b"x-copy-from"))
+    has_taken_method(head) && !(head.is_put() && is_sent(head, b"x-copy-from"))
 }
 
 /// Whether the token that counts is the one user's.

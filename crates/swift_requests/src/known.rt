@@ -8,7 +8,7 @@ ghost use Rattle.swift_reply.specs.declared.reply.Invalid.TheVariants.{Target, E
 ghost use Rattle.http_model.specs.declared.head.Framing.TheVariants.{Empty, Length, Chunked};
 ghost use Rattle.swift_requests.specs.declared.asked.Asked.TheVariants.{BadHost, Refused, Put, Get, Listing};
 ghost use Rattle.swift_reply.specs.declared.reply.ListingForm.TheVariants.{Plain, Json};
-ghost use Rattle.swift_requests.specs.declared.body.BodyUse.TheVariants.{Fed, Dropped, Unread};
+ghost use Rattle.swift_requests.specs.declared.body.BodyUse.TheVariants.{Fed, Awaited, Dropped, Unread};
 ghost use Rattle.swift_requests.specs.Etags.{rule_in, sent_etag};
 ghost use Rattle.swift_requests.specs.Ranges.{span_in};
 ghost use Rattle.swift_requests.specs.Commands.{second_of};
@@ -78,6 +78,7 @@ pub fn dates_are_read_so()
 /// What PUTs ask.
 pub fn puts_ask_so()
     ensures plain { asked_of known.largest (known.put_of 5 []) ≡ Put known.plain_put }
+    ensures waiting { asked_of known.largest (known.put_of 5 (record { name = codes "Expect"; value = codes "100-continue" } ∷ [])) ≡ Put known.plain_put }
     ensures fields { asked_of known.largest (known.put_of 5
         (record { name = codes "content-TYPE"; value = codes "text/plain" }
         ∷ record { name = codes "etag"; value = codes "\"5d41402abc4b2a76b9719d911017c592\"" }
@@ -96,6 +97,7 @@ pub fn puts_ask_so()
     ensures largest { asked_of known.largest (known.put_of known.largest []) ≡ Put known.plain_put }
     ensures too_large { asked_of known.largest (known.put_of 5368709121 []) ≡ Refused TooLarge }
     ensures no_length { asked_of known.largest (known.request (codes "PUT") [] Empty) ≡ Refused NoLength }
+    ensures chunks { asked_of known.largest (known.request (codes "PUT") [] Chunked) ≡ Put known.plain_put }
 {}
 
 /// What GETs and HEADs ask.
@@ -138,8 +140,6 @@ pub fn heads_are_refused_so()
     ensures other_account { asked_of known.largest (known.to (codes "/swift/v1/AUTH_other/box/k")) ≡ Refused NotBuilt }
     ensures method { asked_of known.largest (known.bare (codes "POST") (known.host ∷ []) Empty) ≡ Refused NotBuilt }
     ensures lower { asked_of known.largest (known.request (codes "get") [] Empty) ≡ Refused NotBuilt }
-    ensures coding { asked_of known.largest (known.request (codes "PUT") (record { name = codes "transfer-encoding"; value = codes "chunked" } ∷ []) Chunked) ≡ Refused NotBuilt }
-    ensures expect { asked_of known.largest (known.put_of 5 (record { name = codes "Expect"; value = codes "100-continue" } ∷ [])) ≡ Refused NotBuilt }
     ensures copy { asked_of known.largest (known.put_of 0 (record { name = codes "x-copy-from"; value = codes "box/k" } ∷ [])) ≡ Refused NotBuilt }
     ensures nobody { asked_of known.largest (known.bare (codes "PUT") (known.host ∷ record { name = codes "If-Match"; value = 255 ∷ [] } ∷ []) Empty) ≡ Refused Unauthorized }
     ensures other_token { asked_of known.largest (known.get_with (record { name = codes "X-Auth-Token"; value = codes "AUTH_tk" } ∷ [])) ≡ Refused Unauthorized }
@@ -193,20 +193,23 @@ pub fn metadata_is_read_so()
 
 /// What becomes of bodies, and which replies close the connection.
 pub fn bodies_are_used_so()
-    ensures fed { body_use known.largest (known.put_of 5 []) (Put known.plain_put) ≡ Fed 5 }
-    ensures dropped { body_use known.largest (known.put_of 5 []) (Refused Unauthorized) ≡ Dropped 5 }
-    ensures none { body_use known.largest (known.get_with []) (Get known.plain_get) ≡ Dropped 0 }
-    ensures of_get { body_use known.largest (known.request (codes "GET") [] (Length 5)) (Get known.plain_get) ≡ Dropped 5 }
-    ensures no_length { body_use known.largest (known.request (codes "PUT") [] Empty) (Refused NoLength) ≡ Dropped 0 }
+    ensures fed { body_use known.largest (known.put_of 5 []) (Put known.plain_put) ≡ Fed }
+    ensures awaited { body_use known.largest (known.put_of 5 (record { name = codes "Expect"; value = codes "100-Continue" } ∷ [])) (Put known.plain_put) ≡ Awaited }
+    ensures other { body_use known.largest (known.put_of 5 (record { name = codes "Expect"; value = codes "200-ok" } ∷ [])) (Put known.plain_put) ≡ Fed }
+    ensures of_get_waiting { body_use known.largest (known.get_with (record { name = codes "Expect"; value = codes "100-continue" } ∷ [])) (Get known.plain_get) ≡ Unread }
+    ensures dropped { body_use known.largest (known.put_of 5 []) (Refused Unauthorized) ≡ Dropped }
+    ensures none { body_use known.largest (known.get_with []) (Get known.plain_get) ≡ Dropped }
+    ensures of_get { body_use known.largest (known.request (codes "GET") [] (Length 5)) (Get known.plain_get) ≡ Dropped }
+    ensures no_length { body_use known.largest (known.request (codes "PUT") [] Empty) (Refused NoLength) ≡ Dropped }
     ensures not_built { body_use known.largest (known.put_of 5 []) (Refused NotBuilt) ≡ Unread }
     ensures too_large { body_use known.largest (known.put_of 5368709121 []) (Refused TooLarge) ≡ Unread }
     ensures nobody { body_use known.largest (known.put_of 5368709121 []) (Refused Unauthorized) ≡ Unread }
-    ensures largest { body_use known.largest (known.put_of known.largest []) BadHost ≡ Dropped known.largest }
+    ensures largest { body_use known.largest (known.put_of known.largest []) BadHost ≡ Dropped }
     ensures waits { body_use known.largest (known.put_of 5 (record { name = codes "Expect"; value = codes "100-Continue" } ∷ [])) BadHost ≡ Unread }
-    ensures chunks { body_use known.largest (known.request (codes "PUT") [] Chunked) BadHost ≡ Unread }
-    ensures stays { closes 99999 (known.put_of 5 (record { name = codes "Connection"; value = codes "keep-alive, closed" } ∷ [])) (Fed 5) ≡ false }
-    ensures wants { closes 1 (known.get_with (record { name = codes "Connection"; value = codes "keep-alive,\tClose" } ∷ [])) (Dropped 0) ≡ true }
-    ensures unread { closes 1 (known.put_of 5 []) Unread ≡ true }
-    ensures older { closes 1 (record (known.get_with []) { minor = 0 }) (Dropped 0) ≡ true }
-    ensures many { closes 100000 (known.get_with []) (Dropped 0) ≡ true }
+    ensures chunks { body_use known.largest (known.request (codes "PUT") [] Chunked) BadHost ≡ Dropped }
+    ensures stays { closes 99999 (known.put_of 5 (record { name = codes "Connection"; value = codes "keep-alive, closed" } ∷ [])) false ≡ false }
+    ensures wants { closes 1 (known.get_with (record { name = codes "Connection"; value = codes "keep-alive,\tClose" } ∷ [])) false ≡ true }
+    ensures unread { closes 1 (known.put_of 5 []) true ≡ true }
+    ensures older { closes 1 (record (known.get_with []) { minor = 0 }) false ≡ true }
+    ensures many { closes 100000 (known.get_with []) false ≡ true }
 {}

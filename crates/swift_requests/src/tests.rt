@@ -40,8 +40,8 @@ fn a_put_is_read(rt: HostRuntime) -> Result<(), Fail> {
         b"PUT /swift/v1/AUTH_acme/box/k.txt HTTP/1.1\r\nHost: h\r\nX-Auth-Token: AUTH_tk1\r\nContent-Type: text/plain\r\nETag: \"5d41402abc4b2a76b9719d911017c592\"\r\nIf-Match: *\r\nIf-None-Match: \"r2d2xxxx\", c3piozzzz\r\nContent-Length: 5\r\n\r\n",
     )?;
     let asked = read_asked(rt.alloc(), LARGEST, &head)?;
-    assert_eq!(rt; body_use(LARGEST, &head, &asked), BodyUse::Fed(5));
-    assert!(rt; !closes(1, &head, BodyUse::Fed(5)));
+    assert_eq!(rt; body_use(LARGEST, &head, &asked), BodyUse::Fed);
+    assert!(rt; !closes(1, &head, false));
     let put = put_of(asked).ok_or("no PUT")?;
     assert!(rt; put.container.as_text().is("box"));
     assert!(rt; put.name.as_text().is("k.txt"));
@@ -61,8 +61,8 @@ fn a_get_is_read(rt: HostRuntime) -> Result<(), Fail> {
         b"GET /swift/v1/AUTH_acme/box/k HTTP/1.1\r\nHost: h\r\nX-Auth-Token: AUTH_tk1\r\nIf-Modified-Since: Sunday, 06-Nov-94 08:49:37 GMT\r\nRange: bytes=500-999\r\nConnection: close\r\n\r\n",
     )?;
     let asked = read_asked(rt.alloc(), LARGEST, &head)?;
-    assert_eq!(rt; body_use(LARGEST, &head, &asked), BodyUse::Dropped(0));
-    assert!(rt; closes(1, &head, BodyUse::Dropped(0)));
+    assert_eq!(rt; body_use(LARGEST, &head, &asked), BodyUse::Dropped);
+    assert!(rt; closes(1, &head, false));
     let get = get_of(asked).ok_or("no GET")?;
     assert_eq!(rt; get.when.modified, Some(784_111_777));
     assert_eq!(rt; get.when.unmodified, None);

@@ -42,12 +42,15 @@ use Rattle.realm_door.specs.declared.task.TaskTurn.TheVariants.{More, Gives}
 use Rattle.stripe_law.proofs.Getting.{read_bytes, read_length}
 use Rattle.stripe_law.proofs.Storing.{made_bytes}
 use Rattle.swift_auth.specs.declared.policy.Deed.TheVariants.{ReadThing}
+use Rattle.swift_auth.specs.declared.policy.Verdict.{Verdict}
+use Rattle.swift_auth.specs.declared.policy.Verdict.TheVariants.{Granted, Unknown, Denied as PolicyDenied}
+use Rattle.swift_auth.specs.Policies.{found_under, verdict_of}
 use Rattle.task_words.specs.declared.command.GetCommand.{GetCommand}
 use Rattle.task_words.specs.declared.span.ByteRange.{ByteRange}
 use Rattle.task_words.specs.declared.reply.MapReply.{MapReply}
 use Rattle.task_words.specs.declared.reply.Refusal.{Refusal}
 use Rattle.task_words.specs.declared.outcome.Outcome.TheVariants.{Done}
-use Rattle.task_words.specs.Rows.{row_refusal}
+use Rattle.task_words.specs.Rows.{refusal_by, row_refusal}
 use Rattle.task_get.specs.declared.request.GetRequest.{GetRequest}
 use Rattle.task_get.specs.declared.stage.Stage.{Stage}
 use Rattle.task_get.specs.declared.stage.Stage.TheVariants.{Look, Open, Tails, Ended, Late}
@@ -58,7 +61,7 @@ use Rattle.task_get.specs.Shown.{content_with}
 use Rattle.task_get.specs.Readings.{ReadingView, next_piece}
 use Rattle.task_get.specs.Replies.{reply_of, range_of}
 use Rattle.task_get.specs.Pieces.{first_bytes, bytes_of_slot, brought_by, brought, read_of}
-use Rattle.task_get.specs.Stages.{IsOver, IsOpen, op_of, given_by, row_shown, after_refusal, slot_shown, from_part, after_live, after_head, tail_shown, gone_on, after_tail, step_of}
+use Rattle.task_get.specs.Stages.{IsOver, IsOpen, op_of, given_by, row_shown, after_refusal, slot_shown, from_part, after_live, after_head, tail_shown, gone_on, after_tail, step_of, IsBehindRow}
 use Rattle.task_get.specs.Gets.{decision, HasBegun, HasLooked, HasOpened, FitsStage, LastBrings}
 use Rattle.task_get.specs.Tasks.{account_at, phase_at, events_at, bytes_of, given_of, Fits}
 use Rattle.task_get.proofs.Heads.{shown_as, seen_in, has_stripe, between_test}
@@ -371,3 +374,19 @@ given_so turn piece before after gives goes sum =
       | true ↦ λ test. let some : 1 ≤ length piece = grind (arith, nat_tests) in subst (λ t. Given t before piece after) (sym (gives some)) (some, sum)
       | false ↦ λ test. let none : length piece ≡ 0 = grind (arith, nat_tests) in subst (λ t. Given t before piece after) (sym (goes none)) (omega (arith, sum, none))
     ] refl
+
+-- ---- behind the first event
+
+refused_so : (v : Verdict) (found row : Option Bucket) → IsBehindRow (after_refusal (refusal_by v found) row)
+refused_so Unknown found row = tt
+refused_so Granted None row = tt
+refused_so (PolicyDenied rule) None row = tt
+refused_so Granted (Some r) None = tt
+refused_so Granted (Some r) (Some row) = tt
+refused_so (PolicyDenied rule) (Some r) row = tt
+
+-- the row alone was read
+pub behind_row : (r : GetRequest) (stage : Stage) (reply : Reply) (clock : ℕ) → stage ≡ Look → IsBehindRow (step_of r stage reply clock).0
+behind_row r stage reply clock is =
+    subst (λ s. IsBehindRow (step_of r s reply clock).0) (sym is)
+    (refused_so (verdict_of r.asker.user r.asker.account (row_shown reply) ReadThing) (found_under r.asker.account (row_shown reply)) (row_shown reply))

@@ -16,7 +16,8 @@ use Rattle.task_words.specs.declared.span.ByteRange.{ByteRange}
 use Rattle.task_words.specs.declared.reply.MapReply.{MapReply}
 use Rattle.task_words.specs.declared.reply.MapReply.TheVariants.{Refused}
 use Rattle.task_words.specs.declared.reply.Refusal.{Refusal}
-use Rattle.task_words.specs.declared.reply.Refusal.TheVariants.{NoContainer, NoObject}
+use Rattle.task_words.specs.declared.reply.Refusal.TheVariants.{Unauthorized, Denied, NoContainer, NoObject}
+use Rattle.task_words.specs.declared.outcome.Outcome.{Outcome}
 use Rattle.task_words.specs.declared.outcome.Outcome.TheVariants.{Done, LateRead}
 use Rattle.task_words.specs.Rows.{row_refusal}
 use Rattle.task_get.specs.declared.request.GetRequest.{GetRequest}
@@ -39,6 +40,19 @@ abbrev pub IsOpen : Stage → Type 0
 IsOpen (Ended outcome given) = ⊥
 IsOpen (Late x outcome) = ⊥
 IsOpen stage = Unit {0}
+
+-- the row was read, and nothing else: the head comes next, or the row refused it
+abbrev pub IsBehindRow : Stage → Type 0
+IsBehindRow (Open container) = Unit {0}
+IsBehindRow (Ended (Done (Refused Unauthorized)) given) = Unit {0}
+IsBehindRow (Ended (Done (Refused (Denied rule))) given) = Unit {0}
+IsBehindRow (Ended (Done (Refused NoContainer)) given) = Unit {0}
+IsBehindRow stage = ⊥
+
+-- the outcome, where the task ended in time
+abbrev pub ended_in : Stage → Option Outcome
+ended_in (Ended outcome given) = Some outcome
+ended_in stage = None
 
 -- how many bytes were given
 abbrev pub given_by : Stage → ℕ

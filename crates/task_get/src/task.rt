@@ -11,7 +11,8 @@ ghost use Rattle.turn_cell.specs.declared.machine.DoorFault.TheVariants.{Worn};
 ghost use Rattle.realm_model.specs.Histories.{Legal};
 ghost use Rattle.realm_door.specs.declared.task.TaskTurn.TheVariants.{More, Gives};
 ghost use Rattle.realm_door.specs.Turns.{Turned, IsActing, IsOneMore, Counts, Given};
-ghost use Rattle.task_get.specs.Stages.{IsOver, IsOpen, op_of, step_of};
+ghost use Rattle.task_get.specs.Stages.{IsOver, IsOpen, IsBehindRow, ended_in, op_of, step_of};
+ghost use Rattle.task_get.specs.declared.stage.Stage.TheVariants.{Look};
 ghost use Rattle.task_get.specs.Tasks.{request_of, stage_of, fault_of, bytes_of, given_of, shown_in, shown_of, Fits};
 
 use crate::piece;
@@ -46,6 +47,7 @@ impl GetTask {
             → Fits result settings d }
         ensures sound { fault_of result ≡ None }
         ensures open { IsOpen (stage_of result) }
+        ensures looks { stage_of result ≡ Look }
     {
         GetTask {
             request,
@@ -70,6 +72,16 @@ impl GetTask {
             Stage::Tails(reading) | Stage::Late { reading, .. } => Some(&reading.reply),
             Stage::Ended { outcome, .. } => shown_in(outcome),
             Stage::Look | Stage::Open { .. } => None,
+        }
+    }
+
+    /// The outcome, where the task ended in time.
+    pub fn ended(&self) -> Option<&Outcome>
+        ensures { option_copied result ≡ ended_in (stage_of self.now) }
+    {
+        match &self.stage {
+            Stage::Ended { outcome, .. } => Some(outcome),
+            _ => None,
         }
     }
 
@@ -138,6 +150,7 @@ impl GetTask {
         ensures alone { IfOk result (λ turn. D.tells → D.alone → IsOneMore (D.told door.old) (D.told door.new)) }
         ensures counts { IfOk result (λ turn. Counts turn (D.last door.old) (D.last door.new)) }
         ensures given { IfOk result (λ turn. Given turn (given_of self.old) (bytes_of self.new) (given_of self.new)) }
+        ensures looked { OnOk result (stage_of self.old ≡ Look → IsBehindRow (stage_of self.new)) }
         ensures request { request_of self.new ≡ request_of self.old }
         ensures shown { D.tells → (reply : MapReplyOf) → shown_of self.old ≡ Some reply → shown_of self.new ≡ Some reply }
         ensures stopped { OnErr result ((D.tells → D.told door.new ≡ D.told door.old) × (D.last door.new ≡ D.last door.old)) }

@@ -11,8 +11,11 @@ use Rattle.list_words.specs.declared.command.ListCommand.{ListCommand}
 use Rattle.list_words.specs.declared.row.ListedRow.{ListedRow}
 use Rattle.task_list.specs.declared.cursor.Cursor.{Cursor}
 use Rattle.task_list.specs.declared.merging.NextPage.{NextPage}
+use Rattle.task_list.specs.declared.merging.Merging.{Merging}
+use Rattle.task_list.specs.Merges.{cursors_of}
+use Rattle.task_list.specs.Progresses.{settled_of, rows_in}
 use Rattle.task_list.specs.Listed.{IsPaged, IsUnsettled, IsByPage, IsByHead, IsShown}
-use Rattle.task_list.specs.Stages.{PagedAs, IsSettledTo, IsRowShown, CursorFits, UsedUp, IsCovered, PagesFit}
+use Rattle.task_list.specs.Stages.{PagedAs, IsSettledTo, IsRowShown, CursorFits, UsedUp, IsCovered, PagesFit, IsAbove, MergingFits}
 
 module _ (zone : ℕ) (c : ListCommand) (events : List OwnEvent) (own : OwnEvent) where
   abbrev more : List OwnEvent
@@ -100,3 +103,11 @@ module _ (zone : ℕ) (c : ListCommand) (events : List OwnEvent) (own : OwnEvent
       used_up = grow_used used p.used_up;
       every = λ shard named. grow_covered cursors unread used shard (p.every shard named);
     }
+
+  pub grow_merging : (m : Merging) (used : Option NextPage) → MergingFits zone c m used events → MergingFits zone c m used more
+  grow_merging m used f = record {
+    settled = grow_settled (m.row).id (settled_of m.progress) (rows_in m.progress) f.settled;
+    shown = grow_row m.row f.shown;
+    pages = grow_pages m.row (IsAbove c (settled_of m.progress)) (cursors_of m.merge) m.unread used f.pages;
+    waits = f.waits;
+  }

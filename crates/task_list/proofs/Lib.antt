@@ -1,4 +1,7 @@
+pub mod First
 pub mod Growing
+pub mod Hearing
+pub mod Knowing
 pub mod Merged
 pub mod Names
 pub mod Passing
@@ -7,4 +10,5 @@ pub mod Rows
 pub mod Settling
 pub mod Staging
 pub mod Steps
+pub mod Telling
 pub mod Turning

@@ -18,6 +18,7 @@ use Rattle.realm_model.specs.Settings.{SettingsView}
 use Rattle.realm_model.specs.Accounts.{Looked, MovedCount, Account, has_shard, looked_since, accounted}
 use Rattle.realm_model.specs.Tests.{is_so}
 use Rattle.realm_model.specs.Maps.{Maps, Made}
+use Rattle.realm_model.specs.Ops.{zone_of}
 use Rattle.realm_model.specs.Owns.{OwnEvent}
 use Rattle.realm_model.specs.States.{State}
 use Rattle.realm_model.specs.Steps.{reply_or, on_shard, reply_of}
@@ -40,13 +41,15 @@ use Rattle.task_list.specs.declared.merging.NextPage.{NextPage}
 use Rattle.task_list.specs.declared.merging.Merging.{Merging}
 use Rattle.task_list.specs.declared.request.ListRequest.{ListRequest}
 use Rattle.task_list.specs.declared.stage.Known.{Known}
+use Rattle.task_list.specs.declared.stage.Suggestion.{Suggestion}
 use Rattle.task_list.specs.declared.stage.Stage.{Stage}
-use Rattle.task_list.specs.declared.stage.Stage.TheVariants.{Look, Page, Head, Broken, Ended}
+use Rattle.task_list.specs.declared.stage.Stage.TheVariants.{Look, Page, Head, Suggest, Broken, Ended}
 use Rattle.task_list.specs.Progresses.{settled_of, rows_in}
-use Rattle.task_list.specs.Listed.{page_limit, asks_row, asks_page, asks_head, is_of_listing, AreOfListing, IsUnsettled, AreUnsettled, IsRefusal}
+use Rattle.task_list.specs.Listed.{page_limit, asks_row, asks_page, asks_head, is_of_listing, AreOfListing, AreInZone, IsUnsettled, AreUnsettled, IsRefusal}
 use Rattle.task_list.specs.Stages.{MergingFits, HeadFits, IsLater, IsPageAbove, IsPageEvent, IsHeadEvent}
-use Rattle.task_list.specs.Tasks.{IsGoing, op_of, one_moved, after_left, KnownFits, WentOn, AfterRow, Takes, Going, Looking, FitsAt}
-use Rattle.task_list.proofs.Growing.{grow_settled, grow_unsettled}
+use Rattle.task_list.specs.Sightings.{asks_suggestion}
+use Rattle.task_list.specs.Tasks.{IsGoing, op_of, one_moved, after_left, KnownFits, WentOn, AfterRow, AfterSuggestion, Takes, Going, Heard, Looking, FitsAt}
+use Rattle.task_list.proofs.Growing.{grow_settled, grow_merging, grow_unsettled}
 use Rattle.task_list.proofs.Names.{page_is_above}
 
 some_is : {X : Type 0} {x y : X} → Some x ≡ Some y → x ≡ y
@@ -91,27 +94,28 @@ named_since looked k m zone n row is in_zone showed later less =
 -- ---- one answer more
 
 -- the listing goes on, or has its rows
-went_on : (r : ListRequest) (row : Bucket) (stage : Stage) (moved : ℕ) (y : Account) (events : List OwnEvent) (last : ℕ) → WentOn r.zone r.command row stage events → Going r moved y events last → Looking r row y last → FitsAt r stage moved y events last
-went_on r row (Page m next) moved y events last w going looking = (going, subst (λ b. Looking r b y last) (sym w.0) looking, w.1, w.2)
-went_on r row (Head m name) moved y events last w going looking = (going, subst (λ b. Looking r b y last) (sym w.0) looking, w.1)
-went_on r row (Ended (Done (Listed rows))) moved y events last w going looking = (
+went_on : (r : ListRequest) (row : Bucket) (stage : Stage) (moved : ℕ) (y : Account) (events : List OwnEvent) (last : ℕ) → WentOn r.zone r.command row stage events → Going r moved y events last → Looking r row y last → Heard r stage events → FitsAt r stage moved y events last
+went_on r row (Page m next) moved y events last w going looking heard = (going, subst (λ b. Looking r b y last) (sym w.0) looking, w.1, w.2, heard)
+went_on r row (Head m wanted) moved y events last w going looking heard = (going, subst (λ b. Looking r b y last) (sym w.0) looking, w.1, heard)
+went_on r row (Suggest m s) moved y events last w going looking heard = (going, subst (λ b. Looking r b y last) (sym w.0) looking, w.1, heard)
+went_on r row (Ended (Done (Listed rows))) moved y events last w going looking heard = (
   record { look = looking.look; is_last = looking.is_last; in_zone = looking.in_zone; under_name = looking.under_name; row = row; showed = looking.showed; granted = looking.granted; shown = w },
-  record { untried = going.untried; unchanged = going.unchanged; heads = going.heads; reads = going.reads },
+  record { untried = going.untried; unchanged = going.unchanged; heads = going.heads; reads = going.reads; inside = going.inside; repairs = heard.repairs },
 )
-went_on r row (Ended (Done (Refused refusal))) moved y events last w going looking = absurd w
-went_on r row (Ended (Done (Stored etag stamp))) moved y events last w going looking = absurd w
-went_on r row (Ended (Done (Shown kind meta etag stamp size start count))) moved y events last w going looking = absurd w
-went_on r row (Ended (Done (Same etag stamp))) moved y events last w going looking = absurd w
-went_on r row (Ended (Done (Counted counted objects bytes))) moved y events last w going looking = absurd w
-went_on r row (Ended BodyFailed) moved y events last w going looking = absurd w
-went_on r row (Ended (Busy id)) moved y events last w going looking = absurd w
-went_on r row (Ended MovedOften) moved y events last w going looking = absurd w
-went_on r row (Ended RacedOften) moved y events last w going looking = absurd w
-went_on r row (Ended LateTag) moved y events last w going looking = absurd w
-went_on r row (Ended (LateRead read_at clock)) moved y events last w going looking = absurd w
-went_on r row (Ended (NoSpace free needed)) moved y events last w going looking = absurd w
-went_on r row (Look known) moved y events last w going looking = absurd w
-went_on r row Broken moved y events last w going looking = absurd w
+went_on r row (Ended (Done (Refused refusal))) moved y events last w going looking heard = absurd w
+went_on r row (Ended (Done (Stored etag stamp))) moved y events last w going looking heard = absurd w
+went_on r row (Ended (Done (Shown kind meta etag stamp size start count))) moved y events last w going looking heard = absurd w
+went_on r row (Ended (Done (Same etag stamp))) moved y events last w going looking heard = absurd w
+went_on r row (Ended (Done (Counted counted objects bytes))) moved y events last w going looking heard = absurd w
+went_on r row (Ended BodyFailed) moved y events last w going looking heard = absurd w
+went_on r row (Ended (Busy id)) moved y events last w going looking heard = absurd w
+went_on r row (Ended MovedOften) moved y events last w going looking heard = absurd w
+went_on r row (Ended RacedOften) moved y events last w going looking heard = absurd w
+went_on r row (Ended LateTag) moved y events last w going looking heard = absurd w
+went_on r row (Ended (LateRead read_at clock)) moved y events last w going looking heard = absurd w
+went_on r row (Ended (NoSpace free needed)) moved y events last w going looking heard = absurd w
+went_on r row (Look known) moved y events last w going looking heard = absurd w
+went_on r row Broken moved y events last w going looking heard = absurd w
 
 grow_known : (zone : ℕ) (c : ListCommand) (events : List OwnEvent) (own : OwnEvent) (known : Option Known) → KnownFits zone c known events → KnownFits zone c known (events ++ own ∷ [])
 grow_known zone c events own None fits = tt
@@ -120,6 +124,10 @@ grow_known zone c events own (Some k) fits = grow_settled zone c events own k.co
 reads_push : (events : List OwnEvent) (own : OwnEvent) → AreOfListing events → is_of_listing own.op ≡ true → AreOfListing (events ++ own ∷ [])
 reads_push [] own reads is = (is, tt)
 reads_push (e ∷ es) own reads is = (reads.0, reads_push es own reads.1 is)
+
+inside_push : (zone : ℕ) (events : List OwnEvent) (own : OwnEvent) → AreInZone zone events → zone_of own.op ≡ zone → AreInZone zone (events ++ own ∷ [])
+inside_push zone [] own inside is = (is, tt)
+inside_push zone (e ∷ es) own inside is = (inside.0, inside_push zone es own inside.1 is)
 
 module _ (r : ListRequest) (moved : ℕ) (y : Account) (events : List OwnEvent) (last number clock : ℕ) (maps : Maps) (made : Made) (before : last < number) where
   abbrev after : Op → Reply → Account
@@ -149,8 +157,8 @@ module _ (r : ListRequest) (moved : ℕ) (y : Account) (events : List OwnEvent) 
       ]
 
   -- an event that changes no head and was answered neither Moved nor Closed
-  going_on : (op : Op) (reply : Reply) → is_of_listing op ≡ true → Going r moved y events last → AreUnsettled r.zone r.command (more op reply) → (after op reply).target ≡ y.target → (after op reply).changes ≡ y.changes → (after op reply).moved ≡ y.moved → Going r moved (after op reply) (more op reply) number
-  going_on op reply kind going heads target changes same = record {
+  going_on : (op : Op) (reply : Reply) → is_of_listing op ≡ true → zone_of op ≡ r.zone → Going r moved y events last → AreUnsettled r.zone r.command (more op reply) → (after op reply).target ≡ y.target → (after op reply).changes ≡ y.changes → (after op reply).moved ≡ y.moved → Going r moved (after op reply) (more op reply) number
+  going_on op reply kind within going heads target changes same = record {
     untried = target ∙ going.untried;
     unchanged = changes ∙ going.unchanged;
     heads = heads;
@@ -159,6 +167,7 @@ module _ (r : ListRequest) (moved : ℕ) (y : Account) (events : List OwnEvent) 
     moved_before = (let low = going.moved_before in let lasts = ap (λ (m : MovedCount). m.last) same in omega (arith, low, lasts, before));
     numbered = numbered op reply going.numbered;
     reads = reads_push events (own op reply) going.reads kind;
+    inside = inside_push r.zone events (own op reply) going.inside within;
   }
 
   looking_on : (op : Op) (reply : Reply) (row : Bucket) → Looking r row y last → (after op reply).looked ≡ y.looked → (after op reply).moved ≡ y.moved → Looking r row (after op reply) number
@@ -183,33 +192,34 @@ module _ (r : ListRequest) (moved : ℕ) (y : Account) (events : List OwnEvent) 
 
   module _ (reply : Reply) (row : Option Bucket) (going : Going r moved (after row_op reply) (more row_op reply) number)
       (looked : (after row_op reply).looked ≡ Some (record { zone = r.zone; name = (r.command).container; row = row; number = number })) where
-    refused : (refusal : Refusal) → row_refusal r.asker row ListContainer ≡ Some refusal → FitsAt r (Ended (Done (Refused refusal))) moved (after row_op reply) (more row_op reply) number
-    refused refusal is = (
+    refused : (refusal : Refusal) → row_refusal r.asker row ListContainer ≡ Some refusal → Heard r (Ended (Done (Refused refusal))) (more row_op reply) → FitsAt r (Ended (Done (Refused refusal))) moved (after row_op reply) (more row_op reply) number
+    refused refusal is heard = (
       (
         is_refusal (verdict_of r.asker.user r.asker.account row ListContainer) (found_under r.asker.account row) refusal is,
         record { look = record { zone = r.zone; name = (r.command).container; row = row; number = number }; is_last = looked; in_zone = refl; under_name = refl; refuses = is },
       ),
-      record { untried = going.untried; unchanged = going.unchanged; heads = going.heads; reads = going.reads },
+      record { untried = going.untried; unchanged = going.unchanged; heads = going.heads; reads = going.reads; inside = going.inside; repairs = heard.repairs },
     )
 
-  some_row : (known : Option Known) (row : Bucket) (stage : Stage) → Going r moved y events last → KnownFits r.zone r.command known events → AfterRow r.command known (row_refusal r.asker (Some row) ListContainer) (Some row) stage → FitsAt r stage moved (after row_op (Row row)) (more row_op (Row row)) number
-  some_row known row stage going fits came =
-      let on = going_on row_op (Row row) refl going (no_head row_op (Row row) not_head going.heads) refl refl refl in
+  some_row : (known : Option Known) (row : Bucket) (stage : Stage) → Going r moved y events last → KnownFits r.zone r.command known events → AfterRow r.command known (row_refusal r.asker (Some row) ListContainer) (Some row) stage → Heard r stage (more row_op (Row row)) → FitsAt r stage moved (after row_op (Row row)) (more row_op (Row row)) number
+  some_row known row stage going fits came heard =
+      let on = going_on row_op (Row row) refl refl going (no_head row_op (Row row) not_head going.heads) refl refl refl in
       elim (row_refusal r.asker (Some row) ListContainer) as (λ o. row_refusal r.asker (Some row) ListContainer ≡ o → AfterRow r.command known o (Some row) stage → FitsAt r stage moved (after row_op (Row row)) (more row_op (Row row)) number) [
-        | Some refusal ↦ λ is at. subst (λ s. FitsAt r s moved (after row_op (Row row)) (more row_op (Row row)) number) (sym at) (refused (Row row) (Some row) on refl refusal is)
+        | Some refusal ↦ λ is at. subst (λ s. FitsAt r s moved (after row_op (Row row)) (more row_op (Row row)) number) (sym at) (refused (Row row) (Some row) on refl refusal is (subst (λ s. Heard r s (more row_op (Row row))) at heard))
         | None ↦ λ is at.
             went_on r row stage moved (after row_op (Row row)) (more row_op (Row row)) number
             (at r.zone (more row_op (Row row)) (grow_known r.zone r.command events (own row_op (Row row)) known fits)
             (record { look = own row_op (Row row); looked = Contains-push events (own row_op (Row row)); looks = refl; told = refl }))
             on
             (record { look = record { zone = r.zone; name = (r.command).container; row = Some row; number = number }; is_last = refl; in_zone = refl; under_name = refl; showed = refl; later = (let low = going.moved_before in omega (arith, low, before)); before = omega arith; granted = is })
+            heard
       ] refl came
 
-  no_row : (known : Option Known) (stage : Stage) → Going r moved y events last → AfterRow r.command known (row_refusal r.asker None ListContainer) None stage → FitsAt r stage moved (after row_op (No Absent)) (more row_op (No Absent)) number
-  no_row known stage going came =
-      let on = going_on row_op (No Absent) refl going (no_head row_op (No Absent) not_head going.heads) refl refl refl in
+  no_row : (known : Option Known) (stage : Stage) → Going r moved y events last → AfterRow r.command known (row_refusal r.asker None ListContainer) None stage → Heard r stage (more row_op (No Absent)) → FitsAt r stage moved (after row_op (No Absent)) (more row_op (No Absent)) number
+  no_row known stage going came heard =
+      let on = going_on row_op (No Absent) refl refl going (no_head row_op (No Absent) not_head going.heads) refl refl refl in
       elim (row_refusal r.asker None ListContainer) as (λ o. row_refusal r.asker None ListContainer ≡ o → AfterRow r.command known o None stage → FitsAt r stage moved (after row_op (No Absent)) (more row_op (No Absent)) number) [
-        | Some refusal ↦ λ is at. subst (λ s. FitsAt r s moved (after row_op (No Absent)) (more row_op (No Absent)) number) (sym at) (refused (No Absent) None on refl refusal is)
+        | Some refusal ↦ λ is at. subst (λ s. FitsAt r s moved (after row_op (No Absent)) (more row_op (No Absent)) number) (sym at) (refused (No Absent) None on refl refusal is (subst (λ s. Heard r s (more row_op (No Absent))) at heard))
         | None ↦ λ is at. absurd at
       ] refl came
 
@@ -224,38 +234,40 @@ module _ (r : ListRequest) (moved : ℕ) (y : Account) (events : List OwnEvent) 
 
     some_page : (page : EntryPage) (stage : Stage) → IsPageAbove next.after page
         → ((zone : ℕ) (es : List OwnEvent) (o : OwnEvent) → MergingFits zone r.command m (Some next) es → m.used_up ≡ None → IsPageEvent zone m.row next page es o → WentOn zone r.command m.row stage (es ++ o ∷ []))
-        → FitsAt r stage moved (after asks (Entries page)) (more asks (Entries page)) number
-    some_page page stage rows came =
+        → Heard r stage (more asks (Entries page)) → FitsAt r stage moved (after asks (Entries page)) (more asks (Entries page)) number
+    some_page page stage rows came heard =
         went_on r m.row stage moved (after asks (Entries page)) (more asks (Entries page)) number
         (came r.zone events (own asks (Entries page)) fits none (record { asks = refl; told = refl; later = all_earlier going.numbered; rows = rows }))
-        (going_on asks (Entries page) refl going (no_head asks (Entries page) no_head_asked going.heads) refl refl refl)
-        (looking_on asks (Entries page) m.row looking refl refl)
+        (going_on asks (Entries page) refl refl going (no_head asks (Entries page) no_head_asked going.heads) refl refl refl)
+        (looking_on asks (Entries page) m.row looking refl refl) heard
 
     left : (reply : Reply) → (after asks reply).moved ≡ record { count = cond (looked_since y.looked y.moved.last r.zone (shard_key (m.row).id (m.row).instance next.shard)) (y.moved.count + 1) y.moved.count; last = number }
         → (after asks reply).looked ≡ y.looked → (after asks reply).target ≡ y.target → (after asks reply).changes ≡ y.changes
+        → Heard r (after_left m (one_moved moved)) (more asks reply)
         → FitsAt r (after_left m (one_moved moved)) (one_moved moved) (after asks reply) (more asks reply) number
-    left reply moves looks target changes =
+    left reply moves looks target changes heard =
         let few = going.few in
         let was = going.moved_is in
         let since = named_since y.looked looking.look y.moved.last r.zone next.shard m.row looking.is_last looking.in_zone looking.showed looking.later (((fits.pages).used_up).named) in
         let count : (after asks reply).moved.count ≡ y.moved.count + 1 = ap (λ (k : MovedCount). k.count) moves ∙ ap (λ b. cond b (y.moved.count + 1) y.moved.count) since in
         let one : (after asks reply).moved.count ≡ one_moved moved = omega (arith, count, was, few) in
         let heads = no_head asks reply no_head_asked going.heads in
-        elim (nat_lt (one_moved moved) most_moved) as (λ b. nat_lt (one_moved moved) most_moved ≡ b → FitsAt r (cond b (Look (Some (record { container = (m.row).id; progress = m.progress }))) (Ended MovedOften)) (one_moved moved) (after asks reply) (more asks reply) number) [
-          | true ↦ λ less.
+        elim (nat_lt (one_moved moved) most_moved) as (λ b. nat_lt (one_moved moved) most_moved ≡ b → Heard r (cond b (Look (Some (record { container = (m.row).id; progress = m.progress }))) (Ended MovedOften)) (more asks reply) → FitsAt r (cond b (Look (Some (record { container = (m.row).id; progress = m.progress }))) (Ended MovedOften)) (one_moved moved) (after asks reply) (more asks reply) number) [
+          | true ↦ λ less heard'.
               let below : one_moved moved < most_moved = grind (arith, nat_tests, less) in
               let lasts = ap (λ (k : MovedCount). k.last) moves in (
-                record { untried = target ∙ going.untried; unchanged = changes ∙ going.unchanged; heads = heads; moved_is = one; few = below; moved_before = omega (arith, lasts); numbered = numbered asks reply going.numbered; reads = reads_push events (own asks reply) going.reads refl },
+                record { untried = target ∙ going.untried; unchanged = changes ∙ going.unchanged; heads = heads; moved_is = one; few = below; moved_before = omega (arith, lasts); numbered = numbered asks reply going.numbered; reads = reads_push events (own asks reply) going.reads refl; inside = inside_push r.zone events (own asks reply) going.inside refl },
                 grow_settled r.zone r.command events (own asks reply) (m.row).id (settled_of m.progress) (rows_in m.progress) fits.settled,
+                heard',
               )
-          | false ↦ λ all.
+          | false ↦ λ all heard'.
               let often : most_moved ≤ one_moved moved = grind (arith, nat_tests, all) in
               let granted = subst (λ o. row_refusal r.asker o ListContainer ≡ None) (sym looking.showed) looking.granted in (
                 record { look = looking.look; is_last = looks ∙ looking.is_last; in_zone = looking.in_zone; under_name = looking.under_name; refuses = granted },
                 omega (arith, one, often, few),
-                record { untried = target ∙ going.untried; unchanged = changes ∙ going.unchanged; heads = heads; reads = reads_push events (own asks reply) going.reads refl },
+                record { untried = target ∙ going.untried; unchanged = changes ∙ going.unchanged; heads = heads; reads = reads_push events (own asks reply) going.reads refl; inside = inside_push r.zone events (own asks reply) going.inside refl; repairs = heard'.repairs },
               )
-        ] refl
+        ] refl heard
 
   -- ---- a head
 
@@ -283,12 +295,29 @@ module _ (r : ListRequest) (moved : ℕ) (y : Account) (events : List OwnEvent) 
 
     some_head : (seen : HeadSeen) (shown_at : ℕ) (stage : Stage)
         → ((zone : ℕ) (es : List OwnEvent) (o : OwnEvent) → HeadFits zone r.command m name es → IsHeadEvent zone (m.row).id name seen.slot es o → WentOn zone r.command m.row stage (es ++ o ∷ []))
-        → FitsAt r stage moved (after asks_it (head_reply seen shown_at)) (more asks_it (head_reply seen shown_at)) number
-    some_head seen shown_at stage came =
+        → Heard r stage (more asks_it (head_reply seen shown_at)) → FitsAt r stage moved (after asks_it (head_reply seen shown_at)) (more asks_it (head_reply seen shown_at)) number
+    some_head seen shown_at stage came heard =
         went_on r m.row stage moved (after asks_it (head_reply seen shown_at)) (more asks_it (head_reply seen shown_at)) number
         (came r.zone events (own asks_it (head_reply seen shown_at)) fits (record { asks = refl; seen = seen; clock = shown_at; told = refl; slot_is = refl; later = all_earlier going.numbered }))
-        (going_on asks_it (head_reply seen shown_at) refl going (one_head (head_reply seen shown_at)) refl refl refl)
-        (looking_on asks_it (head_reply seen shown_at) m.row looking refl refl)
+        (going_on asks_it (head_reply seen shown_at) refl refl going (one_head (head_reply seen shown_at)) refl refl refl)
+        (looking_on asks_it (head_reply seen shown_at) m.row looking refl refl) heard
+
+  -- ---- a suggestion
+
+  module _ (m : Merging) (s : Suggestion) (going : Going r moved y events last) (looking : Looking r m.row y last) (fits : MergingFits r.zone r.command m m.used_up events) where
+    abbrev suggests : Op
+    suggests = asks_suggestion r.zone m.row s
+
+    no_head_read : (other container : ℕ) (name : List ℕ) → suggests ≡ asks_head other container name → ⊥
+    no_head_read other container name is = cc
+
+    -- whatever it was answered
+    some_answer : (reply : Reply) (stage : Stage) → AfterSuggestion r.command m stage → Heard r stage (more suggests reply) → FitsAt r stage moved (after suggests reply) (more suggests reply) number
+    some_answer reply stage came heard =
+        went_on r m.row stage moved (after suggests reply) (more suggests reply) number
+        (came r.zone (more suggests reply) (grow_merging r.zone r.command events (own suggests reply) m m.used_up fits))
+        (going_on suggests reply refl refl going (no_head suggests reply no_head_read going.heads) refl refl refl)
+        (looking_on suggests reply m.row looking refl refl) heard
 
   -- ---- all of it
 
@@ -296,29 +325,32 @@ module _ (r : ListRequest) (moved : ℕ) (y : Account) (events : List OwnEvent) 
   abbrev pub Answered : Op → Reply → Type 0
   Answered op reply = (zone : ℕ) (key : Key) (name : List ℕ) (page : EntryPage) → op ≡ page_op zone key name page_limit → reply ≡ Entries page → IsPageAbove name page
 
-  pub one_step : (stage : Stage) (reply : Reply) (next : Stage) (now : ℕ) → IsGoing stage → Suits (op_of r stage) reply → Answered (op_of r stage) reply → FitsAt r stage moved y events last → Takes r stage moved reply next now → FitsAt r next now (after (op_of r stage) reply) (more (op_of r stage) reply) number
-  one_step Broken reply next now going suits answered fits takes = absurd going
-  one_step (Ended outcome) reply next now going suits answered fits takes = absurd going
-  one_step (Look known) (Row row) next now going suits answered fits takes =
-      subst (λ n. FitsAt r next n (after row_op (Row row)) (more row_op (Row row)) number) (sym takes.1) (some_row known row next fits.0 fits.1 takes.0)
-  one_step (Look known) (No Absent) next now going suits answered fits takes =
-      subst (λ n. FitsAt r next n (after row_op (No Absent)) (more row_op (No Absent)) number) (sym takes.1) (no_row known next fits.0 takes.0)
-  one_step (Look known) reply next now going suits answered fits takes = absurd suits
-  one_step (Page m page_next) (Entries page) next now going suits answered fits takes =
+  pub one_step : (stage : Stage) (reply : Reply) (next : Stage) (now : ℕ) → IsGoing stage → Suits (op_of r stage) reply → Answered (op_of r stage) reply → FitsAt r stage moved y events last → Takes r stage moved reply next now → Heard r next (more (op_of r stage) reply) → FitsAt r next now (after (op_of r stage) reply) (more (op_of r stage) reply) number
+  one_step Broken reply next now going suits answered fits takes heard = absurd going
+  one_step (Ended outcome) reply next now going suits answered fits takes heard = absurd going
+  one_step (Look known) (Row row) next now going suits answered fits takes heard =
+      subst (λ n. FitsAt r next n (after row_op (Row row)) (more row_op (Row row)) number) (sym takes.1) (some_row known row next fits.0 fits.1 takes.0 heard)
+  one_step (Look known) (No Absent) next now going suits answered fits takes heard =
+      subst (λ n. FitsAt r next n (after row_op (No Absent)) (more row_op (No Absent)) number) (sym takes.1) (no_row known next fits.0 takes.0 heard)
+  one_step (Look known) reply next now going suits answered fits takes heard = absurd suits
+  one_step (Page m page_next) (Entries page) next now going suits answered fits takes heard =
       let op = asks_page r.zone m.row page_next.shard page_next.after in
       subst (λ n. FitsAt r next n (after op (Entries page)) (more op (Entries page)) number) (sym takes.1)
-      (some_page m page_next fits.0 fits.1 fits.2 fits.3 page next (answered r.zone (shard_key (m.row).id (m.row).instance page_next.shard) page_next.after page refl refl) takes.0)
-  one_step (Page m page_next) (No (Moved instance)) next now going suits answered fits takes =
+      (some_page m page_next fits.0 fits.1 fits.2 fits.3 page next (answered r.zone (shard_key (m.row).id (m.row).instance page_next.shard) page_next.after page refl refl) takes.0 heard)
+  one_step (Page m page_next) (No (Moved instance)) next now going suits answered fits takes heard =
       let op = asks_page r.zone m.row page_next.shard page_next.after in
       subst (λ s. FitsAt r s now (after op (No (Moved instance))) (more op (No (Moved instance))) number) (sym takes.0)
-      (subst (λ n. FitsAt r (after_left m (one_moved moved)) n (after op (No (Moved instance))) (more op (No (Moved instance))) number) (sym takes.1) (left m page_next fits.0 fits.1 fits.2 fits.3 (No (Moved instance)) refl refl refl refl))
-  one_step (Page m page_next) (No Closed) next now going suits answered fits takes =
+      (subst (λ n. FitsAt r (after_left m (one_moved moved)) n (after op (No (Moved instance))) (more op (No (Moved instance))) number) (sym takes.1) (left m page_next fits.0 fits.1 fits.2 fits.3 (No (Moved instance)) refl refl refl refl (subst (λ s. Heard r s (more op (No (Moved instance)))) takes.0 heard)))
+  one_step (Page m page_next) (No Closed) next now going suits answered fits takes heard =
       let op = asks_page r.zone m.row page_next.shard page_next.after in
       subst (λ s. FitsAt r s now (after op (No Closed)) (more op (No Closed)) number) (sym takes.0)
-      (subst (λ n. FitsAt r (after_left m (one_moved moved)) n (after op (No Closed)) (more op (No Closed)) number) (sym takes.1) (left m page_next fits.0 fits.1 fits.2 fits.3 (No Closed) refl refl refl refl))
-  one_step (Page m page_next) reply next now going suits answered fits takes = absurd suits
-  one_step (Head m name) (head_reply seen shown_at) next now going suits answered fits takes =
-      let op = asks_head r.zone (m.row).id name in
+      (subst (λ n. FitsAt r (after_left m (one_moved moved)) n (after op (No Closed)) (more op (No Closed)) number) (sym takes.1) (left m page_next fits.0 fits.1 fits.2 fits.3 (No Closed) refl refl refl refl (subst (λ s. Heard r s (more op (No Closed))) takes.0 heard)))
+  one_step (Page m page_next) reply next now going suits answered fits takes heard = absurd suits
+  one_step (Head m wanted) (head_reply seen shown_at) next now going suits answered fits takes heard =
+      let op = asks_head r.zone (m.row).id wanted.name in
       subst (λ n. FitsAt r next n (after op (head_reply seen shown_at)) (more op (head_reply seen shown_at)) number) (sym takes.1)
-      (some_head m name fits.0 fits.1 fits.2 seen shown_at next takes.0)
-  one_step (Head m name) reply next now going suits answered fits takes = absurd suits
+      (some_head m wanted.name fits.0 fits.1 fits.2 seen shown_at next takes.0 heard)
+  one_step (Head m wanted) reply next now going suits answered fits takes heard = absurd suits
+  one_step (Suggest m s) reply next now going suits answered fits takes heard =
+      let op = asks_suggestion r.zone m.row s in
+      subst (λ n. FitsAt r next n (after op reply) (more op reply) number) (sym takes.1) (some_answer m s fits.0 fits.1 fits.2 reply next takes.0 heard)

@@ -13,9 +13,10 @@ use Rattle.object_words.specs.Keys.{is_shard_key, shard_key}
 use Rattle.object_words.specs.Names.{name_cmp}
 use Rattle.object_words.specs.Rows.{RowView}
 use Rattle.realm_model.specs.Accounts.{Looked, Account}
+use Rattle.realm_model.specs.Ops.{zone_of}
 use Rattle.realm_model.specs.Owns.{OwnEvent}
 use Rattle.realm_model.specs.declared.op.Op.{Op}
-use Rattle.realm_model.specs.declared.op.Op.TheVariants.{BucketRead, Page, HeadRead}
+use Rattle.realm_model.specs.declared.op.Op.TheVariants.{BucketRead, Page, Suggest, HeadRead}
 use Rattle.realm_model.specs.declared.event.Reply.TheVariants.{Row, Entries, Head as head_reply}
 use Rattle.swift_auth.specs.declared.policy.Deed.TheVariants.{ListContainer}
 use Rattle.task_words.specs.declared.outcome.Outcome.{Outcome}
@@ -30,6 +31,7 @@ use Rattle.list_words.specs.declared.command.ListCommand.{ListCommand}
 use Rattle.list_words.specs.declared.row.ListedRow.{ListedRow}
 use Rattle.list_words.specs.Listings.{is_before, in_scope, subdir_of, most_rows, rows_of}
 use Rattle.task_list.specs.declared.request.ListRequest.{ListRequest}
+use Rattle.task_list.specs.Repairs.{IsRepaired}
 
 -- ---- operations
 
@@ -49,15 +51,20 @@ asks_page zone row shard after = Page zone (shard_key row.id row.instance shard)
 abbrev pub asks_head : ℕ → ℕ → List ℕ → Op
 asks_head zone container name = HeadRead zone container name
 
--- it is one of these three, which read; a page is one of a shard
+-- it is one of these three, which read, or suggests; pages and suggestions are of a shard
 abbrev pub is_of_listing : Op → Bool
 is_of_listing (BucketRead zone name) = true
 is_of_listing (Page zone key after limit) = is_shard_key key
+is_of_listing (Suggest zone key name revision seen version row) = is_shard_key key
 is_of_listing (HeadRead zone container name) = true
 is_of_listing op = false
 
 abbrev pub AreOfListing : List OwnEvent → Type 0
 AreOfListing events = AllByRecursion (λ (e : OwnEvent). is_of_listing e.op ≡ true) events
+
+-- all are in one zone
+abbrev pub AreInZone : ℕ → List OwnEvent → Type 0
+AreInZone zone events = AllByRecursion (λ (e : OwnEvent). zone_of e.op ≡ zone) events
 
 -- ---- what pages and heads show
 
@@ -201,12 +208,15 @@ pub record ListedBy (r : ListRequest) (rows : List ListedRow) (y : Account) (eve
   pub granted : row_refusal r.asker (Some row) ListContainer ≡ None
   pub shown : AreShown r.zone r.command row.id rows events
 
--- no own change of a head was tried, each own event reads, and heads were read where a change was under way
+-- no own change of a head was tried, each own event reads in the zone or suggests there, heads were read where a change was
+-- under way, and suggested was directly behind such a read, just where a tag was due at the name's page
 pub record OnlyReads (r : ListRequest) (y : Account) (events : List OwnEvent) : Type 0 where
   pub untried : y.target ≡ None
   pub unchanged : y.changes ≡ 0
   pub heads : AreUnsettled r.zone r.command events
   pub reads : AreOfListing events
+  pub inside : AreInZone r.zone events
+  pub repairs : IsRepaired events
 
 -- the last own bucket read refuses it
 abbrev pub RefusedBy : ListRequest → Refusal → Account → Type 0

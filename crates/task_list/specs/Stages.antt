@@ -182,12 +182,12 @@ IsPlace c m shard name Places.Due =
 abbrev pub PassedFits : ℕ → ListCommand → Merging → Passed → List OwnEvent → Type 0
 PassedFits zone c m Passes.On events = MergingFits zone c m m.used_up events
 PassedFits zone c m Passes.Past events = AreShown zone c (m.row).id (rows_in m.progress) events
-PassedFits zone c m (Passes.Head name) events = HeadFits zone c m name events
+PassedFits zone c m (Passes.Head wanted) events = HeadFits zone c m wanted.name events
 
 -- how the listing goes on
 abbrev pub NextFits : ℕ → ListCommand → Merging → Next → List OwnEvent → Type 0
 NextFits zone c m (Nexts.Page next) events = MergingFits zone c m (Some next) events × (m.used_up ≡ None)
-NextFits zone c m (Nexts.Head name) events = HeadFits zone c m name events
+NextFits zone c m (Nexts.Head wanted) events = HeadFits zone c m wanted.name events
 NextFits zone c m Nexts.Done events = AreShown zone c (m.row).id (rows_in m.progress) events
 
 -- what a listing of all shards' pages stands at

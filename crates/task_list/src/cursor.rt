@@ -12,6 +12,8 @@ pub struct Cursor {
     pub rest: IntoIter<Entry>,
     /// Whether the shard has no entry behind the page.
     pub end: bool,
+    /// The clock at the page.
+    pub clock: u64,
 }
 
 impl Cursor {
@@ -21,9 +23,11 @@ impl Cursor {
     /// All of a page; `None` where it has no entries.
     pub fn new(shard: u32, page: EntryPage) -> Option<Cursor>
         ensures some { IfSome result (λ c. (c.shard ≡ shard) × (c.end ≡ page.end) × (left_of c ≡ page.rows)) }
+        ensures clock { IfSome result (λ c. c.clock ≡ page.clock) }
         ensures none { IfNone result (page.rows ≡ []) }
     {
         let end = page.end;
+        let clock = page.clock;
         let mut rest = page.rows.into_vec().into_iter();
         let front = rest.next()?;
         Some(Cursor {
@@ -31,6 +35,7 @@ impl Cursor {
             front,
             rest,
             end,
+            clock,
         })
     }
 
@@ -38,12 +43,14 @@ impl Cursor {
     pub fn split(self) -> (Entry, Option<Cursor>)
         ensures left { left_of self ≡ result.0 ∷ left_in result.1 }
         ensures same { IfSome result.1 (λ c. (c.shard ≡ self.shard) × (c.end ≡ self.end)) }
+        ensures clock { IfSome result.1 (λ c. c.clock ≡ self.clock) }
     {
         let Cursor {
             shard,
             front,
             mut rest,
             end,
+            clock,
         } = self;
         let next = match rest.next() {
             Some(next) => Some(Cursor {
@@ -51,6 +58,7 @@ impl Cursor {
                 front: next,
                 rest,
                 end,
+                clock,
             }),
             None => None,
         };

@@ -1,9 +1,12 @@
 //! The rows of a listing out of the pages of a container's shards.
+ghost use Rattle.std.specs.Prelude.{◌≡◌, Some, None, if◌then◌else◌};
+ghost use Rattle.object_words.specs.Tags.{has_due};
+
 use crate::cursor::Cursor;
 use crate::merge::Merge;
 use crate::progress::Progress;
 use list_words::{ListCommand, ListedRows};
-use object_words::{Bucket, Entry, EntryPage, ObjectName, SeenSlot, shard_of};
+use object_words::{Bucket, Entry, EntryPage, ObjectName, SeenSlot, Tags, shard_of};
 use rgw_types::Text;
 use std::alloc::{AllocError, Global};
 
@@ -12,6 +15,23 @@ use std::alloc::{AllocError, Global};
 pub struct NextPage {
     pub shard: u32,
     pub after: Text,
+}
+
+/// An entry that had a tag due at its page.
+#[derive(Clone, Copy, Debug, PartialEq, Eq)]
+pub struct Due {
+    pub shard: u32,
+    pub revision: u64,
+    /// The clock at the page.
+    pub seen: u64,
+}
+
+/// A name whose head is wanted.
+#[derive(Drop)]
+pub struct Wanted {
+    pub name: ObjectName,
+    /// Its entry, where a suggestion is due.
+    pub due: Option<Due>,
 }
 
 /// Pages of the shards that a row names.
@@ -31,7 +51,7 @@ pub struct Merging {
 pub enum Next {
     Page(NextPage),
     /// The head of this name.
-    Head(ObjectName),
+    Head(Wanted),
     /// Nothing: the rows are there.
     Done,
 }
@@ -56,7 +76,7 @@ enum Passed {
     /// The listing asks for no name from here on.
     Past,
     /// The head of this name comes next.
-    Head(ObjectName),
+    Head(Wanted),
 }
 
 impl Merging {
@@ -65,6 +85,8 @@ impl Merging {
     ghost use Rattle.list_words.specs.declared.command.ListCommand.{ListCommand as CommandOf};
     ghost use Rattle.task_list.specs.Progresses.{settled_of, rows_in};
     ghost use Rattle.task_list.specs.Stages.{IsSettledTo, IsRowShown, MergingFits, HeadFits, NextFits, IsPageEvent, IsHeadEvent, row_in};
+    ghost use Rattle.task_list.specs.Repairs.{Told, told_row};
+    ghost use Rattle.task_list.specs.Sightings.{MergingTold, NextTold, IsInOrder, with_page};
 
     /// No page came yet.
     pub fn new(alloc: Global, row: Bucket, progress: Progress) -> Merging
@@ -73,6 +95,7 @@ impl Merging {
             → IsRowShown zone c row events
             → IsSettledTo zone c row.id (settled_of progress) (rows_in progress) events
             → MergingFits zone c result None events }
+        ensures told { MergingTold result None (told_row (Some (row_in result))) }
         ensures none { result.used_up ≡ None }
     {
         Merging {
@@ -100,6 +123,8 @@ impl Merging {
             → MergingFits zone c self.old (Some next.now) events
             → IsPageEvent zone (row_in self.old) next.now page events own
             → MergingFits zone c self.new None (events ++ own ∷ [])) }
+        ensures told { OnOk result ((t : Told) → MergingTold self.old (Some next.now) t → IsInOrder (Some page)
+            → MergingTold self.new None (with_page (row_in self.old) next.now page t)) }
     {
         if let Some(cursor) = Cursor::new(next.shard, page) {
             self.merge.push(cursor)?;
@@ -120,6 +145,7 @@ impl Merging {
             → HeadFits zone command.now self.old name events
             → IsHeadEvent zone (row_in self.old).id name slot events own
             → MergingFits zone command.now self.new self.new.used_up (events ++ own ∷ [])) }
+        ensures told { (t : Told) → MergingTold self.old self.old.used_up t → MergingTold self.new self.new.used_up t }
     {
         self.progress.take_head(alloc, command, name, slot)
     }
@@ -130,6 +156,8 @@ impl Merging {
         ensures fits { IfOk result (λ next. (zone : ℕ) (events : List OwnEvent)
             → MergingFits zone command.now self.old self.old.used_up events
             → NextFits zone command.now self.new next events) }
+        ensures told { IfOk result (λ next. (t : Told)
+            → MergingTold self.old self.old.used_up t → NextTold self.new next t) }
     {
         let shards = self.row.shards.get();
         if self.unread < shards {
@@ -155,6 +183,8 @@ impl Merging {
     ghost use Rattle.task_list.specs.Merges.{left_count};
     ghost use Rattle.task_list.specs.Progresses.{settled_of, rows_in};
     ghost use Rattle.task_list.specs.Stages.{MergingFits, PoppedFits, EntryFits, PassedFits, NextFits, IsRead, IsPlace, row_in};
+    ghost use Rattle.task_list.specs.Repairs.{Told};
+    ghost use Rattle.task_list.specs.Sightings.{MergingTold, PoppedTold, EntryTold, PassedTold, NextTold};
 
     /// Passes names, where a page of each shard was asked for.
     fn advance(&mut self, alloc: Global, command: &ListCommand) -> Result<Next, AllocError>
@@ -163,6 +193,8 @@ impl Merging {
         ensures fits { IfOk result (λ next. (zone : ℕ) (events : List OwnEvent)
             → MergingFits zone command.now self.old self.old.used_up events
             → NextFits zone command.now self.new next events) }
+        ensures told { IfOk result (λ next. (t : Told)
+            → MergingTold self.old self.old.used_up t → NextTold self.new next t) }
     {
         'names: loop {
             if self.progress.is_full(command) {
@@ -177,7 +209,7 @@ impl Merging {
             match self.pass(alloc, command, cursor)? {
                 Passed::On => {}
                 Passed::Past => return Ok(Next::Done),
-                Passed::Head(name) => return Ok(Next::Head(name)),
+                Passed::Head(wanted) => return Ok(Next::Head(wanted)),
             }
         }
     }
@@ -197,11 +229,14 @@ impl Merging {
         ensures fits { IfOk result (λ passed. (zone : ℕ) (events : List OwnEvent)
             → PoppedFits zone command.now self.old cursor events
             → PassedFits zone command.now self.new passed events) }
+        ensures told { IfOk result (λ passed. (t : Told)
+            → PoppedTold self.old cursor t → PassedTold self.new passed t) }
         ensures fewer { IfOk result (λ _. left_count self.new.merge < left_count self.old.merge + length (left_of cursor)) }
     {
         let shard = cursor.shard;
+        let clock = cursor.clock;
         let entry = self.put_back(cursor)?;
-        self.take(alloc, command, shard, entry)
+        self.take(alloc, command, shard, clock, entry)
     }
 
     /// Takes the first entry of a page, and puts back what is left.
@@ -214,6 +249,8 @@ impl Merging {
         ensures fits { IfOk result (λ entry. (zone : ℕ) (c : CommandOf) (events : List OwnEvent)
             → PoppedFits zone c self.old cursor events
             → EntryFits zone c self.new cursor.shard entry events) }
+        ensures told { IfOk result (λ entry. (t : Told)
+            → PoppedTold self.old cursor t → EntryTold self.new cursor.shard cursor.clock entry t) }
         ensures fewer { OnOk result (left_count self.new.merge < left_count self.old.merge + length (left_of cursor)) }
     {
         let shard = cursor.shard;
@@ -239,6 +276,7 @@ impl Merging {
         alloc: Global,
         command: &ListCommand,
         shard: u32,
+        clock: u64,
         entry: Entry,
     ) -> Result<Passed, AllocError>
         requires read { IsRead self.old }
@@ -249,9 +287,12 @@ impl Merging {
         ensures fits { IfOk result (λ passed. (zone : ℕ) (events : List OwnEvent)
             → EntryFits zone command.now self.old shard entry events
             → PassedFits zone command.now self.new passed events) }
+        ensures told { IfOk result (λ passed. (t : Told)
+            → EntryTold self.old shard clock entry t → PassedTold self.new passed t) }
     {
         let Entry {
             name,
+            revision,
             row,
             tags,
             ..
@@ -267,7 +308,10 @@ impl Merging {
                 self.progress.take(alloc, command, name, row)?;
                 Ok(Passed::On)
             }
-            Place::Due => Ok(Passed::Head(name)),
+            Place::Due => {
+                let due = due_by(shard, clock, revision, &tags);
+                Ok(Passed::Head(Wanted { name, due }))
+            }
         }
     }
 
@@ -298,4 +342,28 @@ impl Merging {
     {
         shard_of(name.as_text().as_bytes(), self.row.shards) == shard && self.progress.is_open(name)
     }
+}
+
+/// What a suggestion needs to know of an entry on a page of this shard at this clock, where one is due.
+fn due_by(shard: u32, clock: u64, revision: u64, tags: &Tags) -> Option<Due>
+    ensures { result ≡ (if has_due clock tags.now
+        then Some (record { shard = shard; revision = revision; seen = clock })
+        else None) }
+{
+    if has_due(tags, clock) {
+        Some(Due {
+            shard,
+            revision,
+            seen: clock,
+        })
+    } else {
+        None
+    }
+}
+
+/// Whether some tag is due at a moment.
+fn has_due(tags: &Tags, moment: u64) -> bool
+    ensures { result ≡ has_due moment tags.now }
+{
+    tags.as_slice().iter().any(|tag| tag.deadline <= moment)
 }

@@ -1,12 +1,12 @@
-ghost use Rattle.std.specs.Prelude.{◌≡◌, ◌≤◌, ◌⊎◌, IfOk, OnOk, None};
+ghost use Rattle.std.specs.Prelude.{◌≡◌, ◌≤◌, ◌⊎◌, IfOk, OnOk, None, option_copied};
 ghost use Rattle.realm_model.specs.Settings.{SettingsView};
 ghost use Rattle.realm_model.specs.Doors.{DoorView, actor_at};
 ghost use Rattle.realm_model.specs.Accounts.{blank};
 ghost use Rattle.realm_model.specs.Histories.{account_of};
 ghost use Rattle.realm_model.specs.Owns.{own_events};
 ghost use Rattle.std.specs.Prelude.{[]};
-ghost use Rattle.task_list.specs.declared.stage.Stage.TheVariants.{Broken as broken};
-ghost use Rattle.task_list.specs.Tasks.{IsOver, IsGoing, Takes, op_of, request_of, stage_of, fault_of, fits};
+ghost use Rattle.task_list.specs.declared.stage.Stage.TheVariants.{Broken as broken, Look as looking};
+ghost use Rattle.task_list.specs.Tasks.{IsOver, is_broken, refused_in, IsGoing, Takes, TakesTold, op_of, request_of, stage_of, fault_of, fits};
 
 use crate::request::ListRequest;
 use crate::stage::{Stage, next_stage};
@@ -16,15 +16,15 @@ use realm_model::{Op, Reply};
 use rgw_types::Text;
 use std::alloc::{AllocError, Global};
 use std::mem::replace;
-use task_words::Outcome;
+use task_words::{MapReply, Outcome};
 use turn_cell::DoorFault;
 
 /// The most entries of a page.
 const PAGE_LIMIT: u32 = 1000;
 
 /// A request for a listing: the row is read, then a page of each shard by its number, and then, by rising
-/// name, the head of each name that a change is under way of, and the next page of each shard whose page
-/// is used up. Where a shard no longer serves, the row is read again, and the pages of all shards above
+/// name, the head of each name that a change is under way of, behind it a suggestion where the entry had a
+/// tag due at its page, and the next page of each shard whose page is used up. Where a shard no longer serves, the row is read again, and the pages of all shards above
 /// the last name that was settled.
 #[derive(Drop)]
 pub struct ListTask {
@@ -44,12 +44,33 @@ impl ListTask {
             → fits result settings d }
         ensures sound { fault_of result ≡ None }
         ensures open { IsOver (stage_of result) → ⊥ }
+        ensures looks { stage_of result ≡ looking None }
     {
         ListTask {
             request,
             stage: Stage::Look(None),
             moved: 0,
             fault: None,
+        }
+    }
+
+    /// Whether there was no memory to go on.
+    pub fn is_broken(&self) -> bool
+        ensures { result ≡ is_broken (stage_of self.now) }
+    {
+        matches!(self.stage, Stage::Broken)
+    }
+
+    /// The outcome, where the container's row refused the listing.
+    pub fn refused(&self) -> Option<&Outcome>
+        ensures { option_copied result ≡ refused_in (stage_of self.now) }
+    {
+        match &self.stage {
+            Stage::Ended(outcome) => match outcome {
+                Outcome::Done(MapReply::Refused(_)) => Some(outcome),
+                _ => None,
+            },
+            _ => None,
         }
     }
 
@@ -71,11 +92,12 @@ impl ListTask {
                 after: next.after.clone()?,
                 limit: PAGE_LIMIT,
             }),
-            Stage::Head(merging, name) => Ok(Op::HeadRead {
+            Stage::Head(merging, wanted) => Ok(Op::HeadRead {
                 zone,
                 container: merging.row.id,
-                name: name.clone()?,
+                name: wanted.name.clone()?,
             }),
+            Stage::Suggest(merging, suggestion) => suggestion.op(zone, &merging.row),
             Stage::Look(_) => Ok(Op::BucketRead {
                 zone,
                 name: self.request.command.container.clone()?,
@@ -91,6 +113,7 @@ impl ListTask {
         ensures fault { self.new.fault ≡ self.old.fault }
         ensures taken { (self.new.stage ≡ broken)
             ⊎ Takes self.old.request self.old.stage self.old.moved reply self.new.stage self.new.moved }
+        ensures told { (self.new.stage ≡ broken) ⊎ TakesTold self.old.stage reply self.new.stage }
     {
         let stage = replace(&mut self.stage, Stage::Broken);
         if let Ok((stage, moved)) = next_stage(alloc, &self.request, stage, self.moved, reply) {
@@ -105,7 +128,8 @@ impl ListTask {
     ghost use Rattle.turn_cell.specs.declared.machine.DoorFault.TheVariants.{Worn};
     ghost use Rattle.realm_model.specs.Histories.{Legal};
     ghost use Rattle.realm_door.specs.Turns.{MakesEvent, IsOneMore};
-    ghost use Rattle.task_list.specs.Tasks.{IsOver, stage_of, request_of, fault_of, fits};
+    ghost use Rattle.task_list.specs.declared.stage.Stage.TheVariants.{Look};
+    ghost use Rattle.task_list.specs.Tasks.{IsOver, IsPast, stage_of, request_of, fault_of, fits};
 
     /// Makes the event that comes next.
     #[tactic(auto, using(crate::proofs::Turning::fits_next, crate::proofs::Turning::may_step))]
@@ -126,6 +150,7 @@ impl ListTask {
         ensures made { OnOk result (D.tells → MakesEvent (D.settings door.old) moment (D.told door.old) (D.told door.new)) }
         ensures alone { OnOk result (D.tells → D.alone → IsOneMore (D.told door.old) (D.told door.new)) }
         ensures counts { OnOk result ((D.last door.old < D.last door.new) × (D.last door.new ≤ 2 ^ 62)) }
+        ensures looked { OnOk result (stage_of self.old ≡ Look None → IsPast (stage_of self.new)) }
         ensures request { request_of self.new ≡ request_of self.old }
         ensures stopped { OnErr result ((D.tells → D.told door.new ≡ D.told door.old) × (D.last door.new ≡ D.last door.old)) }
         ensures sound { OnOk result (fault_of self.new ≡ None) }

@@ -10,7 +10,7 @@ use Rattle.object_words.specs.declared.bucket.Bucket.{Bucket}
 use Rattle.task_list.specs.Tasks.{Going, Looking, FitsAt, fits}
 use Rattle.task_list.specs.declared.request.ListRequest.{ListRequest}
 use Rattle.task_list.specs.declared.stage.Stage.{Stage}
-use Rattle.task_list.specs.declared.stage.Stage.TheVariants.{Look, Page, Head, Broken, Ended}
+use Rattle.task_list.specs.declared.stage.Stage.TheVariants.{Look, Page, Head, Suggest, Broken, Ended}
 use Rattle.task_list.specs.declared.task.ListTask.{ListTask}
 use Rattle.task_turns.specs.Waiting.{Waited}
 
@@ -25,6 +25,7 @@ module _ (r : ListRequest) (y : Account) (events : List OwnEvent) (last later : 
     moved_before = (let low = g.moved_before in omega (arith, low, longer));
     numbered = λ k d h. let low = g.numbered k d h in omega (arith, low, longer);
     reads = g.reads;
+    inside = g.inside;
   }
 
   looking_longer : (row : Bucket) → Looking r row y last → Looking r row y later
@@ -40,9 +41,10 @@ module _ (r : ListRequest) (y : Account) (events : List OwnEvent) (last later : 
   }
 
   fits_longer : (stage : Stage) (moved : ℕ) → FitsAt r stage moved y events last → FitsAt r stage moved y events later
-  fits_longer (Look known) moved f = (going_longer moved f.0, f.1)
-  fits_longer (Page m next) moved f = (going_longer moved f.0, looking_longer m.row f.1, f.2, f.3)
-  fits_longer (Head m name) moved f = (going_longer moved f.0, looking_longer m.row f.1, f.2)
+  fits_longer (Look known) moved f = (going_longer moved f.0, f.1, f.2)
+  fits_longer (Page m next) moved f = (going_longer moved f.0, looking_longer m.row f.1, f.2, f.3, f.4)
+  fits_longer (Head m wanted) moved f = (going_longer moved f.0, looking_longer m.row f.1, f.2, f.3)
+  fits_longer (Suggest m s) moved f = (going_longer moved f.0, looking_longer m.row f.1, f.2, f.3)
   fits_longer Broken moved f = f
   fits_longer (Ended outcome) moved f = f
 

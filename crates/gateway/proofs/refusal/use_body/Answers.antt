@@ -1,33 +1,21 @@
-use Rattle.std.proofs.Common.{refl, sym, subst}
-use Rattle.swift_requests.specs.declared.body.BodyUse.{BodyUse}
-use Rattle.call_words.specs.Streams.{IsRead}
-use Rattle.gateway.proofs.Unwanted.{body_used, body_left}
+use Rattle.std.proofs.Common.{rules, ◌≡◌, true, false}
+use Rattle.swift_requests.specs.Bodies.{is_unread}
+use Rattle.std.proofs.lemmas.Result.{err_from_is_err_and}
+use Rattle.gateway.proofs.Unwanted.{used, not_used, left}
 use Rattle.gateway.proofs.refusal.use_body.Goals as goal
 
-pub drop_body-requires-clause-plain : goal.drop_body-requires-clause-plain
-drop_body-requires-clause-plain g c =
-    (c.requires.before.due c.in-Fed.field-0 (subst (λ (p : BodyUse). IsRead p c.in-Fed.field-0) (sym c.in-Fed.is) refl)).1
+pub returns-then-is_unread-clause-used : goal.returns-then-is_unread-clause-used
+returns-then-is_unread-clause-used g c =
+    let unread : is_unread c.args.plan ≡ true = search rules in
+    not_used c.args.plan c.args.intake.now (g.S.Source.left c.args.source.now) unread
 
-pub drop_body-requires-in-Dropped-clause-plain : goal.drop_body-requires-in-Dropped-clause-plain
-drop_body-requires-in-Dropped-clause-plain g c =
-    (c.requires.before.due c.in-Dropped.field-0 (subst (λ (p : BodyUse). IsRead p c.in-Dropped.field-0) (sym c.in-Dropped.is) refl)).1
+pub returns-in_err-end-clause-err : goal.returns-in_err-end-clause-err
+returns-in_err-end-clause-err g c =
+    let read : is_unread c.args.plan ≡ false = search rules in
+    let p = err_from_is_err_and c.from_residual.result c.from_residual.ensures.1 in
+    rw (p.1, p.2) (left c.args.plan c.args.intake.now (g.S.Source.left c.args.source.now) (g.S.Source.left c.drop_body.new.source) c.in_err-end.field-0.0 read c.in_err-end.ensures.err)
 
-pub returns-in-Fed-clause-used : goal.returns-in-Fed-clause-used
-returns-in-Fed-clause-used g c =
-    body_used c.args.plan c.args.intake.now c.drop_body.new.intake (g.S.Source.left c.args.source.now) (g.S.Source.left c.drop_body.new.source) c.in-Fed.field-0
-    (subst (λ (p : BodyUse). IsRead p c.in-Fed.field-0) (sym c.in-Fed.is) refl) c.requires.before c.drop_body.result c.drop_body.ensures.dropped
-
-pub returns-in-Fed-clause-err : goal.returns-in-Fed-clause-err
-returns-in-Fed-clause-err g c =
-    body_left c.args.plan c.args.intake.now c.drop_body.new.intake (g.S.Source.left c.args.source.now) (g.S.Source.left c.drop_body.new.source) c.in-Fed.field-0
-    (subst (λ (p : BodyUse). IsRead p c.in-Fed.field-0) (sym c.in-Fed.is) refl) c.requires.before c.drop_body.result c.drop_body.ensures.err
-
-pub returns-in-Dropped-clause-used : goal.returns-in-Dropped-clause-used
-returns-in-Dropped-clause-used g c =
-    body_used c.args.plan c.args.intake.now c.drop_body-in-Dropped.new.intake (g.S.Source.left c.args.source.now) (g.S.Source.left c.drop_body-in-Dropped.new.source) c.in-Dropped.field-0
-    (subst (λ (p : BodyUse). IsRead p c.in-Dropped.field-0) (sym c.in-Dropped.is) refl) c.requires.before c.drop_body-in-Dropped.result c.drop_body-in-Dropped.ensures.dropped
-
-pub returns-in-Dropped-clause-err : goal.returns-in-Dropped-clause-err
-returns-in-Dropped-clause-err g c =
-    body_left c.args.plan c.args.intake.now c.drop_body-in-Dropped.new.intake (g.S.Source.left c.args.source.now) (g.S.Source.left c.drop_body-in-Dropped.new.source) c.in-Dropped.field-0
-    (subst (λ (p : BodyUse). IsRead p c.in-Dropped.field-0) (sym c.in-Dropped.is) refl) c.requires.before c.drop_body-in-Dropped.result c.drop_body-in-Dropped.ensures.err
+pub returns-clause-used : goal.returns-clause-used
+returns-clause-used g c =
+    let read : is_unread c.args.plan ≡ false = search rules in
+    used c.args.plan c.args.intake.now c.drop_body.new.intake (g.S.Source.left c.args.source.now) (g.S.Source.left c.drop_body.new.source) c.in_ok-end.end read c.in_ok-end.ensures.dropped

@@ -1,9 +1,9 @@
 use Rattle.std.proofs.Common.{◌+◌, ◌∙◌, ap, arith}
 use Rattle.http_intake.specs.Intake.{IntakeState}
-use Rattle.call_words.specs.Streams.{use_of}
+use Rattle.call_words.specs.Bodies.{is_left}
 use Rattle.call_service.specs.Serving.{side}
 use Rattle.gateway.specs.Calls.{site_of}
-use Rattle.gateway.proofs.Connection.{goes_below, one_more_served, served_to_fault, served_to_end}
+use Rattle.gateway.proofs.Connection.{goes_below, ok_no_fault, one_more_served, served_to_fault, served_to_end}
 use Rattle.gateway.proofs.serve.serve_requests.Goals as goal
 
 pub requests-preserved : goal.requests-preserved
@@ -11,7 +11,7 @@ requests-preserved g c =
     let taken = c.in-Ok-Further.ensures.turn in
     let turn = rw c.in-Ok-Further.field-0-is at taken.turn in
     record {
-      below = goes_below (c.requests.done + 1) turn.0.call.request.head (use_of c.args.settings.now.largest turn.0.call.request.head) turn.0.stays_open;
+      below = goes_below (c.requests.done + 1) turn.0.call.request.head (is_left turn.0.call.fate) turn.0.stays_open;
       room = omega (arith, c.requests.invariant.room, c.take_turn.ensures.kept);
       ready = turn.1;
       settings = c.take_turn.ensures.settings ∙ c.requests.invariant.settings;
@@ -19,8 +19,8 @@ requests-preserved g c =
       may = λ is. (turn.0.replied.answered.settled is).advances.may_begin;
       quiet = record {
         plan = taken.cause.plan ∙ c.requests.invariant.quiet.plan;
-        read_faults = taken.cause.read_kept (λ e. absurd (cc)) ∙ c.requests.invariant.quiet.read_faults;
-        write_faults = taken.cause.write_kept (λ e. absurd (cc)) ∙ c.requests.invariant.quiet.write_faults;
+        read_faults = taken.cause.read_kept (λ e. ok_no_fault _ _ e) ∙ c.requests.invariant.quiet.read_faults;
+        write_faults = taken.cause.write_kept (λ e. ok_no_fault _ _ e) ∙ c.requests.invariant.quiet.write_faults;
       };
       served = one_more_served g.D.Door.tells g.D.Door.alone (site_of c.args.settings.now c.args.zone) c.requests.done _ _ _ c.requests.invariant.served turn.0;
     }

@@ -10,7 +10,7 @@ abbrev pub invariant-requests : goal.invariant-requests
 invariant-requests g l = record {
   below : l.done < REQUEST_LIMIT;
   room : 0 < length l.buffer;
-  ready : IsReady l.intake;
+  ready : IsReady l.settings.largest l.intake;
   settings : g.D.Door.settings l.door ≡ g.D.Door.settings l.fn.door;
   home : g.D.Door.home l.door ≡ g.D.Door.home l.fn.door;
   may : g.D.Door.tells → MayBegin l.settings (g.D.Door.told l.door);

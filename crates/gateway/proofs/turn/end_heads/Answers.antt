@@ -1,8 +1,13 @@
-use Rattle.std.proofs.Common.{false, ap}
+use Rattle.std.proofs.Common.{false, refl, ap}
+use Rattle.std.proofs.KnownBytes.{Appends-nil}
 use Rattle.http_model.specs.declared.reply.BadRequest.TheVariants as Word
+use Rattle.call_words.specs.Streams.{at_cut}
 use Rattle.gateway.specs.Turns.{end_for}
 use Rattle.gateway.proofs.Refusing.{refused_ended, refused_left}
 use Rattle.gateway.proofs.turn.end_heads.Goals as goal
+
+pub returns-in-Cut-clause-ended : goal.returns-in-Cut-clause-ended
+returns-in-Cut-clause-ended g c = (at_cut false, ap end_for c.in-Cut.is, refl, Appends-nil (g.K.Sink.taken c.args.sink.now))
 
 pub returns-in-BadHead-clause-ended : goal.returns-in-BadHead-clause-ended
 returns-in-BadHead-clause-ended g c =

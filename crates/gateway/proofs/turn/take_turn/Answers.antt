@@ -1,6 +1,6 @@
 use Rattle.std.proofs.Common.{refl, arith}
 use Rattle.std.proofs.KnownBytes.{Appends-nil}
-use Rattle.http_model.specs.declared.reply.StreamEnd.TheVariants as Ends
+use Rattle.call_words.specs.Streams.{at_clean}
 use Rattle.gateway.specs.Calls.{site_of}
 use Rattle.gateway.proofs.Ending.{end_served, end_comes_to, end_cause}
 use Rattle.gateway.proofs.Behind.{next_good, next_bad, quiet_cause}
@@ -11,7 +11,7 @@ returns-in-Ok-None-clause-turn g c =
     let found = rw c.in-Ok-None.field-0-is at (c.in-Ok-None.ensures.found c.requires.ready.0) in
     record {
       turn = end_served g.D.Door.tells g.D.Door.alone (site_of c.args.settings.now c.args.zone) c.args.k (g.D.Door.told c.args.door.now) c.args.intake.now c.next.new.self _ _ c.requires.may
-          found.0 found.1 (Appends-nil (g.C.Clock.told c.args.clock.now)) Ends.Clean found.2.0 found.2.1 (Appends-nil (g.K.Sink.taken c.args.sink.now));
+          found.0 found.1 (Appends-nil (g.C.Clock.told c.args.clock.now)) at_clean found.2.0 found.2.1 (Appends-nil (g.K.Sink.taken c.args.sink.now));
       few = omega arith;
       cause = quiet_cause _ _ _ refl (next_good c.args.intake.now.failed (g.S.Source.faults c.args.source.now) (g.S.Source.faults c.next.new.source) _ c.requires.ready.0 c.in-Ok-None.ensures.cause) refl;
     }

@@ -1,4 +1,4 @@
-use Rattle.std.proofs.Common.{◌≡◌, subst}
+use Rattle.std.proofs.Common.{subst}
 use Rattle.std.proofs.lemmas.Result.{on_ok_weaker, IfErr-weaker, err_from_is_err_and}
 use Rattle.std.specs.Io.KnownBytes.{Appends}
 use Rattle.realm_model.specs.Doors.{actor_at}
@@ -6,8 +6,8 @@ use Rattle.realm_model.specs.Histories.{account_of}
 use Rattle.realm_model.specs.Owns.{own_events}
 use Rattle.task_list.specs.Listed.{IsListOutcome}
 use Rattle.task_list.specs.Tasks.{request_of}
-use Rattle.call_service.specs.Serving.{AppendsFront, LeavesText}
-use Rattle.call_service.specs.Replying.{Replies, stand, StopsReply}
+use Rattle.call_service.specs.Serving.{LeavesText}
+use Rattle.call_service.specs.Replying.{stand, StopsReply}
 use Rattle.list_service.specs.Listing.{site_of, asked_by}
 use Rattle.list_service.specs.Texts.{end_text}
 use Rattle.list_service.proofs.Ends.{replies}

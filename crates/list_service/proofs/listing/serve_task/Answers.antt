@@ -1,14 +1,25 @@
-use Rattle.std.proofs.Common.{rules, ◌≡◌, true, false, subst}
+use Rattle.std.proofs.Common.{◌≡◌, [], false, refl, subst}
 use Rattle.std.proofs.KnownBytes.{Appends-nil}
-use Rattle.std.proofs.lemmas.Result.{err_from_is_err_and}
+use Rattle.std.proofs.lemmas.Result.{err_from_is_err_and, IfOk-weaker, IfErr-weaker}
 use Rattle.std.specs.Io.KnownBytes.{Appends}
 use Rattle.gw_io.specs.Ends.{EndsState}
-use Rattle.task_list.specs.Tasks.{request_of}
+use Rattle.http_chunks.specs.declared.body.BodyEnd.TheVariants as Body
+use Rattle.task_list.specs.declared.request.ListRequest.{ListRequest}
+use Rattle.task_list.specs.Tasks.{is_broken, request_of, stage_of}
+use Rattle.realm_model.specs.Doors.{actor_at}
+use Rattle.realm_model.specs.Histories.{account_of}
+use Rattle.realm_model.specs.Owns.{own_events}
+use Rattle.swift_requests.specs.declared.body.BodyUse.TheVariants.{Dropped}
+use Rattle.call_words.specs.Bodies.{read_whole, broken_off}
+use Rattle.call_words.specs.Calls.{IsBorneOut}
+use Rattle.call_words.proofs.Fates.{wrong_of}
 use Rattle.call_service.specs.Bodies.{DropsBody}
-use Rattle.call_service.specs.Serving.{Asks, side}
-use Rattle.call_service.proofs.Passing.{none_given}
+use Rattle.call_service.specs.Serving.{Asks, BearsOut, side}
+use Rattle.call_service.proofs.Passing.{none_begun, breaks_so}
 use Rattle.call_service.specs.Replying.{Replies, stand, StopsReply}
+use Rattle.list_service.specs.Early.{end_at_first}
 use Rattle.list_service.specs.Listing.{site_of, asked_by}
+use Rattle.list_service.proofs.Early.{right_at_first, served_early, stops_early}
 use Rattle.call_service.proofs.Replying.{row_stops, body_stops, reply_stops, replied}
 use Rattle.list_service.proofs.listing.serve_task.Goals as goal
 
@@ -24,24 +35,24 @@ returns-in_err-act-clause-stopped g c =
     let later : EndsState = record { left = left; taken = taken; told = g.C.Clock.told c.act.new.clock; plan = g.C.Clock.plan c.act.new.clock; read_faults = g.S.Source.faults c.args.source.now; write_faults = g.K.Sink.faults c.args.sink.now } in
     let p = err_from_is_err_and c.from_residual.result c.from_residual.ensures.1 in
     rw (p.1, p.2)
-    (row_stops g.D.Door.tells g.D.Door.alone (site_of (g.D.Door.settings c.args.door.now) (request_of c.args.task.now)) c.args.form (asked_by (request_of c.args.task.now) c.args.listing) (g.D.Door.found c.act.new.door)
+    (row_stops g.D.Door.tells g.D.Door.alone (site_of (g.D.Door.settings c.args.door.now) (request_of c.args.task.now)) c.args.form (asked_by (request_of c.args.task.now) c.args.listing) Dropped (g.D.Door.found c.act.new.door)
     (side (g.D.Door.told c.args.door.now) c.args.intake.now ends) (side (g.D.Door.told c.act.new.door) c.args.intake.now later) c.in_err-act.field-0.0 now.fault
-    (none_given c.args.intake.now left c.requires.intake c.requires.plain)
+    (none_begun Dropped c.args.intake.now left c.requires.intake)
     (record { unwritten = Appends-nil taken; asks = now.unasked }))
 
-pub returns-in_err-whole-clause-stopped : goal.returns-in_err-whole-clause-stopped
-returns-in_err-whole-clause-stopped g c =
+pub returns-in_err-end-clause-stopped : goal.returns-in_err-end-clause-stopped
+returns-in_err-end-clause-stopped g c =
     let taken = g.K.Sink.taken c.args.sink.now in
     let ends : EndsState = record { left = g.S.Source.left c.args.source.now; taken = taken; told = g.C.Clock.told c.args.clock.now; plan = g.C.Clock.plan c.args.clock.now; read_faults = g.S.Source.faults c.args.source.now; write_faults = g.K.Sink.faults c.args.sink.now } in
     let later : EndsState = record { left = g.S.Source.left c.drop_body.new.source; taken = taken; told = g.C.Clock.told c.act.new.clock; plan = g.C.Clock.plan c.act.new.clock; read_faults = g.S.Source.faults c.drop_body.new.source; write_faults = g.K.Sink.faults c.args.sink.now } in
-    let p = err_from_is_err_and c.from_residual-in_err-whole.result c.from_residual-in_err-whole.ensures.1 in
+    let p = err_from_is_err_and c.from_residual-in_err-end.result c.from_residual-in_err-end.ensures.1 in
     rw (p.1, p.2)
-    (body_stops g.D.Door.tells g.D.Door.alone (site_of (g.D.Door.settings c.args.door.now) (request_of c.args.task.now)) c.args.form (asked_by (request_of c.args.task.now) c.args.listing) (g.D.Door.found c.act.new.door)
-    (side (g.D.Door.told c.args.door.now) c.args.intake.now ends) (side (g.D.Door.told c.act.new.door) c.drop_body.new.intake later) c.in_err-whole.field-0.0 c.in_err-whole.ensures.err
+    (body_stops g.D.Door.tells g.D.Door.alone (site_of (g.D.Door.settings c.args.door.now) (request_of c.args.task.now)) c.args.form (asked_by (request_of c.args.task.now) c.args.listing) Dropped (g.D.Door.found c.act.new.door)
+    (side (g.D.Door.told c.args.door.now) c.args.intake.now ends) (side (g.D.Door.told c.act.new.door) c.drop_body.new.intake later) c.in_err-end.field-0.0 refl c.in_err-end.ensures.err
     (record { unwritten = Appends-nil taken; asks = c.in_ok-act.ensures.asks }))
 
-pub returns-in_err-send_reply-clause-stopped : goal.returns-in_err-send_reply-clause-stopped
-returns-in_err-send_reply-clause-stopped g c =
+pub returns-in_err-send_reply-in-Whole-clause-stopped : goal.returns-in_err-send_reply-in-Whole-clause-stopped
+returns-in_err-send_reply-in-Whole-clause-stopped g c =
     let before = c.in_ok-act.ensures in
     let settings = g.D.Door.settings c.args.door.now in
     let tells = g.D.Door.tells in
@@ -57,18 +68,18 @@ returns-in_err-send_reply-clause-stopped g c =
     let later : EndsState = record { left = g.S.Source.left c.drop_body.new.source; taken = now; told = told; plan = g.C.Clock.plan c.send_reply.new.clock; read_faults = g.S.Source.faults c.drop_body.new.source; write_faults = g.K.Sink.faults c.send_reply.new.sink } in
     let x = side (g.D.Door.told c.args.door.now) c.args.intake.now ends in
     let y = side e c.drop_body.new.intake later in
-    let whole : c.in_ok-whole.whole ≡ true = search rules in
-    let body = subst (DropsBody c.args.intake.now c.drop_body.new.intake ends.left later.left) whole c.in_ok-whole.ensures.dropped in
+    let whole : c.in_ok-end.end ≡ Body.Whole = c.in-Whole.is in
+    let body = subst (DropsBody c.args.intake.now c.drop_body.new.intake ends.left later.left) whole c.in_ok-end.ensures.dropped in
     let found = g.D.Door.found c.send_reply.new.door in
-    let fault = c.in_err-send_reply.field-0.0 in
+    let fault = c.in_err-send_reply-in-Whole.field-0.0 in
     let stops = subst (λ s. StopsReply tells alone (site_of s r) c.args.form (asked_by r c.args.listing) found (stand d taken mid) (stand e now told) fault) before.settings
-    (subst (λ q. StopsReply tells alone (site_of (g.D.Door.settings c.act.new.door) q) c.args.form (asked_by q c.args.listing) found (stand d taken mid) (stand e now told) fault) before.request c.in_err-send_reply.ensures.stopped) in
-    let p = err_from_is_err_and c.from_residual-in_err-send_reply.result c.from_residual-in_err-send_reply.ensures.1 in
+    (subst (λ q. StopsReply tells alone (site_of (g.D.Door.settings c.act.new.door) q) c.args.form (asked_by q c.args.listing) found (stand d taken mid) (stand e now told) fault) before.request c.in_err-send_reply-in-Whole.ensures.stopped) in
+    let p = err_from_is_err_and c.from_residual-in_err-send_reply-in-Whole.result c.from_residual-in_err-send_reply-in-Whole.ensures.1 in
     rw (p.1, p.2)
-    (reply_stops tells alone (site_of settings r) c.args.form (asked_by r c.args.listing) found x y body.0 body.1 d mid before.asks fault stops)
+    (reply_stops tells alone (site_of settings r) c.args.form (asked_by r c.args.listing) Dropped found x y read_whole tt refl c.requires.intake body.0 body.1 refl tt d mid before.asks fault stops)
 
-pub returns-clause-served : goal.returns-clause-served
-returns-clause-served g c =
+pub returns-in_ok-send_reply-in-Whole-clause-served : goal.returns-in_ok-send_reply-in-Whole-clause-served
+returns-in_ok-send_reply-in-Whole-clause-served g c =
     let before = c.in_ok-act.ensures in
     let settings = g.D.Door.settings c.args.door.now in
     let tells = g.D.Door.tells in
@@ -84,9 +95,60 @@ returns-clause-served g c =
     let later : EndsState = record { left = g.S.Source.left c.drop_body.new.source; taken = now; told = told; plan = g.C.Clock.plan c.send_reply.new.clock; read_faults = g.S.Source.faults c.drop_body.new.source; write_faults = g.K.Sink.faults c.send_reply.new.sink } in
     let x = side (g.D.Door.told c.args.door.now) c.args.intake.now ends in
     let y = side e c.drop_body.new.intake later in
-    let whole : c.in_ok-whole.whole ≡ true = search rules in
-    let body = subst (DropsBody c.args.intake.now c.drop_body.new.intake ends.left later.left) whole c.in_ok-whole.ensures.dropped in
+    let whole : c.in_ok-end.end ≡ Body.Whole = c.in-Whole.is in
+    let body = subst (DropsBody c.args.intake.now c.drop_body.new.intake ends.left later.left) whole c.in_ok-end.ensures.dropped in
     let reply = subst (λ s. Replies tells (site_of s r) c.args.form (asked_by r c.args.listing) e (Appends taken now)) before.settings
-    (subst (λ q. Replies tells (site_of (g.D.Door.settings c.act.new.door) q) c.args.form (asked_by q c.args.listing) e (Appends taken now)) before.request c.in_ok-send_reply.ensures.written) in
-    let asks = subst (λ s. Asks tells alone s false d e mid told) before.settings c.in_ok-send_reply.ensures.asks in
-    replied tells alone (site_of settings r) c.args.form (asked_by r c.args.listing) (g.D.Door.found c.send_reply.new.door) x y body.0 body.1 d mid before.asks asks reply
+    (subst (λ q. Replies tells (site_of (g.D.Door.settings c.act.new.door) q) c.args.form (asked_by q c.args.listing) e (Appends taken now)) before.request c.in_ok-send_reply-in-Whole.ensures.written) in
+    let asks = subst (λ s. Asks tells alone s false d e mid told) before.settings c.in_ok-send_reply-in-Whole.ensures.asks in
+    replied tells alone (site_of settings r) c.args.form (asked_by r c.args.listing) Dropped (g.D.Door.found c.send_reply.new.door) x y read_whole tt refl c.requires.intake body.0 body.1 refl tt d mid before.asks asks reply
+
+pub end_early-requires-clause-wrong : goal.end_early-requires-clause-wrong
+end_early-requires-clause-wrong g c κs within = wrong_of c.in_ok-end.end c.in_default.not-Whole c.in_default.not-Cut
+
+pub returns-in_default-clause-served : goal.returns-in_default-clause-served
+returns-in_default-clause-served g c =
+    let before = c.in_ok-act.ensures in
+    let settings = g.D.Door.settings c.args.door.now in
+    let r = request_of c.args.task.now in
+    let d = g.D.Door.told c.act.new.door in
+    let account = account_of settings d.seen (actor_at d) in
+    let events = own_events d.seen (actor_at d) in
+    let ends : EndsState = record { left = g.S.Source.left c.args.source.now; taken = g.K.Sink.taken c.args.sink.now; told = g.C.Clock.told c.args.clock.now; plan = g.C.Clock.plan c.args.clock.now; read_faults = g.S.Source.faults c.args.source.now; write_faults = g.K.Sink.faults c.args.sink.now } in
+    let later : EndsState = record { left = g.S.Source.left c.drop_body.new.source; taken = g.K.Sink.taken c.end_early.new.sink; told = g.C.Clock.told c.end_early.new.clock; plan = g.C.Clock.plan c.end_early.new.clock; read_faults = g.S.Source.faults c.drop_body.new.source; write_faults = g.K.Sink.faults c.end_early.new.sink } in
+    let x = side (g.D.Door.told c.args.door.now) c.args.intake.now ends in
+    let y = side d c.drop_body.new.intake later in
+    let stage = stage_of c.act.new.task in
+    let wrong = wrong_of c.in_ok-end.end c.in_default.not-Whole c.in_default.not-Cut in
+    let past = before.looked c.requires.looks in
+    let broken = breaks_so c.args.intake.now c.drop_body.new.intake ends.left later.left c.in_ok-end.end wrong c.in_ok-end.ensures.dropped in
+    let right : is_broken stage ≡ false → g.D.Door.tells → BearsOut (site_of settings r) (asked_by r c.args.listing) (broken_off c.in_ok-end.end) [] (end_at_first stage) [] d =
+    λ going tells. subst (λ (q : ListRequest). IsBorneOut q.zone q.asker (asked_by q c.args.listing) (broken_off c.in_ok-end.end) [] (end_at_first stage) [] account events) before.request
+    (right_at_first (request_of c.act.new.task) c.args.listing c.in_ok-end.end wrong _ _ account events stage going past (before.up tells).1.2) in
+    IfOk-weaker c.end_early.result _ _
+    (λ served ended. served_early g.D.Door.tells g.D.Door.alone (site_of settings r) c.args.form r c.args.listing (g.D.Door.found c.act.new.door) x y (g.C.Clock.told c.act.new.clock) before.asks (λ tells. (before.up tells).0)
+    c.in_ok-end.end wrong broken stage served past right ended)
+    c.end_early.ensures.ended
+
+pub returns-in_default-clause-stopped : goal.returns-in_default-clause-stopped
+returns-in_default-clause-stopped g c =
+    let before = c.in_ok-act.ensures in
+    let settings = g.D.Door.settings c.args.door.now in
+    let r = request_of c.args.task.now in
+    let d = g.D.Door.told c.act.new.door in
+    let account = account_of settings d.seen (actor_at d) in
+    let events = own_events d.seen (actor_at d) in
+    let ends : EndsState = record { left = g.S.Source.left c.args.source.now; taken = g.K.Sink.taken c.args.sink.now; told = g.C.Clock.told c.args.clock.now; plan = g.C.Clock.plan c.args.clock.now; read_faults = g.S.Source.faults c.args.source.now; write_faults = g.K.Sink.faults c.args.sink.now } in
+    let later : EndsState = record { left = g.S.Source.left c.drop_body.new.source; taken = g.K.Sink.taken c.end_early.new.sink; told = g.C.Clock.told c.end_early.new.clock; plan = g.C.Clock.plan c.end_early.new.clock; read_faults = g.S.Source.faults c.drop_body.new.source; write_faults = g.K.Sink.faults c.end_early.new.sink } in
+    let x = side (g.D.Door.told c.args.door.now) c.args.intake.now ends in
+    let y = side d c.drop_body.new.intake later in
+    let stage = stage_of c.act.new.task in
+    let wrong = wrong_of c.in_ok-end.end c.in_default.not-Whole c.in_default.not-Cut in
+    let past = before.looked c.requires.looks in
+    let broken = breaks_so c.args.intake.now c.drop_body.new.intake ends.left later.left c.in_ok-end.end wrong c.in_ok-end.ensures.dropped in
+    let right : is_broken stage ≡ false → g.D.Door.tells → BearsOut (site_of settings r) (asked_by r c.args.listing) (broken_off c.in_ok-end.end) [] (end_at_first stage) [] d =
+    λ going tells. subst (λ (q : ListRequest). IsBorneOut q.zone q.asker (asked_by q c.args.listing) (broken_off c.in_ok-end.end) [] (end_at_first stage) [] account events) before.request
+    (right_at_first (request_of c.act.new.task) c.args.listing c.in_ok-end.end wrong _ _ account events stage going past (before.up tells).1.2) in
+    IfErr-weaker c.end_early.result _ _
+    (λ fault left. stops_early g.D.Door.tells g.D.Door.alone (site_of settings r) c.args.form r c.args.listing (g.D.Door.found c.act.new.door) x y (g.C.Clock.told c.act.new.clock) before.asks (λ tells. (before.up tells).0)
+    c.in_ok-end.end wrong broken stage fault past right left)
+    c.end_early.ensures.left

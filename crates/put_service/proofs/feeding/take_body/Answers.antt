@@ -1,12 +1,14 @@
-use Rattle.std.proofs.Common.{◌≡◌, ◌≤◌, ◌+◌, rules, true, false, ℕ, List, [], ◌++◌, take, length, refl, sym, ◌∙◌, subst, arith, length-append}
+use Rattle.std.proofs.Common.{◌≡◌, inl, ◌≤◌, ◌+◌, rules, true, false, ℕ, List, [], ◌++◌, take, length, refl, sym, ◌∙◌, subst, arith, length-append}
 use Rattle.realm_model.specs.Settings.{SettingsView}
 use Rattle.task_put.specs.declared.stage.PutRequest.{PutRequest}
 use Rattle.task_put.specs.Bodies.{most_bytes}
 use Rattle.task_put.specs.Tasks.{request_of}
 use Rattle.task_put.specs.Taking.{fed_request}
+use Rattle.http_chunks.specs.declared.body.BodyEnd.TheVariants as End
+use Rattle.call_service.specs.Bodies.{most_due}
 use Rattle.call_service.specs.Serving.{Asks}
 use Rattle.call_service.proofs.Asking.{both_ask}
-use Rattle.call_service.proofs.Passing.{none_given, give_more, give_all, cut_behind, fail_behind}
+use Rattle.call_service.proofs.Passing.{none_given, give_more, break_behind, end_behind}
 use Rattle.put_service.specs.declared.stepping.Pause.{Pause}
 use Rattle.put_service.specs.Standing.{IsUp, PausesAt, is_untold}
 use Rattle.put_service.specs.Parts.{TakesBytes, place}
@@ -18,14 +20,14 @@ returns-in_err-pause-clause-fault g c =
     let stops = step_stops g.D.Door.tells g.D.Door.alone (g.D.Door.settings c.args.door.now) (g.D.Door.found c.advance.new.door) _
     (place (g.D.Door.told c.args.door.now) c.args.intake.now (g.S.Source.left c.args.source.now) (g.C.Clock.told c.args.clock.now))
     (place (g.D.Door.told c.advance.new.door) c.args.intake.now (g.S.Source.left c.args.source.now) (g.C.Clock.told c.advance.new.clock))
-    [] true c.in_err-pause.ensures.fault (none_given c.args.intake.now (g.S.Source.left c.args.source.now) c.requires.intake c.requires.plain) c.in_err-pause.ensures.stopped in
+    true c.in_err-pause.ensures.fault (inl ([], none_given c.args.intake.now (g.S.Source.left c.args.source.now) c.requires.intake)) c.in_err-pause.ensures.stopped in
     search (rules, stops)
 
 pub returns-in-Over-clause-taken : goal.returns-in-Over-clause-taken
 returns-in-Over-clause-taken g c =
     let pauses = subst (λ (p : Pause). PausesAt p c.advance.new.task) c.in-Over.is c.in_ok-pause.ensures.pauses in (
       [],
-      none_given c.args.intake.now (g.S.Source.left c.args.source.now) c.requires.intake c.requires.plain,
+      none_given c.args.intake.now (g.S.Source.left c.args.source.now) c.requires.intake,
       (pauses.0, pauses.1, [], c.advance.ensures.request ∙ sym (fed_none (request_of c.args.task.now))),
     )
 
@@ -39,12 +41,11 @@ pieces-init g c =
       steady = pauses.0;
       wants = pauses.1;
       intake = c.requires.intake;
-      plain = c.requires.plain;
-      few = subst (λ (q : PutRequest). length q.bytes + c.args.intake.now.body_left ≤ most_bytes) (sym c.advance.ensures.request) c.requires.few;
+      few = subst (λ (q : PutRequest). length q.bytes + most_due c.args.intake.now ≤ most_bytes) (sym c.advance.ensures.request) c.requires.few;
       faults = refl;
       so_far = (
         [],
-        none_given c.args.intake.now (g.S.Source.left c.args.source.now) c.requires.intake c.requires.plain,
+        none_given c.args.intake.now (g.S.Source.left c.args.source.now) c.requires.intake,
         c.advance.ensures.request ∙ sym (fed_none (request_of c.args.task.now)),
       );
       up = c.advance.ensures.up;
@@ -66,7 +67,7 @@ returns-in_err-feed_all-in-Bytes-clause-fault g c =
     let stops = step_stops g.D.Door.tells g.D.Door.alone settings (g.D.Door.found c.feed_all.new.door) _
     (place (g.D.Door.told c.args.door.now) c.args.intake.now (g.S.Source.left c.args.source.now) (g.C.Clock.told c.args.clock.now))
     (place (g.D.Door.told c.feed_all.new.door) c.next_piece.new.intake (g.S.Source.left c.next_piece.new.source) (g.C.Clock.told c.feed_all.new.clock))
-    (i.so_far.0 ++ piece) refused.0 c.in_err-feed_all-in-Bytes.ensures.fault gives asks in
+    refused.0 c.in_err-feed_all-in-Bytes.ensures.fault (inl (i.so_far.0 ++ piece, gives)) asks in
     search (rules, stops)
 
 pub returns-then-not-branch-clause-taken : goal.returns-then-not-branch-clause-taken
@@ -91,7 +92,7 @@ returns-then-not-branch-clause-asks g c =
     both_ask g.D.Door.tells g.D.Door.alone (g.D.Door.settings c.args.door.now) (g.D.Door.settings c.pieces.door) false (g.D.Door.told c.args.door.now) (g.D.Door.told c.pieces.door) (g.D.Door.told c.feed_all.new.door) (g.C.Clock.told c.args.clock.now) (g.C.Clock.told c.pieces.clock) (g.C.Clock.told c.feed_all.new.clock)
     i.settings i.asks c.in_ok-feed_all-in-Bytes.ensures.asks
 
-few_after : (r s : PutRequest) (piece : List ℕ) (before after : ℕ) → s ≡ fed_request r piece → length piece + after ≡ before → length r.bytes + before ≤ most_bytes → length s.bytes + after ≤ most_bytes
+few_after : (r s : PutRequest) (piece : List ℕ) (before after : ℕ) → s ≡ fed_request r piece → length piece + after ≤ before → length r.bytes + before ≤ most_bytes → length s.bytes + after ≤ most_bytes
 few_after r s piece before after is due few =
     subst (λ (q : PutRequest). length q.bytes + after ≤ most_bytes) (sym is) (omega (arith, length-append r.bytes piece, due, few))
 
@@ -109,8 +110,7 @@ pieces-preserved g c =
       steady = taken.0;
       wants = taken.1;
       intake = gives.failed;
-      plain = gives.chunked;
-      few = few_after (request_of c.pieces.task) (request_of c.feed_all.new.task) piece c.pieces.intake.body_left c.next_piece.new.intake.body_left taken.2 gives.due i.few;
+      few = few_after (request_of c.pieces.task) (request_of c.feed_all.new.task) piece (most_due c.pieces.intake) (most_due c.next_piece.new.intake) taken.2 gives.due i.few;
       faults = c.in-Bytes.ensures.cause ∙ i.faults;
       so_far = (
         i.so_far.0 ++ piece,
@@ -125,27 +125,17 @@ pieces-preserved g c =
       plan = c.feed_all.ensures.plan ∙ i.plan;
     }
 
-pub returns-in-Whole-clause-taken : goal.returns-in-Whole-clause-taken
-returns-in-Whole-clause-taken g c =
+pub returns-in-Ended-clause-taken : goal.returns-in-Ended-clause-taken
+returns-in-Ended-clause-taken g c =
     let i = c.pieces.invariant in (
       i.so_far.0 ++ [],
-      give_all c.args.intake.now c.pieces.intake (g.S.Source.left c.args.source.now) (g.S.Source.left c.pieces.source) (g.S.Source.left c.next_piece.new.source) i.so_far.0 [] c.next_piece.new.intake i.so_far.1 c.in-Whole.ensures.passed,
+      end_behind c.args.intake.now c.pieces.intake (g.S.Source.left c.args.source.now) (g.S.Source.left c.pieces.source) (g.S.Source.left c.next_piece.new.source) i.so_far.0 c.next_piece.new.intake c.in-Ended.end i.so_far.1 c.in-Ended.ensures.passed,
       (i.steady, i.wants, fed_behind (request_of c.args.task.now) (request_of c.pieces.task) (request_of c.pieces.task) i.so_far.0 [] i.so_far.2 (sym (fed_none (request_of c.pieces.task)))),
-    )
-
-pub returns-in-Cut-clause-taken : goal.returns-in-Cut-clause-taken
-returns-in-Cut-clause-taken g c =
-    let i = c.pieces.invariant in (
-      i.so_far.0 ++ [],
-      cut_behind c.args.intake.now c.pieces.intake (g.S.Source.left c.args.source.now) (g.S.Source.left c.pieces.source) (g.S.Source.left c.next_piece.new.source) i.so_far.0 [] i.so_far.1 c.in-Cut.ensures.passed,
     )
 
 pub returns-in-Failed-clause-fault : goal.returns-in-Failed-clause-fault
 returns-in-Failed-clause-fault g c =
     let i = c.pieces.invariant in (
-      (
-        i.so_far.0 ++ [],
-        fail_behind c.args.intake.now c.pieces.intake (g.S.Source.left c.args.source.now) (g.S.Source.left c.pieces.source) (g.S.Source.left c.next_piece.new.source) i.so_far.0 [] i.so_far.1 c.in-Failed.ensures.passed,
-      ),
+      break_behind c.args.intake.now c.pieces.intake (g.S.Source.left c.args.source.now) (g.S.Source.left c.pieces.source) (g.S.Source.left c.next_piece.new.source) i.so_far.0 End.Cut i.so_far.1 c.in-Failed.ensures.passed,
       i.asks,
     )

@@ -2,7 +2,7 @@ use Rattle.std.proofs.Common.{◌≡◌, ◌≤◌, ◌<◌, ◌+◌, ℕ, false
 use Rattle.task_put.specs.Bodies.{most_bytes}
 use Rattle.task_put.specs.Tasks.{request_of, stage_of, fault_of}
 use Rattle.task_put.specs.Taking.{WantsBytes, fed_request}
-use Rattle.call_service.specs.Bodies.{HasGiven}
+use Rattle.call_service.specs.Bodies.{most_due, HasGiven}
 use Rattle.call_service.specs.Serving.{Asks}
 use Rattle.put_service.specs.Standing.{IsUp, IsSteady}
 use Rattle.put_service.proofs.feeding.take_body.Given as goal
@@ -15,8 +15,7 @@ invariant-pieces g l = record {
   steady : IsSteady l.task;
   wants : WantsBytes (stage_of l.task);
   intake : l.intake.failed ≡ None;
-  plain : l.intake.chunked ≡ false;
-  few : length ((request_of l.task).bytes) + l.intake.body_left ≤ most_bytes;
+  few : length ((request_of l.task).bytes) + most_due l.intake ≤ most_bytes;
   faults : g.S.Source.faults l.source ≡ g.S.Source.faults l.fn.source;
   so_far : (given : List ℕ) × HasGiven l.fn.intake l.intake (g.S.Source.left l.fn.source) (g.S.Source.left l.source) given
       × (request_of l.task ≡ fed_request (request_of l.fn.task) given);
@@ -28,4 +27,4 @@ invariant-pieces g l = record {
 }
 
 abbrev pub decreases-pieces : goal.decreases-pieces
-decreases-pieces g l = l.intake.body_left
+decreases-pieces g l = most_due l.intake

@@ -1,6 +1,5 @@
 use Rattle.std.proofs.Common.{◌≡◌, Some, ap, ◌∙◌, subst}
 use Rattle.call_service.specs.Serving.{Asks}
-use Rattle.task_words.specs.declared.command.BodyEnd.TheVariants.{Whole}
 use Rattle.task_put.specs.Bodies.{first_end}
 use Rattle.task_put.specs.Tasks.{request_of}
 use Rattle.put_service.specs.declared.stepping.Pause.{Pause}
@@ -10,20 +9,20 @@ use Rattle.put_service.proofs.Ending.{ends_by_event, ends_by_body}
 use Rattle.put_service.proofs.put.conclude.Goals as goal
 
 pub advance-requires-clause-steady : goal.advance-requires-clause-steady
-advance-requires-clause-steady g c κs within = steady_ended c.args.task.now c.finish.new.self Whole c.finish.ensures.task c.requires.steady
+advance-requires-clause-steady g c κs within = steady_ended c.args.task.now c.finish.new.self c.args.end c.finish.ensures.task c.requires.steady
 
 pub returns-in-Over-clause-ended : goal.returns-in-Over-clause-ended
 returns-in-Over-clause-ended g c =
     let pauses = subst (λ (p : Pause). PausesAt p c.advance.new.task) c.in-Over.is c.in_ok-advance.ensures.pauses in
     ends_by_event g.D.Door.tells g.D.Door.alone (g.D.Door.settings c.args.door.now) c.advance.new.task (g.D.Door.told c.args.door.now) (g.D.Door.told c.advance.new.door) (g.C.Clock.told c.args.clock.now) (g.C.Clock.told c.advance.new.clock)
-    pauses.0 pauses.1
+    c.args.end pauses.0 pauses.1
     (subst (λ (p : Pause). Asks g.D.Door.tells g.D.Door.alone (g.D.Door.settings c.args.door.now) (is_untold p) (g.D.Door.told c.args.door.now) (g.D.Door.told c.advance.new.door) (g.C.Clock.told c.args.clock.now) (g.C.Clock.told c.advance.new.clock)) c.in-Over.is c.in_ok-advance.ensures.asks)
 
 pub returns-in-ByEnd-clause-ended : goal.returns-in-ByEnd-clause-ended
 returns-in-ByEnd-clause-ended g c =
     let pauses = subst (λ (p : Pause). PausesAt p c.advance.new.task) c.in-ByEnd.is c.in_ok-advance.ensures.pauses in
-    let whole : (request_of c.advance.new.task).end ≡ Some Whole =
-    ap (λ r. r.end) (c.advance.ensures.request ∙ ap request_of c.finish.ensures.task) ∙ ap (λ e. first_end e Whole) c.requires.open in
+    let whole : (request_of c.advance.new.task).end ≡ Some c.args.end =
+    ap (λ r. r.end) (c.advance.ensures.request ∙ ap request_of c.finish.ensures.task) ∙ ap (λ e. first_end e c.args.end) c.requires.open in
     ends_by_body g.D.Door.tells g.D.Door.alone (g.D.Door.settings c.args.door.now) c.advance.new.task (g.D.Door.told c.args.door.now) (g.D.Door.told c.advance.new.door) (g.C.Clock.told c.args.clock.now) (g.C.Clock.told c.advance.new.clock)
-    whole pauses
+    c.args.end whole pauses
     (subst (λ (p : Pause). Asks g.D.Door.tells g.D.Door.alone (g.D.Door.settings c.args.door.now) (is_untold p) (g.D.Door.told c.args.door.now) (g.D.Door.told c.advance.new.door) (g.C.Clock.told c.args.clock.now) (g.C.Clock.told c.advance.new.clock)) c.in-ByEnd.is c.in_ok-advance.ensures.asks)

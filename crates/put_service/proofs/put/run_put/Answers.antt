@@ -1,52 +1,54 @@
-use Rattle.std.proofs.Common.{rules, true, ap, ◌∙◌, subst}
+use Rattle.std.proofs.Common.{rules, ℕ, List, true, ap, ◌∙◌, subst}
 use Rattle.std.proofs.lemmas.Result.{IfOk-weaker, IfErr-weaker}
 use Rattle.realm_model.specs.Settings.{SettingsView}
+use Rattle.call_service.specs.Bodies.{ReadsTo}
 use Rattle.call_service.proofs.Asking.{both_ask}
-use Rattle.task_words.specs.declared.command.BodyEnd.TheVariants.{Whole}
 use Rattle.task_put.specs.Taking.{ended_request}
 use Rattle.task_put.specs.Tasks.{request_of, fits}
 use Rattle.put_service.specs.declared.feeding.Taken.{Taken}
-use Rattle.put_service.specs.Parts.{TakesBody, place}
+use Rattle.put_service.specs.Parts.{TakesBytes, TakesBody, EndsSo, task_end, place}
 use Rattle.put_service.proofs.Joining.{step_stops}
-use Rattle.put_service.proofs.Ending.{ended_behind, drops_behind, leaves_behind}
+use Rattle.put_service.proofs.Ending.{concluded, begun_to, drops_behind, leaves_behind}
 use Rattle.put_service.proofs.put.run_put.Goals as goal
 
 pub conclude-requires-clause-steady : goal.conclude-requires-clause-steady
 conclude-requires-clause-steady g c κs within =
     let x = place (g.D.Door.told c.args.door.now) c.args.intake.now (g.S.Source.left c.args.source.now) (g.C.Clock.told c.args.clock.now) in
-    let y = place (g.D.Door.told c.take_body.new.door) c.take_body.new.intake (g.S.Source.left c.take_body.new.source) (g.C.Clock.told c.take_body.new.clock) in
-    let taken = subst (λ (t : Taken). TakesBody c.args.task.now c.take_body.new.task x y t) c.in-Whole.is c.in_ok-take_body.ensures.taken in
+    let m = place (g.D.Door.told c.take_body.new.door) c.take_body.new.intake (g.S.Source.left c.take_body.new.source) (g.C.Clock.told c.take_body.new.clock) in
+    let taken = subst (λ (t : Taken). TakesBody c.args.task.now c.take_body.new.task x m t) c.in-Ended.is c.in_ok-take_body.ensures.taken in
     taken.2.0
 
 pub conclude-requires-clause-open : goal.conclude-requires-clause-open
 conclude-requires-clause-open g c κs within =
     let x = place (g.D.Door.told c.args.door.now) c.args.intake.now (g.S.Source.left c.args.source.now) (g.C.Clock.told c.args.clock.now) in
-    let y = place (g.D.Door.told c.take_body.new.door) c.take_body.new.intake (g.S.Source.left c.take_body.new.source) (g.C.Clock.told c.take_body.new.clock) in
-    let taken = subst (λ (t : Taken). TakesBody c.args.task.now c.take_body.new.task x y t) c.in-Whole.is c.in_ok-take_body.ensures.taken in
+    let m = place (g.D.Door.told c.take_body.new.door) c.take_body.new.intake (g.S.Source.left c.take_body.new.source) (g.C.Clock.told c.take_body.new.clock) in
+    let taken = subst (λ (t : Taken). TakesBody c.args.task.now c.take_body.new.task x m t) c.in-Ended.is c.in_ok-take_body.ensures.taken in
     ap (λ r. r.end) taken.2.2 ∙ c.requires.open
 
-pub returns-in_err-conclude-in-Whole-clause-fault : goal.returns-in_err-conclude-in-Whole-clause-fault
-returns-in_err-conclude-in-Whole-clause-fault g c =
+pub returns-in_err-conclude-in_default-clause-fault : goal.returns-in_err-conclude-in_default-clause-fault
+returns-in_err-conclude-in_default-clause-fault g c =
     let x = place (g.D.Door.told c.args.door.now) c.args.intake.now (g.S.Source.left c.args.source.now) (g.C.Clock.told c.args.clock.now) in
     let m = place (g.D.Door.told c.take_body.new.door) c.take_body.new.intake (g.S.Source.left c.take_body.new.source) (g.C.Clock.told c.take_body.new.clock) in
     let y = place (g.D.Door.told c.conclude.new.door) c.take_body.new.intake (g.S.Source.left c.take_body.new.source) (g.C.Clock.told c.conclude.new.clock) in
-    let taken = subst (λ (t : Taken). TakesBody c.args.task.now c.take_body.new.task x m t) c.in-Whole.is c.in_ok-take_body.ensures.taken in
+    let taken = subst (λ (t : Taken). TakesBody c.args.task.now c.take_body.new.task x m t) c.in-Ended.is c.in_ok-take_body.ensures.taken in
     let asks = both_ask g.D.Door.tells g.D.Door.alone (g.D.Door.settings c.args.door.now) (g.D.Door.settings c.take_body.new.door) true x.door m.door y.door x.told m.told y.told
-    c.take_body.ensures.settings c.in_ok-take_body.ensures.asks c.in_err-conclude-in-Whole.ensures.stopped in
+    c.take_body.ensures.settings c.in_ok-take_body.ensures.asks c.in_err-conclude-in_default.ensures.stopped in
     let stops = step_stops g.D.Door.tells g.D.Door.alone (g.D.Door.settings c.args.door.now) (g.D.Door.found c.conclude.new.door) _ x y
-    taken.0 true c.in_err-conclude-in-Whole.ensures.fault taken.1.has_given asks in
+    true c.in_err-conclude-in_default.ensures.fault (begun_to x y taken.0 c.in-Ended.end c.in_default.not-Cut taken.1) asks in
     search (rules, stops)
 
-pub returns-in_ok-conclude-in-Whole-clause-ran : goal.returns-in_ok-conclude-in-Whole-clause-ran
-returns-in_ok-conclude-in-Whole-clause-ran g c =
+pub returns-in_ok-conclude-in_default-clause-ran : goal.returns-in_ok-conclude-in_default-clause-ran
+returns-in_ok-conclude-in_default-clause-ran g c =
     let x = place (g.D.Door.told c.args.door.now) c.args.intake.now (g.S.Source.left c.args.source.now) (g.C.Clock.told c.args.clock.now) in
     let m = place (g.D.Door.told c.take_body.new.door) c.take_body.new.intake (g.S.Source.left c.take_body.new.source) (g.C.Clock.told c.take_body.new.clock) in
     let y = place (g.D.Door.told c.conclude.new.door) c.take_body.new.intake (g.S.Source.left c.take_body.new.source) (g.C.Clock.told c.conclude.new.clock) in
-    let taken = subst (λ (t : Taken). TakesBody c.args.task.now c.take_body.new.task x m t) c.in-Whole.is c.in_ok-take_body.ensures.taken in
-    ended_behind g.D.Door.tells g.D.Door.alone (g.D.Door.settings c.args.door.now) (g.D.Door.settings c.take_body.new.door) (request_of c.args.task.now) c.conclude.new.task x y m.door m.told taken.0
-    c.take_body.ensures.settings taken.1 (c.conclude.ensures.request ∙ ap (λ r. ended_request r Whole) taken.2.2) c.requires.none c.requires.open c.in_ok-conclude-in-Whole.ensures.sound
+    let taken = subst (λ (t : Taken). TakesBody c.args.task.now c.take_body.new.task x m t) c.in-Ended.is c.in_ok-take_body.ensures.taken in
+    let end = c.in-Ended.end in
+    let told = subst (λ e. EndsSo g.D.Door.tells g.D.Door.alone (g.D.Door.settings c.take_body.new.door) c.conclude.new.task e m.door y.door m.told y.told) c.task_end.ensures c.in_ok-conclude-in_default.ensures.ended in
+    concluded g.D.Door.tells g.D.Door.alone (g.D.Door.settings c.args.door.now) (g.D.Door.settings c.take_body.new.door) (request_of c.args.task.now) c.conclude.new.task x y m.door m.told taken.0 end c.in_default.not-Cut
+    c.take_body.ensures.settings taken.1 (c.conclude.ensures.request ∙ ap (λ e. ended_request (request_of c.take_body.new.task) e) c.task_end.ensures ∙ ap (λ r. ended_request r (task_end end)) taken.2.2) c.requires.none c.requires.open c.in_ok-conclude-in_default.ensures.sound
     (λ tells. subst (λ (s : SettingsView). fits c.conclude.new.task s (g.D.Door.told c.conclude.new.door)) c.take_body.ensures.settings (c.conclude.ensures.up tells).1)
-    c.in_ok-take_body.ensures.asks c.in_ok-conclude-in-Whole.ensures.ended
+    c.in_ok-take_body.ensures.asks told
 
 pub returns-in-Over-clause-ran : goal.returns-in-Over-clause-ran
 returns-in-Over-clause-ran g c =
@@ -55,7 +57,7 @@ returns-in-Over-clause-ran g c =
     let y = place (g.D.Door.told c.take_body.new.door) c.drop_body.new.intake (g.S.Source.left c.drop_body.new.source) (g.C.Clock.told c.take_body.new.clock) in
     let taken = subst (λ (t : Taken). TakesBody c.args.task.now c.take_body.new.task x m t) c.in-Over.is c.in_ok-take_body.ensures.taken in
     IfOk-weaker c.drop_body.result _ _
-    (λ is_whole. drops_behind g.D.Door.tells g.D.Door.alone (g.D.Door.settings c.args.door.now) (request_of c.args.task.now) c.take_body.new.task x y m.intake m.left taken.0 taken.2.2 is_whole
+    (λ end. drops_behind g.D.Door.tells g.D.Door.alone (g.D.Door.settings c.args.door.now) (request_of c.args.task.now) c.take_body.new.task x y m.intake m.left taken.0 taken.2.2 end
     taken.1 taken.2.0 taken.2.1 taken.2.3 c.requires.open c.in_ok-take_body.ensures.sound (λ tells. (c.take_body.ensures.up tells).1) c.in_ok-take_body.ensures.asks)
     c.drop_body.ensures.dropped
 
@@ -73,5 +75,6 @@ pub returns-in-Cut-clause-ran : goal.returns-in-Cut-clause-ran
 returns-in-Cut-clause-ran g c =
     let x = place (g.D.Door.told c.args.door.now) c.args.intake.now (g.S.Source.left c.args.source.now) (g.C.Clock.told c.args.clock.now) in
     let m = place (g.D.Door.told c.take_body.new.door) c.take_body.new.intake (g.S.Source.left c.take_body.new.source) (g.C.Clock.told c.take_body.new.clock) in
-    let taken = subst (λ (t : Taken). TakesBody c.args.task.now c.take_body.new.task x m t) c.in-Cut.is c.in_ok-take_body.ensures.taken in
-    (taken, c.in_ok-take_body.ensures.asks)
+    let taken = subst (λ (t : Taken). TakesBody c.args.task.now c.take_body.new.task x m t) c.in-Ended.is c.in_ok-take_body.ensures.taken in
+    let end = subst (λ e. (given : List ℕ) × ReadsTo x.intake m.intake x.left m.left given e × TakesBytes c.args.task.now c.take_body.new.task given true) c.in-Cut.is taken in
+    search (rules, end.1, c.in_ok-take_body.ensures.asks)

@@ -1,48 +1,34 @@
-use Rattle.std.proofs.Common.{◌≡◌, rules, true, false, []}
-use Rattle.std.proofs.KnownBytes.{Appends-nil}
-use Rattle.task_put.specs.Tasks.{request_of}
-use Rattle.call_service.specs.Serving.{Site}
-use Rattle.call_service.proofs.Asking.{none_asks}
-use Rattle.call_service.proofs.Passing.{none_given}
-use Rattle.put_service.proofs.Serving.{ends_with, has_run, unwritten, stops_unwritten, stops_reply, replied}
+use Rattle.std.proofs.Common.{◌≡◌, true, false, subst}
+use Rattle.std.specs.Prelude.{IfOk, IfErr}
+use Rattle.task_put.specs.declared.stage.PutRequest.{PutRequest}
+use Rattle.call_service.specs.Serving.{Site, side}
+use Rattle.call_service.specs.Waiting.{IsPutServed, IsPutStopped}
+use Rattle.put_service.specs.Parts.{site_at}
+use Rattle.put_service.proofs.Serving.{ends_with}
+use Rattle.put_service.proofs.Waiting.{nothing_stops}
 use Rattle.put_service.proofs.put.serve_put.Goals as goal
 
 pub returns-in_default-clause-stopped : goal.returns-in_default-clause-stopped
 returns-in_default-clause-stopped g c =
     let site : Site = record { settings = g.D.Door.settings c.args.door.now; zone = c.args.zone; asker = c.args.asker } in
     let old = ends_with (g.S.Source.left c.args.source.now) (g.K.Sink.taken c.args.sink.now) (g.C.Clock.told c.args.clock.now) (g.C.Clock.plan c.args.clock.now) (g.S.Source.faults c.args.source.now) (g.K.Sink.faults c.args.sink.now) in
-    unwritten g.D.Door.tells g.D.Door.alone site c.args.form c.args.put (g.D.Door.told c.args.door.now) (g.D.Door.told c.args.door.now) c.args.intake.now c.args.intake.now old old
-    [] false (Appends-nil old.taken) (none_given c.args.intake.now old.left c.requires.intake c.requires.plain)
-    (none_asks g.D.Door.tells g.D.Door.alone site.settings (g.D.Door.told c.args.door.now) old.told (λ tells. (c.requires.new tells).legal))
-
-pub returns-in_err-run_put-clause-stopped : goal.returns-in_err-run_put-clause-stopped
-returns-in_err-run_put-clause-stopped g c =
-    let site : Site = record { settings = g.D.Door.settings c.args.door.now; zone = c.args.zone; asker = c.args.asker } in
-    let old = ends_with (g.S.Source.left c.args.source.now) (g.K.Sink.taken c.args.sink.now) (g.C.Clock.told c.args.clock.now) (g.C.Clock.plan c.args.clock.now) (g.S.Source.faults c.args.source.now) (g.K.Sink.faults c.args.sink.now) in
-    let new = ends_with (g.S.Source.left c.run_put.new.source) (g.K.Sink.taken c.args.sink.now) (g.C.Clock.told c.run_put.new.clock) (g.C.Clock.plan c.run_put.new.clock) (g.S.Source.faults c.run_put.new.source) (g.K.Sink.faults c.args.sink.now) in
-    let stops = stops_unwritten g.D.Door.tells g.D.Door.alone site c.args.form c.args.put (g.D.Door.told c.args.door.now) (g.D.Door.told c.run_put.new.door) c.args.intake.now c.run_put.new.intake old new
-    (g.D.Door.found c.run_put.new.door) _ (Appends-nil old.taken) c.in_err-run_put.ensures.fault in
-    search (rules, stops)
-
-pub returns-in_err-send_reply-in-Some-clause-stopped : goal.returns-in_err-send_reply-in-Some-clause-stopped
-returns-in_err-send_reply-in-Some-clause-stopped g c =
-    let site : Site = record { settings = g.D.Door.settings c.args.door.now; zone = c.args.zone; asker = c.args.asker } in
-    let old = ends_with (g.S.Source.left c.args.source.now) (g.K.Sink.taken c.args.sink.now) (g.C.Clock.told c.args.clock.now) (g.C.Clock.plan c.args.clock.now) (g.S.Source.faults c.args.source.now) (g.K.Sink.faults c.args.sink.now) in
-    let new = ends_with (g.S.Source.left c.run_put.new.source) (g.K.Sink.taken c.send_reply.new.sink) (g.C.Clock.told c.run_put.new.clock) (g.C.Clock.plan c.run_put.new.clock) (g.S.Source.faults c.run_put.new.source) (g.K.Sink.faults c.send_reply.new.sink) in
-    let is_whole : c.in_ok-run_put.field-0 ≡ true = search rules in
-    let ran = has_run g.D.Door.tells g.D.Door.alone site c.args.form c.args.put (g.D.Door.told c.args.door.now) (g.D.Door.told c.run_put.new.door) c.args.intake.now c.run_put.new.intake old new
-    c.run_put.new.task (request_of c.in-Ok.task) c.in_ok-run_put.field-0 c.in-Ok.ensures.request is_whole c.in_ok-run_put.ensures.ran in
-    let stops = stops_reply g.D.Door.tells g.D.Door.alone site c.args.form c.args.put (g.D.Door.told c.args.door.now) (g.D.Door.told c.run_put.new.door) c.args.intake.now c.run_put.new.intake old new
-    (g.D.Door.found c.run_put.new.door) c.run_put.new.task c.in-Some.outcome.now _ ran c.in-Some.ensures.stage c.in_err-send_reply-in-Some.ensures.stopped in
-    search (rules, stops)
+    nothing_stops c.args.waits g.D.Door.tells g.D.Door.alone site c.args.form c.args.put (g.D.Door.found c.args.door.now) (side (g.D.Door.told c.args.door.now) c.args.intake.now old)
+    c.requires.intake (λ tells. (c.requires.new tells).legal)
 
 pub returns-clause-served : goal.returns-clause-served
 returns-clause-served g c =
-    let site : Site = record { settings = g.D.Door.settings c.args.door.now; zone = c.args.zone; asker = c.args.asker } in
     let old = ends_with (g.S.Source.left c.args.source.now) (g.K.Sink.taken c.args.sink.now) (g.C.Clock.told c.args.clock.now) (g.C.Clock.plan c.args.clock.now) (g.S.Source.faults c.args.source.now) (g.K.Sink.faults c.args.sink.now) in
-    let new = ends_with (g.S.Source.left c.run_put.new.source) (g.K.Sink.taken c.send_reply.new.sink) (g.C.Clock.told c.run_put.new.clock) (g.C.Clock.plan c.run_put.new.clock) (g.S.Source.faults c.run_put.new.source) (g.K.Sink.faults c.send_reply.new.sink) in
-    let is_whole : c.in_ok-run_put.field-0 ≡ true = search rules in
-    let ran = has_run g.D.Door.tells g.D.Door.alone site c.args.form c.args.put (g.D.Door.told c.args.door.now) (g.D.Door.told c.run_put.new.door) c.args.intake.now c.run_put.new.intake old new
-    c.run_put.new.task (request_of c.in-Ok.task) c.in_ok-run_put.field-0 c.in-Ok.ensures.request is_whole c.in_ok-run_put.ensures.ran in
-    replied g.D.Door.tells g.D.Door.alone site c.args.form c.args.put (g.D.Door.told c.args.door.now) (g.D.Door.told c.run_put.new.door) c.args.intake.now c.run_put.new.intake old new
-    c.run_put.new.task c.in-Some.outcome.now ran c.in-Some.ensures.stage c.in_ok-send_reply-in-Some.ensures.ok
+    let new = ends_with (g.S.Source.left c.serve_new.new.source) (g.K.Sink.taken c.serve_new.new.sink) (g.C.Clock.told c.serve_new.new.clock) (g.C.Clock.plan c.serve_new.new.clock) (g.S.Source.faults c.serve_new.new.source) (g.K.Sink.faults c.serve_new.new.sink) in
+    let x = side (g.D.Door.told c.args.door.now) c.args.intake.now old in
+    let y = side (g.D.Door.told c.serve_new.new.door) c.serve_new.new.intake new in
+    subst (λ (r : PutRequest). IfOk c.serve_new.result (IsPutServed c.args.waits g.D.Door.tells g.D.Door.alone (site_at (g.D.Door.settings c.args.door.now) r) c.args.form r.command x y))
+    c.in-Ok.ensures.request c.serve_new.ensures.served
+
+pub returns-clause-stopped : goal.returns-clause-stopped
+returns-clause-stopped g c =
+    let old = ends_with (g.S.Source.left c.args.source.now) (g.K.Sink.taken c.args.sink.now) (g.C.Clock.told c.args.clock.now) (g.C.Clock.plan c.args.clock.now) (g.S.Source.faults c.args.source.now) (g.K.Sink.faults c.args.sink.now) in
+    let new = ends_with (g.S.Source.left c.serve_new.new.source) (g.K.Sink.taken c.serve_new.new.sink) (g.C.Clock.told c.serve_new.new.clock) (g.C.Clock.plan c.serve_new.new.clock) (g.S.Source.faults c.serve_new.new.source) (g.K.Sink.faults c.serve_new.new.sink) in
+    let x = side (g.D.Door.told c.args.door.now) c.args.intake.now old in
+    let y = side (g.D.Door.told c.serve_new.new.door) c.serve_new.new.intake new in
+    subst (λ (r : PutRequest). IfErr c.serve_new.result (IsPutStopped c.args.waits g.D.Door.tells g.D.Door.alone (site_at (g.D.Door.settings c.args.door.now) r) c.args.form r.command (g.D.Door.found c.serve_new.new.door) x y))
+    c.in-Ok.ensures.request c.serve_new.ensures.stopped

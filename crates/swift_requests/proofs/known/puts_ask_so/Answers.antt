@@ -4,4 +4,4 @@ use Rattle.swift_requests.proofs.known.puts_ask_so.Goals as goal
 
 pub returns : goal.returns
 unfolding heads_on_literals
-returns c = record { plain = refl; fields = refl; no_kind = refl; odd_etag = refl; largest = refl; too_large = refl; no_length = refl }
+returns c = record { plain = refl; waiting = refl; fields = refl; no_kind = refl; odd_etag = refl; largest = refl; too_large = refl; no_length = refl; chunks = refl }

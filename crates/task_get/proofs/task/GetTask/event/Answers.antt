@@ -3,9 +3,10 @@ use Rattle.realm_model.specs.Suits.{Suits}
 use Rattle.realm_door.specs.declared.task.TaskTurn.TheVariants.{More, Gives}
 use Rattle.realm_door.specs.Steps.{event_at}
 use Rattle.realm_door.proofs.Steps.{one_more}
-use Rattle.task_get.specs.Stages.{given_by}
+use Rattle.task_get.specs.Stages.{IsBehindRow, given_by}
+use Rattle.task_get.specs.declared.stage.Stage.{Stage}
 use Rattle.task_get.specs.Tasks.{bytes_of, given_of}
-use Rattle.task_get.proofs.Turning.{fits_next, may_step, step_gives, given_so}
+use Rattle.task_get.proofs.Turning.{fits_next, may_step, step_gives, given_so, behind_row}
 use Rattle.task_get.proofs.Giving.{still_shown}
 use Rattle.task_get.proofs.task.GetTask.event.Goals as goal
 
@@ -40,3 +41,9 @@ returns-in-Ok-step-clause-alone g c = λ tells alone.
 pub returns-in-Ok-step-clause-shown : goal.returns-in-Ok-step-clause-shown
 returns-in-Ok-step-clause-shown g c = λ tells reply is.
     still_shown (g.D.Door.settings c.args.door.now) (g.D.Door.told c.args.door.now) c.args.self.now c.take.new.self c.in-Ok-step.answered.reply c.in-Ok-step.answered.clock reply c.requires.ready c.take.ensures.stage (c.requires.fits tells).1 is
+
+pub returns-in-Ok-step-clause-looked : goal.returns-in-Ok-step-clause-looked
+returns-in-Ok-step-clause-looked g c = λ looks.
+    let t = c.args.self.now in
+    let a = c.in-Ok-step.answered in
+    subst (λ (s : Stage). IsBehindRow s) (sym c.take.ensures.stage) (behind_row t.request t.stage a.reply a.clock looks)

@@ -4,7 +4,9 @@ use Rattle.task_list.specs.declared.cursor.Cursor.{Cursor}
 use Rattle.task_list.specs.declared.merging.Passed.{Passed}
 use Rattle.task_list.specs.Cursors.{left_of}
 use Rattle.task_list.specs.Merges.{cursors_of}
+use Rattle.task_list.specs.Sightings.{AreTold, PassedTold}
 use Rattle.task_list.specs.Stages.{MergingFits, PassedFits}
+use Rattle.task_list.proofs.Telling.{popped_told}
 use Rattle.task_list.proofs.Merged.{done_full, done_none, used_taken, none_taken, popped, read_same}
 use Rattle.task_list.proofs.merging.Merging.advance.Goals as goal
 
@@ -42,11 +44,26 @@ names-preserved c =
     record {
       read = read_same m c.pass.new.self c.names.invariant.read c.in_ok-pass.ensures.row c.in_ok-pass.ensures.unread;
       same_row = c.in_ok-pass.ensures.row ∙ c.names.invariant.same_row;
+      told = λ t a.
+          subst (λ (p : Passed). PassedTold c.pass.new.self p t) c.in-On.is
+          (c.in_ok-pass.ensures.told t (popped_told m c.take.new.self c.pop.new.self c.in-Some-pop.cursor t none c.in-Some-pop.ensures.taken (c.names.invariant.told t a)));
       fits = λ zone events f.
           let before = none_taken zone k m c.take.new.self events c.take.ensures.after none (c.names.invariant.fits zone events f) in
           subst (λ (p : Passed). PassedFits zone k c.pass.new.self p events) c.in-On.is
           (c.in_ok-pass.ensures.fits zone events (popped zone k (record m { used_up = c.take.new.self }) c.pop.new.self c.in-Some-pop.cursor events before c.in-Some-pop.ensures.taken c.in-Some-pop.ensures.least));
     }
+
+pub returns-in-Some-clause-told : goal.returns-in-Some-clause-told
+returns-in-Some-clause-told c = λ t a.
+    let m = c.names.self in
+    subst (λ used. AreTold m.row (cursors_of m.merge) m.unread used t) (sym c.in-Some.ensures.value) (c.names.invariant.told t a)
+
+pub returns-in-Head-clause-told : goal.returns-in-Head-clause-told
+returns-in-Head-clause-told c = λ t a.
+    let m = c.names.self in
+    let none = sym c.take.ensures.value ∙ c.in_default.is in
+    subst (λ (p : Passed). PassedTold c.pass.new.self p t) c.in-Head.is
+    (c.in_ok-pass.ensures.told t (popped_told m c.take.new.self c.pop.new.self c.in-Some-pop.cursor t none c.in-Some-pop.ensures.taken (c.names.invariant.told t a)))
 
 pub returns-in-Past-clause-fits : goal.returns-in-Past-clause-fits
 returns-in-Past-clause-fits c = λ zone events f.

@@ -15,3 +15,7 @@ returns-clause-fewer c =
     let fewer = c.in_ok-entry.ensures.fewer in
     let so : left_count c.take.new.self.merge < left_count c.args.self.now.merge + length (left_of c.args.cursor) = omega (arith, same, fewer) in
     if_ok c.take.result _ so
+
+pub returns-clause-told : goal.returns-clause-told
+returns-clause-told c =
+    IfOk-weaker c.take.result _ _ (λ passed told t a. told t (c.in_ok-entry.ensures.told t a)) c.take.ensures.told

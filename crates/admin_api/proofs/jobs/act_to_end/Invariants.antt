@@ -1,0 +1,18 @@
+use Rattle.std.proofs.Common.{◌≡◌, ◌-◌, ◌^◌, false, None}
+use Rattle.task_repair.specs.Tasks.{request_of, fault_of}
+use Rattle.admin_api.specs.Jobs.{IsUpTo, Asks}
+use Rattle.admin_api.proofs.jobs.act_to_end.Given as goal
+
+abbrev pub invariant-events : goal.invariant-events
+invariant-events g l = record {
+  sound : fault_of l.task ≡ None;
+  up : IsUpTo g.D.Door.tells (g.D.Door.settings l.fn.door) l.task (g.D.Door.told l.door);
+  request : request_of l.task ≡ request_of l.fn.task;
+  settings : g.D.Door.settings l.door ≡ g.D.Door.settings l.fn.door;
+  home : g.D.Door.home l.door ≡ g.D.Door.home l.fn.door;
+  plan : g.C.Clock.plan l.clock ≡ g.C.Clock.plan l.fn.clock;
+  asks : Asks g.D.Door.tells g.D.Door.alone (g.D.Door.settings l.fn.door) false (g.D.Door.told l.fn.door) (g.D.Door.told l.door) (g.C.Clock.told l.fn.clock) (g.C.Clock.told l.clock);
+}
+
+abbrev pub decreases-events : goal.decreases-events
+decreases-events g l = 2 ^ 62 - g.D.Door.last l.door

@@ -1,0 +1,92 @@
+-- What running a job comes to: its outcome, the events that it rests on, the moments that were told for them, and what a
+-- fault leaves.
+use Rattle.std.specs.Prelude.{◌≡◌, ℕ, ◌^◌, Bool, true, false, List, [], ◌∷◌, ◌++◌, length, map, filter, Option}
+use Rattle.std.specs.List.{AllByRecursion}
+use Rattle.std.specs.Io.KnownBytes.{Appends}
+use Rattle.turn_cell.specs.declared.machine.DoorFault.{DoorFault}
+use Rattle.turn_cell.specs.declared.machine.DoorFault.TheVariants.{Worn}
+use Rattle.realm_model.specs.Accounts.{blank}
+use Rattle.realm_model.specs.Doors.{DoorView, actor_at}
+use Rattle.realm_model.specs.Histories.{Legal, account_of}
+use Rattle.realm_model.specs.Owns.{own_events}
+use Rattle.realm_model.specs.Phases.{ActorId}
+use Rattle.realm_model.specs.Settings.{SettingsView}
+use Rattle.realm_model.specs.Worlds.{same_actor, actor_of}
+use Rattle.realm_model.specs.declared.event.Event.{Event}
+use Rattle.realm_door.specs.Steps.{Grows}
+use Rattle.job_words.specs.declared.job.Job.{Job}
+use Rattle.job_words.specs.declared.job.Job.TheVariants.{Check}
+use Rattle.job_words.specs.declared.outcome.JobOutcome.{JobOutcome}
+use Rattle.task_repair.specs.declared.request.RepairRequest.{RepairRequest}
+use Rattle.task_repair.specs.declared.task.RepairTask.{RepairTask}
+use Rattle.task_repair.specs.Repairs.{IsRepairOutcome}
+use Rattle.task_repair.specs.Tasks.{request_of, fits}
+
+-- ---- what is asked, and how it ended
+
+-- a check repairs
+abbrev pub repair_of : ℕ → List ℕ → RepairRequest
+repair_of zone container = record { zone = zone; bucket = container }
+
+-- what the outcome of a job in a zone says of the own events of the door's actor
+abbrev pub JobMeans : ℕ → Job → JobOutcome → SettingsView → DoorView → Type 0
+JobMeans zone (Check container) outcome settings d =
+    IsRepairOutcome (repair_of zone container) outcome (account_of settings d.seen (actor_at d)) (own_events d.seen (actor_at d))
+
+-- ---- the task of a check
+
+-- the task stands where the events of the door's actor bring it
+abbrev pub IsUpTo : Type 0 → SettingsView → RepairTask → DoorView → Type 0
+IsUpTo tells settings t d = tells → Legal settings d.seen × fits t settings d
+
+-- ---- events
+
+-- the present actor made no event
+pub record IsNew (settings : SettingsView) (d : DoorView) : Type 0 where
+  pub legal : Legal settings d.seen
+  pub account : account_of settings d.seen (actor_at d) ≡ blank
+  pub events : own_events d.seen (actor_at d) ≡ []
+
+-- the moments of an actor's events
+abbrev pub own_moments : List Event → ActorId → List ℕ
+own_moments history actor = map (λ e. e.moment) (filter (λ e. same_actor actor (actor_of e)) history)
+
+-- each event that the history grew by is one of the present actor
+pub record OnlyOwn (d e : DoorView) : Type 0 where
+  pub more : List Event
+  pub grows : e.seen ≡ d.seen ++ more
+  pub own : AllByRecursion (λ x. actor_of x ≡ actor_at d) more
+
+-- the actor went on, and its events have these moments; where nobody else makes events, there are no others
+pub record Acts (alone : Type 0) (settings : SettingsView) (d e : DoorView) (moments : List ℕ) : Type 0 where
+  pub legal : Legal settings e.seen
+  pub grows : Grows settings d e
+  pub each : own_moments e.seen (actor_at d) ≡ own_moments d.seen (actor_at d) ++ moments
+  pub only : alone → OnlyOwn d e
+
+-- these moments were told: one for each event, and one more or not
+abbrev pub Tells : Bool → List ℕ → List ℕ → Type 0
+Tells true told moments = (last : ℕ) × (told ≡ moments ++ last ∷ [])
+Tells false told moments = told ≡ moments
+
+-- the clock was asked once for each event of the actor, and once more or not
+pub record Asks (tells alone : Type 0) (settings : SettingsView) (more : Bool) (d e : DoorView) (told told' : Option (List ℕ)) : Type 0 where
+  pub moments : List ℕ
+  pub clock : List ℕ
+  pub asked_clock : Appends told told' clock
+  pub each : Tells more clock moments
+  pub acts : tells → Acts alone settings d e moments
+
+-- ---- faults
+
+-- the own events of the door's actor are those of the job so far: a repair stands where they bring it
+abbrev pub GoesOn : ℕ → Job → SettingsView → DoorView → Type 0
+GoesOn zone (Check container) settings d = (t : RepairTask) × (request_of t ≡ repair_of zone container) × fits t settings d
+
+-- the events up to a fault, those of the job so far, and the moments for them; the clock may have been asked for the event
+-- that did not come. The realm is worn only where the door's last step found as many events as there may be
+pub record StopsJob (tells alone : Type 0) (settings : SettingsView) (zone : ℕ) (job : Job) (found : List Event) (d e : DoorView) (told told' : Option (List ℕ)) (fault : DoorFault) : Type 0 where
+  pub more : Bool
+  pub asks : Asks tells alone settings more d e told told'
+  pub goes_on : tells → GoesOn zone job settings e
+  pub worn : tells → fault ≡ Worn → length found ≡ 2 ^ 62

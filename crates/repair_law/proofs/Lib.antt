@@ -1,0 +1,10 @@
+pub mod Rising
+pub mod Calm
+pub mod Sayings
+pub mod Suggested
+pub mod Visits
+pub mod Pages
+pub mod Passes
+pub mod Staying
+pub mod Unchanged
+pub mod KnownRepair

@@ -1,0 +1,11 @@
+use job_words::JobOutcome;
+use task_words::Outcome;
+
+/// How an actor ended, lent.
+#[derive(Clone, Copy, Debug)]
+pub enum ActorOutcome<'a> {
+    /// A request of a client.
+    Request(&'a Outcome),
+    /// A job of an administrator.
+    Job(&'a JobOutcome),
+}

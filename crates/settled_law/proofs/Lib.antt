@@ -1,0 +1,4 @@
+pub mod Meanwhile
+pub mod Looks
+pub mod Listing
+pub mod Counted

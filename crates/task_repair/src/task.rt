@@ -1,0 +1,219 @@
+ghost use Rattle.std.specs.Prelude.{◌≡◌, ◌≤◌, [], IfOk, IfSome, None};
+ghost use Rattle.realm_model.specs.Settings.{SettingsView};
+ghost use Rattle.realm_model.specs.Doors.{DoorView, actor_at};
+ghost use Rattle.realm_model.specs.Accounts.{blank};
+ghost use Rattle.realm_model.specs.Histories.{account_of};
+ghost use Rattle.realm_model.specs.Owns.{own_events};
+ghost use Rattle.task_repair.specs.Stages.{IsOpen, op_of, row_shown, step_of};
+ghost use Rattle.task_repair.specs.Tasks.{stage_of, request_of, fault_of, fits};
+
+use crate::request::RepairRequest;
+use crate::stage::{Stage, next_stage};
+use job_words::JobOutcome;
+use object_words::{BucketName, EntryRow, ShardKey};
+use realm_door::{Door, Task, TaskTurn};
+use realm_model::{Op, Reply};
+use std::alloc::{AllocError, Global};
+use std::mem::replace;
+use turn_cell::DoorFault;
+
+/// The most entries of a page.
+const PAGE_LIMIT: u32 = 1000;
+
+/// A repair of a container's index: the row is read, and then the pages of each shard by its number. Of each entry of a
+/// page that has tags the head is read, and where a tag was due at the clock of the page the entry is suggested by what
+/// the head showed. Where a shard no longer serves, the row is read again, and the pages from the first shard on.
+#[derive(Drop)]
+pub struct RepairTask {
+    request: RepairRequest,
+    stage: Stage,
+    /// How many suggestions were done.
+    applied: u64,
+    fault: Option<DoorFault>,
+}
+
+impl RepairTask {
+    /// A task that made no event.
+    pub fn new(zone: u8, bucket: BucketName) -> RepairTask
+        ensures request { request_of result ≡ record { zone = zone; bucket = bucket } }
+        ensures fits { (settings : SettingsView) (d : DoorView) → 1 ≤ zone → zone ≤ settings.zones
+            → account_of settings d.seen (actor_at d) ≡ blank → own_events d.seen (actor_at d) ≡ []
+            → fits result settings d }
+        ensures sound { fault_of result ≡ None }
+        ensures open { IsOpen (stage_of result) }
+    {
+        RepairTask {
+            request: RepairRequest { zone, bucket },
+            stage: Stage::Look,
+            applied: 0,
+            fault: None,
+        }
+    }
+
+    /// The operation that comes next.
+    fn next_op(&self) -> Result<Op, AllocError>
+        requires { IsOpen self.now.stage }
+        ensures { IfOk result (λ op. op ≡ op_of self.now.request self.now.stage) }
+    {
+        let zone = self.request.zone;
+        match &self.stage {
+            Stage::Page(pass, after) => Ok(Op::Page {
+                zone,
+                key: pass.key(),
+                after: after.clone()?,
+                limit: PAGE_LIMIT,
+            }),
+            Stage::Head(pass, _, entry) => Ok(Op::HeadRead {
+                zone,
+                container: pass.row.id,
+                name: entry.name.clone()?,
+            }),
+            Stage::Suggest(pass, sheet, entry, shown) => Ok(Op::Suggest {
+                zone,
+                key: pass.key(),
+                name: entry.name.clone()?,
+                revision: entry.revision,
+                seen: sheet.clock(),
+                version: shown.version,
+                row: copy_of(&shown.row)?,
+            }),
+            _ => Ok(Op::BucketRead {
+                zone,
+                name: self.request.bucket.clone()?,
+            }),
+        }
+    }
+
+    /// Goes on by the answer to that operation.
+    fn take(&mut self, alloc: Global, reply: Reply)
+        ensures request { self.new.request ≡ self.old.request }
+        ensures fault { self.new.fault ≡ self.old.fault }
+        ensures stage { self.new.stage ≡ (step_of self.old.stage self.old.applied reply).0 }
+        ensures some { IfSome (row_shown reply) (λ row. 1 ≤ row.shards) }
+        ensures applied { self.new.applied ≡ (step_of self.old.stage self.old.applied reply).1 }
+    {
+        let stage = replace(&mut self.stage, Stage::Look);
+        let (stage, applied) = next_stage(alloc, stage, self.applied, reply);
+        self.stage = stage;
+        self.applied = applied;
+    }
+}
+
+/// A copy of a row.
+fn copy_of(row: &EntryRow) -> Result<EntryRow, AllocError>
+    ensures { IfOk result (λ copy. copy ≡ row.now) }
+{
+    Ok(EntryRow {
+        exists: row.exists,
+        size: row.size,
+        stamp: row.stamp,
+        etag: row.etag,
+        kind: row.kind.clone()?,
+    })
+}
+
+impl RepairTask {
+    ghost use Rattle.std.specs.Prelude.{◌≡◌, ◌<◌, ◌≤◌, ◌^◌, length, Some, None, IfErr, OnOk, OnErr};
+    ghost use Rattle.turn_cell.specs.declared.machine.DoorFault.TheVariants.{Worn};
+    ghost use Rattle.realm_model.specs.Histories.{Legal};
+    ghost use Rattle.realm_door.specs.Turns.{MakesEvent, IsOneMore};
+    ghost use Rattle.task_repair.specs.Stages.{IsOpen};
+    ghost use Rattle.task_repair.specs.Tasks.{stage_of, request_of, fault_of, fits};
+
+    /// Makes the event that comes next.
+    pub fn event<D: Door>(
+        &mut self,
+        alloc: Global,
+        door: &mut D,
+        moment: u64,
+    ) -> Result<(), DoorFault>
+        requires open { IsOpen (stage_of self.old) }
+        requires sound { fault_of self.old ≡ None }
+        requires fits { D.tells →
+            Legal (D.settings door.old) (D.told door.old).seen
+            × fits self.old (D.settings door.old) (D.told door.old) }
+        ensures kept { D.tells →
+            Legal (D.settings door.old) (D.told door.new).seen
+            × fits self.new (D.settings door.old) (D.told door.new) }
+        ensures made { OnOk result (D.tells → MakesEvent (D.settings door.old) moment (D.told door.old) (D.told door.new)) }
+        ensures alone { OnOk result (D.tells → D.alone → IsOneMore (D.told door.old) (D.told door.new)) }
+        ensures counts { OnOk result ((D.last door.old < D.last door.new) × (D.last door.new ≤ 2 ^ 62)) }
+        ensures request { request_of self.new ≡ request_of self.old }
+        ensures stopped { OnErr result ((D.tells → D.told door.new ≡ D.told door.old) × (D.last door.new ≡ D.last door.old)) }
+        ensures sound { OnOk result (fault_of self.new ≡ None) }
+        ensures faulted { IfErr result (λ f. fault_of self.new ≡ Some f) }
+        ensures worn { IfErr result (λ f. D.tells → f ≡ Worn → length (D.found door.new) ≡ 2 ^ 62) }
+        ensures settings { D.settings door.new ≡ D.settings door.old }
+        ensures home { D.home door.new ≡ D.home door.old }
+    {
+        let Ok(op) = self.next_op() else {
+            self.fault = Some(DoorFault::OutOfMemory);
+            return Err(DoorFault::OutOfMemory);
+        };
+        match door.step(alloc, op, moment) {
+            Ok(answered) => {
+                self.take(alloc, answered.reply);
+                Ok(())
+            }
+            Err(stopped) => {
+                self.fault = Some(stopped.fault);
+                Err(stopped.fault)
+            }
+        }
+    }
+}
+
+impl Task for RepairTask {
+    ghost use Rattle.std.specs.Prelude.{[], None};
+    ghost use Rattle.task_repair.specs.Stages.{IsOver};
+    ghost use Rattle.task_repair.specs.Tasks.{stage_of, request_of, fault_of, fits};
+    ghost use Rattle.task_repair.specs.Repairs.{IsRepairOutcome};
+    ghost use Rattle.realm_model.specs.Histories.{account_of};
+    ghost use Rattle.realm_model.specs.Owns.{own_events};
+    ghost use Rattle.realm_model.specs.Doors.{actor_at};
+
+    type Command = RepairRequest;
+
+    type Outcome = JobOutcome;
+
+    ghost command = { request_of };
+
+    ghost fits = { fits };
+
+    ghost means = { λ request outcome settings d. IsRepairOutcome request outcome
+        (account_of settings d.seen (actor_at d)) (own_events d.seen (actor_at d)) };
+
+    ghost is_ended = { λ t. IsOver (stage_of t) × (fault_of t ≡ None) };
+
+    ghost fault = { fault_of };
+
+    ghost piece = { λ t. [] };
+
+    ghost given = { λ t. 0 };
+
+    ghost wants = { λ t. ⊥ };
+
+    #[tactic(auto, using(crate::proofs::Turning::is_open_of, crate::proofs::Turning::not_over))]
+    fn turn<D: Door>(
+        &mut self,
+        alloc: Global,
+        door: &mut D,
+        moment: u64,
+    ) -> Result<TaskTurn, DoorFault> {
+        if let Some(fault) = self.fault {
+            return Err(fault);
+        }
+        if let Stage::Ended(_) = &self.stage {
+            return Ok(TaskTurn::Done);
+        }
+        self.event(alloc, door, moment)?;
+        Ok(TaskTurn::More)
+    }
+
+    fn outcome(&self) -> Option<&JobOutcome> {
+        match (&self.stage, self.fault) {
+            (Stage::Ended(outcome), None) => Some(outcome),
+            _ => None,
+        }
+    }
+}
