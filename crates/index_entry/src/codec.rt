@@ -6,7 +6,9 @@ ghost use Rattle.object_words.specs.Entries.{EntryView};
 ghost use Rattle.index_entry.specs.Layouts.{IsEntry, IsTag, IsWritten, entry_bytes, row_bytes, tags_bytes};
 
 use crate::OutOfMemory;
-use crate::entry::{FRONT_MOST, TAG_LEN, front, size_of_row, tag_in, write_front, write_tag};
+use crate::entry::{
+    FRONT_MOST, TAG_LEN, front, size_of_row, tag_in, tags_start, write_front, write_tag,
+};
 use crate::numbers::{u16_at, u64_at};
 use object_words::{Entry, EntryRow, MediaType, ObjectName, Tags};
 use rgw_types::{Bytes, Stamp, Text};
@@ -44,21 +46,28 @@ pub fn decode_entry(
     ensures exact { IfOk result (λ found. (e : EntryView) → IsEntry e → bytes.now ≡ entry_bytes e → found ≡ Some (name.now, e)) }
     ensures none { IfOk result (λ found. IfNone found ((e : EntryView) → IsEntry e → bytes.now ≢ entry_bytes e)) }
 {
-    match front(bytes) {
-        None => Ok(None),
-        Some(front) => {
-            let row = row_of(alloc, bytes)?;
-            let tags = tags_in(alloc, bytes, front.tags_start as usize, front.tags as usize)?;
-            let name = name.clone()?;
-            Ok(Some(Entry {
-                name,
-                version: front.version,
-                revision: front.revision,
-                row,
-                tags,
-            }))
-        }
+    if front(bytes).is_none() {
+        return Ok(None);
     }
+    let entry = read_entry(alloc, name.clone()?, bytes)?;
+    Ok(Some(entry))
+}
+
+/// The entry of this name that these bytes are. That they are one is not tested again.
+pub fn read_entry(alloc: Global, name: ObjectName, bytes: &[u8]) -> Result<Entry, OutOfMemory>
+    requires { (e : EntryView) × IsEntry e × (bytes.now ≡ entry_bytes e) }
+    ensures { IfOk result (λ entry. (e : EntryView) → IsEntry e → bytes.now ≡ entry_bytes e → entry ≡ (name, e)) }
+{
+    let row = row_of(alloc, bytes)?;
+    let start = tags_start(bytes);
+    let tags = tags_in(alloc, bytes, start, (bytes.len() - start) / TAG_LEN)?;
+    Ok(Entry {
+        name,
+        version: u64_at(bytes, 3),
+        revision: u64_at(bytes, 11),
+        row,
+        tags,
+    })
 }
 
 /// The row of an entry.
@@ -108,7 +117,9 @@ fn kind_of(alloc: Global, bytes: &[u8]) -> Result<MediaType, OutOfMemory>
         → drop 19 bytes.now ≡ row_bytes row ++ rest → kind ≡ row.kind) }
 {
     let end = 54 + usize::from(u16_at(bytes, 52));
-    let text = Text::from_utf8(alloc, &bytes[54..end])?;
+    // An entry's type is text, so it is not tested again.
+    let text = unsafe { str::from_utf8_unchecked(&bytes[54..end]) };
+    let text = Text::from_str(alloc, text)?;
     Ok(MediaType::new(text).unwrap())
 }
 

@@ -165,7 +165,7 @@ pub fn tag_at(bytes: &[u8], place: u64) -> Tag
 }
 
 /// Where the tags of an entry begin.
-fn tags_start(bytes: &[u8]) -> usize
+pub(crate) fn tags_start(bytes: &[u8]) -> usize
     requires { (e : EntryView) × IsEntry e × (bytes.now ≡ entry_bytes e) }
     ensures { (e : EntryView) → IsEntry e → bytes.now ≡ entry_bytes e → result ≡ 27 + length (row_bytes e.row) }
 {

@@ -8,7 +8,7 @@ mod laws;
 mod log_row;
 mod numbers;
 
-pub use codec::{decode_entry, encode_entry};
+pub use codec::{decode_entry, encode_entry, read_entry};
 pub use entry::{EntryFront, FRONT_MOST, TAG_LEN, front, tag_at, write_front, write_tag};
 pub use header::{HEADER_LEN, ShardHeader, decode_header, encode_header};
 pub use laws::{

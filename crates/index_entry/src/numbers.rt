@@ -10,10 +10,7 @@ pub fn u64_at(bytes: &[u8], at: usize) -> u64
     ensures read { drop at bytes.now ≡ number_bytes result ++ drop (at + 8) bytes.now }
     ensures once { (x : ℕ) (rest : List ℕ) → x < 2 ^ 64 → drop at bytes.now ≡ number_bytes x ++ rest → result ≡ x }
 {
-    let part = &bytes[at..at + 8];
-    u64::from_be_bytes([
-        part[0], part[1], part[2], part[3], part[4], part[5], part[6], part[7],
-    ])
+    u64::from_be_bytes(*bytes[at..at + 8].as_array::<8>().unwrap())
 }
 
 /// The number in the four bytes from a place on.
@@ -22,8 +19,7 @@ pub(crate) fn u32_at(bytes: &[u8], at: usize) -> u32
     ensures read { drop at bytes.now ≡ word_bytes result ++ drop (at + 4) bytes.now }
     ensures once { (x : ℕ) (rest : List ℕ) → x < 2 ^ 32 → drop at bytes.now ≡ word_bytes x ++ rest → result ≡ x }
 {
-    let part = &bytes[at..at + 4];
-    u32::from_be_bytes([part[0], part[1], part[2], part[3]])
+    u32::from_be_bytes(*bytes[at..at + 4].as_array::<4>().unwrap())
 }
 
 /// The number in the two bytes from a place on.
@@ -32,8 +28,7 @@ pub(crate) fn u16_at(bytes: &[u8], at: usize) -> u16
     ensures read { drop at bytes.now ≡ short_bytes result ++ drop (at + 2) bytes.now }
     ensures once { (x : ℕ) (rest : List ℕ) → x < 2 ^ 16 → drop at bytes.now ≡ short_bytes x ++ rest → result ≡ x }
 {
-    let part = &bytes[at..at + 2];
-    u16::from_be_bytes([part[0], part[1]])
+    u16::from_be_bytes(*bytes[at..at + 2].as_array::<2>().unwrap())
 }
 
 /// Whether the bytes are UTF-8.
