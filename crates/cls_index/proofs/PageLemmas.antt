@@ -1,5 +1,5 @@
 -- The rows of the entries above a name.
-use Rattle.std.proofs.Common.{◌≡◌, ℕ, zero, suc, ◌-◌, ◌<◌, ◌≤◌, ◌^◌, ◌==◌, nat_lt, nat_le, ◌&&◌, Bool, true, false, cond, true≢false, T, List, [], ◌∷◌, map, length, take, get_or, replicate, IsTrue, ◌↔◌, ◌++◌, Option, Some, None, option_map, IfSome, refl, sym, ap, ◌∙◌, subst, arith}
+use Rattle.std.proofs.Common.{◌≡◌, ℕ, zero, suc, ◌-◌, ◌<◌, ◌≤◌, ◌^◌, ◌==◌, nat_lt, nat_le, ◌&&◌, Bool, true, false, cond, true≢false, T, List, [], ◌∷◌, map, length, take, drop, get_or, replicate, append_assoc, append-nil, IsTrue, ◌↔◌, ◌++◌, Option, Some, None, option_map, IfSome, refl, sym, ap, ◌∙◌, subst, arith}
 use Rattle.std.specs.List.{AllByRecursion}
 use Rattle.std.specs.declared.cmp.Ordering.{Ordering}
 use Rattle.std.specs.declared.cmp.Ordering.TheVariants.{Less, Equal, Greater}
@@ -212,26 +212,57 @@ page_rows c s after start limit rows has order from is =
       count = ap length same ∙ length-map (entries_after s after) written;
     }
 
--- the row at a place
-pub record IsRowAt (es : List (List ℕ × EntryView)) (place : ℕ) (row : List ℕ × List ℕ) : Type 0 where
+-- the first row of entries that are left, and those behind it
+pub record IsFirstRow (left : List (List ℕ × EntryView)) (row : List ℕ × List ℕ) (rest : Rows) : Type 0 where
   pub entry : EntryView
   pub named : IsObjectName row.0
   pub fits : IsEntry entry
   pub bytes : row.1 ≡ entry_bytes entry
-  pub more : take (suc place) es ≡ take place es ++ (row.0, entry) ∷ []
+  pub behind : List (List ℕ × EntryView)
+  pub split : left ≡ (row.0, entry) ∷ behind
+  pub rest_written : rest ≡ map written behind
+  pub rest_named : AllByRecursion IsNamed behind
 
-pub row_at : (es : List (List ℕ × EntryView)) (place : ℕ) (row : List ℕ × List ℕ) → place < length (map written es) → AllByRecursion IsNamed es → row ≡ get_or (map written es) place row → IsRowAt es place row
-row_at [] place row some all is = absurd (omega (arith, some))
-row_at (e ∷ es) zero row some all is = record {
-  entry = e.1;
-  named = subst IsObjectName (sym (ap (λ (r : List ℕ × List ℕ). r.0) is)) all.0.0;
-  fits = all.0.1;
-  bytes = ap (λ (r : List ℕ × List ℕ). r.1) is;
-  more = λ i. (sym (ap (λ (r : List ℕ × List ℕ). r.0) is) i, e.1) ∷ [];
+pub first_row : (left : List (List ℕ × EntryView)) (row : List ℕ × List ℕ) (rest : Rows) → row ∷ rest ≡ map written left → AllByRecursion IsNamed left → IsFirstRow left row rest
+first_row [] row rest is all = absurd (omega (arith, ap length is))
+first_row (e ∷ es) row rest is all =
+    let same : row ≡ written e = ap (λ (rows : Rows). get_or rows 0 row) is in
+    record {
+      entry = e.1;
+      named = subst IsObjectName (sym (ap (λ (r : List ℕ × List ℕ). r.0) same)) all.0.0;
+      fits = all.0.1;
+      bytes = ap (λ (r : List ℕ × List ℕ). r.1) same;
+      behind = es;
+      split = λ i. (sym (ap (λ (r : List ℕ × List ℕ). r.0) same) i, e.1) ∷ es;
+      rest_written = ap (λ (rows : Rows). drop 1 rows) is;
+      rest_named = all.1;
+    }
+
+-- these entries were read, and these rows are left
+pub record IsRead (es read : List (List ℕ × EntryView)) (rest : Rows) : Type 0 where
+  pub left : List (List ℕ × EntryView)
+  pub split : es ≡ read ++ left
+  pub written : rest ≡ map written left
+  pub named : AllByRecursion IsNamed left
+
+pub first_left : (es read : List (List ℕ × EntryView)) (rows : Rows) (row : List ℕ × List ℕ) (rest : Rows) → (is : IsRead es read rows) → rows ≡ row ∷ rest → IsFirstRow is.left row rest
+first_left es read rows row rest is next = first_row is.left row rest (sym next ∙ is.written) is.named
+
+pub read_more : (es read : List (List ℕ × EntryView)) (row : List ℕ × List ℕ) (rest : Rows) (left : List (List ℕ × EntryView)) → es ≡ read ++ left
+    → (first : IsFirstRow left row rest) → IsRead es (read ++ (row.0, first.entry) ∷ []) rest
+read_more es read row rest left split first = record {
+  left = first.behind;
+  split = split ∙ ap (λ l. read ++ l) first.split ∙ sym (append_assoc read ((row.0, first.entry) ∷ []) first.behind);
+  written = first.rest_written;
+  named = first.rest_named;
 }
-row_at (e ∷ es) (suc place) row some all is =
-    let rest = row_at es place row (omega (arith, some)) all.1 is in
-    record { entry = rest.entry; named = rest.named; fits = rest.fits; bytes = rest.bytes; more = ap (λ l. e ∷ l) rest.more }
+
+pub all_read : (es read : List (List ℕ × EntryView)) (rows : Rows) → IsRead es read rows → length rows ≡ 0 → read ≡ es
+all_read es read rows is none =
+    elim is.left as (λ l. es ≡ read ++ l → rows ≡ map written l → read ≡ es) [
+      | [] ↦ λ split here. sym (append-nil read) ∙ sym split
+      | e ∷ more ↦ λ split here. absurd (omega (arith, none, ap length here))
+    ] is.split is.written
 
 pub same_end : (b : Bool) (n m : ℕ) → (IsTrue b ↔ (n ≤ m)) → b ≡ nat_le n m
 same_end true n m both = let less : n ≤ m = both.0 refl in grind (arith, nat_tests)

@@ -12,9 +12,9 @@ ghost use Rattle.class_words.specs.Shards.{IsObjectName, IsShard};
 ghost use Rattle.cls_index.specs.Pages.{IsNamed, StartsAt, top, written};
 
 use crate::header::{check_serves, header_at};
-use index_entry::{decode_entry, log_key};
+use index_entry::{log_key, read_entry};
 use object_pool::{Bytes, Place};
-use object_words::{ClassFault, Entries, Entry, EntryPage, ObjectName};
+use object_words::{ClassFault, Entries, EntryPage, ObjectName};
 use rgw_types::Text;
 use std::alloc::{AllocError, Global};
 use std::cmp::Ordering;
@@ -43,10 +43,10 @@ pub fn page(
     let Ok(page) = shard.page(alloc, start, limit) else {
         return Err(ClassFault::OutOfMemory);
     };
-    let Ok(rows) = entries_in(alloc, page.rows.as_slice()) else {
+    let end = page.end;
+    let Ok(rows) = entries_in(alloc, page.rows.into_vec()) else {
         return Err(ClassFault::OutOfMemory);
     };
-    let end = page.end;
     Ok(EntryPage { rows, end, clock })
 }
 
@@ -68,26 +68,26 @@ fn look_up(shard: &Place<'_>, key: &[u8])
     let _row = shard.row(key);
 }
 
-/// The entries that rows are.
-fn entries_in(alloc: Global, rows: &[(Bytes, Bytes)]) -> Result<Entries, AllocError>
-    requires { (es : List (List ℕ × EntryView)) × (rows.now ≡ map written es) × AllByRecursion IsNamed es }
-    ensures { IfOk result (λ entries. (es : List (List ℕ × EntryView)) → rows.now ≡ map written es → AllByRecursion IsNamed es → entries ≡ es) }
+/// The entries that rows are, in the memory of their keys.
+fn entries_in(alloc: Global, rows: Vec<(Bytes, Bytes)>) -> Result<Entries, AllocError>
+    requires { (es : List (List ℕ × EntryView)) × (rows.items ≡ map written es) × AllByRecursion IsNamed es }
+    ensures { IfOk result (λ entries. (es : List (List ℕ × EntryView)) → rows.items ≡ map written es → AllByRecursion IsNamed es → entries ≡ es) }
 {
-    let mut entries = Entries::new(alloc);
-    for row in rows {
-        let entry = entry_in(alloc, row.0.as_slice(), row.1.as_slice())?;
+    let mut entries = Vec::with_capacity(alloc, rows.len())?;
+    let mut rest = rows.into_iter();
+    'rows: while let Some((key, bytes)) = rest.next() {
+        let entry = read_entry(alloc, name_in(key), bytes.as_slice())?;
         entries.push(entry)?;
     }
-    Ok(entries)
+    Ok(Entries::from_vec(entries))
 }
 
-/// The entry that a row is.
-fn entry_in(alloc: Global, name: &[u8], bytes: &[u8]) -> Result<Entry, AllocError>
-    requires { (e : EntryView) × IsObjectName name.now × IsEntry e × (bytes.now ≡ entry_bytes e) }
-    ensures { IfOk result (λ entry. (e : EntryView) → IsEntry e → bytes.now ≡ entry_bytes e → entry ≡ (name.now, e)) }
+/// The name that a key is, in the key's own memory.
+fn name_in(key: Bytes) -> ObjectName
+    requires { IsObjectName key }
+    ensures { result ≡ key }
 {
-    let text = Text::from_utf8(alloc, name)?;
-    let name = ObjectName::new(text).unwrap();
-    let found = decode_entry(alloc, &name, bytes)?;
-    Ok(found.unwrap())
+    // A name is text, so it is not tested again.
+    let text = unsafe { String::from_utf8_unchecked(key.into_vec()) };
+    ObjectName::new(Text::from_string(text)).unwrap()
 }

@@ -1,8 +1,13 @@
-use Rattle.std.proofs.Common.{◌≡◌, ℕ, List, map, take}
+use Rattle.std.proofs.Common.{◌≡◌, ℕ, List, length, map}
 use Rattle.std.specs.List.{AllByRecursion}
+use Rattle.std.specs.Vec.Iter.{into_iter_items}
 use Rattle.object_words.specs.Entries.{EntryView}
 use Rattle.cls_index.specs.Pages.{IsNamed, written}
+use Rattle.cls_index.proofs.PageLemmas.{IsRead}
 use Rattle.cls_index.proofs.paging.entries_in.Given as goal
 
-abbrev pub invariant-loop-row : goal.invariant-loop-row
-invariant-loop-row l = (es : List (List ℕ × EntryView)) → l.rows ≡ map written es → AllByRecursion IsNamed es → l.entries ≡ take l.row-index es
+abbrev pub invariant-rows : goal.invariant-rows
+invariant-rows l = (es : List (List ℕ × EntryView)) → into_iter_items l.initial.rest ≡ map written es → AllByRecursion IsNamed es → IsRead es l.entries.items (into_iter_items l.rest)
+
+abbrev pub decreases-rows : goal.decreases-rows
+decreases-rows l = length (into_iter_items l.rest)

@@ -1,4 +1,4 @@
-use Rattle.std.proofs.Common.{length, sym, ap, ◌∙◌, subst}
+use Rattle.std.proofs.Common.{sym, ap, ◌∙◌, subst}
 use Rattle.object_pool.specs.Places.{rows_of}
 use Rattle.object_words.specs.Names.{at}
 use Rattle.object_words.specs.Shards.{entry_at}

@@ -1,4 +1,4 @@
-use Rattle.std.proofs.Common.{◌≡◌, ◌+◌, ◌-◌, ◌/◌, true, length, refl, sym, ap, subst, arith}
+use Rattle.std.proofs.Common.{◌≡◌, ◌+◌, ◌-◌, ◌/◌, true, length, refl, sym, subst, arith}
 use Rattle.object_words.specs.Tags.{tags_rise}
 use Rattle.object_words.specs.Entries.{EntryView}
 use Rattle.index_entry.specs.Layouts.{IsEntry, entry_bytes, row_bytes}
