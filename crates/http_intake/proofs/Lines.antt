@@ -1,5 +1,5 @@
 -- A scan for the end of a head, line by line.
-use Rattle.std.proofs.Common.{◌≡◌, ◌≢◌, ℕ, zero, suc, ◌+◌, ◌<◌, ◌≤◌, Bool, true, false, cond, List, length, get_or, drop, slice_range, Some, None, refl, sym, ap, ◌∙◌, subst, arith}
+use Rattle.std.proofs.Common.{◌≡◌, ◌≢◌, ℕ, zero, suc, ◌+◌, ◌<◌, ◌≤◌, Bool, true, false, cond, List, length, get_or, drop, slice_range, Some, refl, ap, ◌∙◌, arith}
 use Rattle.std.proofs.lemmas.List.{take_rest, length-drop}
 use Rattle.std.proofs.lemmas.Bool.{eqb-true}
 use Rattle.std.specs.Prelude.{◌==◌}
@@ -31,8 +31,8 @@ passes bytes rest at k is within few nowhere =
     let size : at + k ≤ length bytes = omega (arith, within, few, ap length is, ap length (take_rest bytes at), length-drop at bytes) in
     let others : (i : ℕ) → i < k → get_or bytes (at + i) 0 ≢ 10 =
     λ i below lf.
-        nowhere i (omega arith) below
-        (ap (λ b. b == 10) (ap (λ l. get_or l i 0) is ∙ (byte_at bytes at i (omega (arith, below, few, ap length is))).1 ∙ lf)) in
+    nowhere i (omega arith) below
+    (ap (λ b. b == 10) (ap (λ l. get_or l i 0) is ∙ (byte_at bytes at i (omega (arith, below, few, ap length is))).1 ∙ lf)) in
     stays_inside bytes at k size others
 
 -- up to the first of them

@@ -1,6 +1,6 @@
 -- What the parser of heads says where it had fewer places for fields than a head may have: with further places behind them
 -- it would have said the same.
-use Rattle.std.proofs.Common.{◌≡◌, ℕ, ◌-◌, ◌≤◌, List, ◌++◌, map, length, take, replicate, ap, sym, subst, ◌∙◌, arith}
+use Rattle.std.proofs.Common.{◌≡◌, ℕ, ◌-◌, ◌≤◌, List, ◌++◌, map, length, replicate, ap, sym, subst, ◌∙◌, arith}
 use Rattle.std.specs.Prelude.{All}
 use Rattle.std.proofs.lemmas.List.{take-append-le, length-append, length-replicate}
 use Rattle.httparse.specs.declared.spans.HeaderSpan.{HeaderSpan}

@@ -1,5 +1,4 @@
 use Rattle.std.proofs.Common.{◌≤◌, sym, subst}
-use Rattle.std.specs.Prelude.{length}
 use Rattle.http_model.specs.declared.reading.TheConstants.{FIELD_LIMIT}
 use Rattle.http_intake.proofs.Places.{covers_in}
 use Rattle.http_intake.proofs.heads.parse_whole.Goals as goal
