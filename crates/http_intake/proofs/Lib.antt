@@ -9,3 +9,5 @@ pub mod Chunks
 pub mod Given
 pub mod BodyGrammar
 pub mod RequestLaws
+pub mod Places
+pub mod Lines

@@ -4,6 +4,7 @@
 
 mod buffer;
 mod fault;
+mod heads;
 mod intake;
 mod laws;
 mod next_bytes;

@@ -5,10 +5,11 @@ ghost use Rattle.http_intake.specs.Reading.{Reads, FindsText, TakesHead};
 
 use crate::IntakeFault;
 use crate::buffer::Buffer;
+use crate::heads::read_head;
 use crate::scan::scan_head;
 use gw_io::Source;
 use http_chunks::{Place, TextEnd};
-use http_model::{HEAD_LIMIT, Head, read_head};
+use http_model::{HEAD_LIMIT, Head};
 use std::alloc::Global;
 
 /// Reads on until the text of a head is there, and answers its length; none where the input ends and

@@ -88,6 +88,28 @@ fn heads_of_each_framing(rt: HostRuntime) -> Result<(), Fail> {
     Ok(())
 }
 
+/// A head with so many fields, of which the last frames the body.
+#[test]
+fn heads_have_at_most_128_fields(rt: HostRuntime) -> Result<(), Fail> {
+    let rows = [
+        (16, "PUT Length(3) abc end"),
+        (17, "PUT Length(3) abc end"),
+        (128, "PUT Length(3) abc end"),
+        (129, "BadHead Some(BadHead) Some(BadHead)"),
+    ];
+    for (count, wanted) in rows {
+        let mut input = Vec::from_slice(rt.alloc(), b"PUT /a HTTP/1.1\r\n")?;
+        for _ in 1..count {
+            input.extend_from_slice(b"A: b\r\n")?;
+        }
+        input.extend_from_slice(b"Content-Length: 3\r\n\r\nabc")?;
+        let mut source = SliceSource::new(input.as_slice(), 64, &[]);
+        let text = answers(rt.alloc(), &mut source, 24, 4)?;
+        assert_eq!(rt; text.as_str(), wanted, "{count}");
+    }
+    Ok(())
+}
+
 #[test]
 fn trailers_have_at_most_128_fields(rt: HostRuntime) -> Result<(), Fail> {
     let rows = [(128, "PUT Chunked  end"), (129, "PUT Chunked  BadChunk")];
