@@ -18,7 +18,7 @@ use Rattle.object_pool.specs.Stored.{Entries, is_stored}
 use Rattle.object_pool.specs.Shelves.{Numbers, object_in, exists_in, stored_at, is_stored_at, entries_of, HasKey, IsShelf}
 use Rattle.object_pool.proofs.EntryLemmas.{lookup_map, all_map, cond-true, cond-false}
 use Rattle.object_pool.proofs.Insertions.{map_insert, none_is}
-use Rattle.object_pool.proofs.Keys.{same_key}
+use Rattle.object_pool.proofs.Keys.{itself, same_key}
 
 same_some : {X : Type 0} (x y : X) (o : Option X) → o ≡ Some x → o ≡ Some y → x ≡ y
 same_some x y o first second = let both : Some x ≡ Some y = sym first ∙ second in cc
@@ -44,15 +44,6 @@ module _ (kept : Slab Kept) (numbers : Numbers) (shelf : IsShelf kept numbers) w
       lookup_map (is_key key) (stored_at kept) numbers
       ∙ ap (λ o. option_map (stored_at kept) o) found
       ∙ ap (λ o. Some (object_in o)) at
-
--- a key that is found is its own
-found_itself : (numbers : Numbers) (key : Key) (n : ℕ) → lookup (is_key key) numbers ≡ Some n → is_key key key ≡ true
-found_itself [] key n found = absurd (let bad : None ≡ Some n = found in cc)
-found_itself (e ∷ es) key n found =
-    elim (is_key key e.0) as (λ b. is_key key e.0 ≡ b → cond b (Some e.1) (lookup (is_key key) es) ≡ Some n → is_key key key ≡ true) [
-      | true ↦ λ here _. subst (λ k. is_key key k ≡ true) (sym (same_key key e.0 here)) here
-      | false ↦ λ _ later. found_itself es key n later
-    ] refl found
 
 -- another object with the same number and key
 module _ (kept : Slab Kept) (numbers : Numbers) (shelf : IsShelf kept numbers) (key : Key) (n : ℕ) (has : HasKey kept n key) (w : Stored) where
@@ -84,12 +75,9 @@ module _ (kept : Slab Kept) (numbers : Numbers) (shelf : IsShelf kept numbers) (
     ];
   }
 
-  itself : is_key key key ≡ true
-  itself = found_itself numbers key n (found_number kept numbers shelf n key has)
-
   other_number : (e : Key × ℕ) → HasKey kept e.1 e.0 → is_key key e.0 ≡ false → e.1 ≢ n
   other_number e named other same =
-      let here : is_key key e.0 ≡ true = subst (λ k. is_key key k ≡ true) (sym (own_key e.1 e.0 named same)) itself in
+      let here : is_key key e.0 ≡ true = subst (λ k. is_key key k ≡ true) (sym (own_key e.1 e.0 named same)) (itself key) in
       let no : false ≡ true = sym other ∙ here in cc
 
   unwritten : (es : Numbers) → AllByRecursion (λ y. key_cmp key y ≡ Less) (keys_of es) → AllByRecursion (λ e. HasKey kept e.1 e.0) es → entries_of after es ≡ entries_of kept es

@@ -69,11 +69,12 @@ count c =
 new_object : (c : goal.After-give) → Stored
 new_object c = record { run = c.in-Ok.run'; size = length c.args.bytes.now; parts = c.get_mut-object.result.now.parts }
 
-written : (c : goal.After-give) → c.get_mut-object.follows.lender (record { run = c.replace-old.new.dest; size = length c.args.bytes.now; parts = c.get_mut-object.result.now.parts }) ≡ set_value (is_key c.args.key.now) c.self.inside.objects (new_object c)
+abbrev with_run : (c : goal.After-give) → Run → Stored
+with_run c r = record { run = r; size = length c.args.bytes.now; parts = c.get_mut-object.result.now.parts }
+
+written : (c : goal.After-give) → set_value (is_key c.args.key.now) c.self.inside.objects (with_run c c.replace-old.new.dest) ≡ set_value (is_key c.args.key.now) c.self.inside.objects (new_object c)
 unfolding new_object
-written c =
-    let with_run : Run → Stored = λ r. record { run = r; size = length c.args.bytes.now; parts = c.get_mut-object.result.now.parts } in
-    c.get_mut-object.follows.holds (with_run c.replace-old.new.dest) ∙ ap (λ r. set_value (is_key c.args.key.now) c.self.inside.objects (with_run r)) c.replace-old.ensures.after
+written c = ap (λ r. set_value (is_key c.args.key.now) c.self.inside.objects (with_run c r)) c.replace-old.ensures.after
 
 sound_now : (c : goal.After-give) → IsSound c.give.new.self c.self.inside.frame (set_value (is_key c.args.key.now) c.self.inside.objects (new_object c))
 unfolding new_object
