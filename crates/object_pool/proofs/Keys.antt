@@ -12,7 +12,7 @@ use Rattle.std.proofs.lemmas.Slice.Eq.{bytes_eq-Decides}
 use Rattle.std.specs.Cmp.{Equal-is}
 use Rattle.rgw_types.specs.declared.pool_key.Key.{Key}
 use Rattle.rgw_types.specs.declared.pool_key.Key.TheVariants.{Root, Shard, Head, Tail, Queue, Changes, Sync}
-use Rattle.rgw_types.specs.contracts.pool_key.KeyOrd.TheImpl as key_order
+use Rattle.rgw_types.specs.contracts.pool_key.KeyOrd.TheImpl.Laws.{total-law}
 use Rattle.object_pool.specs.Objects.{is_key}
 
 both_equal : (a b : Ordering) → is_eq (ordering_then a b) ≡ true → (is_eq a ≡ true) × (is_eq b ≡ true)
@@ -98,4 +98,4 @@ keys_apart_by k q other x here = false_from_ne_true _ (λ there.
 
 -- and a key compares as equal to itself
 pub itself : (k : Key) → is_key k k ≡ true
-itself k = ap is_eq (tied_itself (key_order.ghosts).total k)
+itself k = ap is_eq (tied_itself total-law k)
