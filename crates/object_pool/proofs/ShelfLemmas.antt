@@ -1,5 +1,5 @@
 -- What the objects by their keys are where one is written, added or forgotten.
-use Rattle.std.proofs.Common.{◌≡◌, ◌≢◌, ℕ, suc, ◌+◌, Bool, true, false, cond, List, [], ◌∷◌, map, get_or, Option, Some, None, IsNone, is_some, inl, inr, refl, zero, sym, ◌∙◌, ap, ap₂, subst, MutBor}
+use Rattle.std.proofs.Common.{◌≡◌, ◌≢◌, ℕ, Bool, true, false, cond, List, [], ◌∷◌, map, Option, Some, None, IsNone, is_some, ◌⊎◌, inl, inr, refl, sym, ◌∙◌, ap, ap₂, subst}
 use Rattle.std.specs.List.{AllByRecursion, filter}
 use Rattle.std.specs.List.Sorted.{IsStrictlySortedBy}
 use Rattle.std.specs.Option.{option_map}
@@ -8,14 +8,14 @@ use Rattle.std.specs.BTreeMap.{insert_entry}
 use Rattle.std.specs.declared.cmp.Ordering.TheVariants.{Less, Equal, Greater}
 use Rattle.std.specs.Ordering.{is_eq, match_ordering}
 use Rattle.std.proofs.lemmas.Bool.{cases_eq}
-use Rattle.slab.specs.Slab.{Slab, get, with_value, Updates, CalledAt, RetainsFrom}
+use Rattle.slab.specs.Slab.{Slab, get, with_value, Updates}
 use Rattle.slab.proofs.SlabLemmas.{Updates-with_value}
 use Rattle.rgw_types.specs.declared.pool_key.Key.{Key}
 use Rattle.object_pool.specs.declared.object.Stored.{Stored}
 use Rattle.object_pool.specs.declared.shelf.Kept.{Kept}
 use Rattle.object_pool.specs.Objects.{is_key, key_cmp}
 use Rattle.object_pool.specs.Stored.{Entries, is_stored}
-use Rattle.object_pool.specs.Shelves.{Numbers, object_in, exists_in, stored_at, is_stored_at, entries_of, HasKey, IsShelf}
+use Rattle.object_pool.specs.Shelves.{Numbers, object_in, exists_in, stored_at, is_stored_at, left_of, entries_of, HasKey, IsShelf, IsSwept}
 use Rattle.object_pool.proofs.EntryLemmas.{lookup_map, all_map, cond-true, cond-false}
 use Rattle.object_pool.proofs.Insertions.{map_insert, none_is}
 use Rattle.object_pool.proofs.Keys.{itself, same_key}
@@ -174,27 +174,104 @@ module _ (kept after : Slab Kept) (numbers : Numbers) (shelf : IsShelf kept numb
         | false ↦ sym (lookup_map (is_key q) (stored_at after) numbers) ∙ ap (lookup (is_key q)) (unchanged numbers shelf.named)
       ]
 
--- what is left of something
-abbrev pub left_of : Option Kept → Option Kept
-left_of None = None
-left_of (Some x) = cond (is_stored x.object) (Some x) None
+left_whole : (o : Option Kept) → exists_in o ≡ true → left_of o ≡ o
+left_whole None exists = refl
+left_whole (Some x) exists = cond-true _ _ exists
 
-pub retained_at : {F : Type 0} (step : F → ℕ → MutBor Kept → Bool → MutBor Kept → F → Type 0) → ((f : F) (k : ℕ) (x : Kept) (b : Bool) (y : Kept) (next : F) → CalledAt step f k x b y next → (b ≡ is_stored x.object) × (y ≡ x))
-    → (f : F) (key : ℕ) (slots left : List (Option Kept)) → RetainsFrom step f key slots left → (m : ℕ) → get_or left m None ≡ left_of (get_or slots m None)
-retained_at step told f key [] left retains m = ap (λ z. get_or z m None) retains ∙ nothing m
-  where
-    nothing : (m : ℕ) → get_or {A = Option Kept} [] m None ≡ left_of (get_or [] m None)
-    nothing zero = refl
-    nothing (suc m) = refl
-retained_at step told f key (None ∷ rest) left retains zero = ap (λ z. get_or z 0 None) retains.1
-retained_at step told f key (None ∷ rest) left retains (suc m) = ap (λ z. get_or z (suc m) None) retains.1 ∙ retained_at step told f (key + 1) rest retains.0 retains.2 m
-retained_at step told f key (Some x ∷ rest) left retains zero =
-    let t = told f key x retains.0 retains.1 retains.2 retains.3 in
-    ap (λ z. get_or z 0 None) retains.5 ∙ (λ j. cond (t.0 j) (Some (t.1 j)) None)
-retained_at step told f key (Some x ∷ rest) left retains (suc m) = ap (λ z. get_or z (suc m) None) retains.5 ∙ retained_at step told retains.2 (key + 1) rest retains.4 retains.6 m
+left_none : (o : Option Kept) → exists_in o ≡ false → left_of o ≡ None
+left_none None gone = refl
+left_none (Some x) gone = cond-false _ _ gone
+
+-- what is left exists as before, and all of it is left
+pub exists_left : (o : Option Kept) → exists_in (left_of o) ≡ exists_in o
+exists_left None = refl
+exists_left (Some x) =
+    elim (is_stored x.object) as (λ b. is_stored x.object ≡ b → exists_in (cond b (Some x) None) ≡ is_stored x.object) [
+      | true ↦ λ _. refl
+      | false ↦ λ gone. sym gone
+    ] refl
+
+pub left_twice : (o : Option Kept) → left_of (left_of o) ≡ left_of o
+left_twice o =
+    elim (exists_in o) as (λ b. exists_in o ≡ b → left_of (left_of o) ≡ left_of o) [
+      | true ↦ λ exists. ap left_of (left_whole o exists)
+      | false ↦ λ gone. ap left_of (left_none o gone) ∙ sym (left_none o gone)
+    ] refl
+
+pub stays_there : (kept : Slab Kept) (n : ℕ) → is_stored_at kept n ≡ true → Updates kept kept n (left_of (get kept n))
+stays_there kept n exists = record { changed = sym (left_whole (get kept n) exists); others = λ m _. refl }
+
+pub leaves_none : (old new : Slab Kept) (n : ℕ) → is_stored_at old n ≡ false → Updates old new n None → Updates old new n (left_of (get old n))
+leaves_none old new n gone updates = subst (Updates old new n) (sym (left_none (get old n) gone)) updates
+
+-- a number of the list
+abbrev pub IsAmong : ℕ → List ℕ → Type 0
+IsAmong m [] = ⊥
+IsAmong m (n ∷ ns) = (m ≡ n) ⊎ IsAmong m ns
+
+-- only at these numbers is there something yet to forget
+pub record SweepsAll (old new : Slab Kept) (rest : List ℕ) : Type 0 where
+  pub same : (m : ℕ) → left_of (get new m) ≡ left_of (get old m)
+  pub done : (m : ℕ) → IsAmong m rest ⊎ (left_of (get new m) ≡ get new m)
+
+found_among : (test : Key → Bool) (es : Numbers) (m : ℕ) → lookup test es ≡ Some m → IsAmong m (map (λ e. e.1) es)
+found_among test [] m found = absurd (let bad : None ≡ Some m = found in cc)
+found_among test (e ∷ es) m found =
+    elim (test e.0) as (λ b. cond b (Some e.1) (lookup test es) ≡ Some m → (m ≡ e.1) ⊎ IsAmong m (map (λ e. e.1) es)) [
+      | true ↦ λ here. let number : m ≡ e.1 = cc in inl number
+      | false ↦ λ later. inr (found_among test es m later)
+    ] found
+
+pub sweep_starts : (kept : Slab Kept) (numbers : Numbers) → IsShelf kept numbers → SweepsAll kept kept (map (λ e. e.1) numbers)
+sweep_starts kept numbers shelf = record {
+  same = λ m. refl;
+  done = λ m. elim (get kept m) as (λ o. get kept m ≡ o → IsAmong m (map (λ e. e.1) numbers) ⊎ (left_of o ≡ o)) [
+    | None ↦ λ _. inr refl
+    | Some x ↦ λ at. inl (found_among (is_key x.key) numbers m (shelf.numbered m x at))
+  ] refl;
+}
+
+pub sweep_goes_on : (old mid new : Slab Kept) (n : ℕ) (rest : List ℕ) → SweepsAll old mid (n ∷ rest) → Updates mid new n (left_of (get mid n)) → SweepsAll old new rest
+sweep_goes_on old mid new n rest so_far updates = record {
+  same = λ m. elim (cases_eq m n) [
+    | inl same ↦
+        let at : get new m ≡ left_of (get mid m) = ap (get new) same ∙ updates.changed ∙ ap (λ k. left_of (get mid k)) (sym same) in
+        ap left_of at ∙ left_twice (get mid m) ∙ so_far.same m
+    | inr differs ↦ ap left_of (updates.others m differs) ∙ so_far.same m
+  ];
+  done = λ m. elim (cases_eq m n) [
+    | inl same ↦
+        let at : get new m ≡ left_of (get mid m) = ap (get new) same ∙ updates.changed ∙ ap (λ k. left_of (get mid k)) (sym same) in
+        inr (ap left_of at ∙ left_twice (get mid m) ∙ sym at)
+    | inr differs ↦
+        elim (so_far.done m) [
+          | inl among ↦ elim among [
+            | inl same ↦ absurd (differs same)
+            | inr later ↦ inl later
+          ]
+          | inr whole ↦
+              let at : get new m ≡ get mid m = updates.others m differs in
+              inr (ap left_of at ∙ whole ∙ sym at)
+        ]
+  ];
+}
+
+pub sweep_ends : (old new : Slab Kept) (rest : List ℕ) → rest ≡ [] → SweepsAll old new rest → IsSwept old new
+sweep_ends old new rest none all m =
+    let last : SweepsAll old new [] = subst (SweepsAll old new) none all in
+    elim (last.done m) [
+      | inl bad ↦ absurd bad
+      | inr whole ↦ sym whole ∙ last.same m
+    ]
+
+-- the same numbers are those of objects that exist
+pub same_numbers : (old new : Slab Kept) (numbers : Numbers) → IsSwept old new → filter (λ e. is_stored_at new e.1) numbers ≡ filter (λ e. is_stored_at old e.1) numbers
+same_numbers old new numbers swept =
+    let same : (m : ℕ) → is_stored_at new m ≡ is_stored_at old m = λ m. ap exists_in (swept m) ∙ exists_left (get old m) in
+    λ i. filter (λ e. same e.1 i) numbers
 
 -- only the objects that exist
-module _ (kept after : Slab Kept) (numbers : Numbers) (shelf : IsShelf kept numbers) (retains : (m : ℕ) → get after m ≡ left_of (get kept m)) where
+module _ (kept after : Slab Kept) (numbers : Numbers) (shelf : IsShelf kept numbers) (retains : IsSwept kept after) where
   abbrev stays : Key × ℕ → Bool
   stays e = is_stored_at kept e.1
 

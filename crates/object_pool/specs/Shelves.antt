@@ -1,5 +1,5 @@
 -- Objects that a number names, and the numbers by their keys. No public clause cites this module.
-use Rattle.std.specs.Prelude.{◌≡◌, ℕ, Bool, false, List, [], Option, Some, None, map}
+use Rattle.std.specs.Prelude.{◌≡◌, ℕ, Bool, false, List, [], Option, Some, None, map, if◌then◌else◌}
 use Rattle.std.specs.List.{AllByRecursion}
 use Rattle.std.specs.List.Sorted.{IsStrictlySortedBy}
 use Rattle.std.specs.Map.{keys_of, lookup}
@@ -33,6 +33,15 @@ stored_at kept n = object_in (get kept n)
 -- whether it exists
 abbrev pub is_stored_at : Slab Kept → ℕ → Bool
 is_stored_at kept n = exists_in (get kept n)
+
+-- what is left of something once what does not exist is forgotten
+abbrev pub left_of : Option Kept → Option Kept
+left_of None = None
+left_of (Some kept) = if is_stored kept.object then Some kept else None
+
+-- what does not exist is forgotten, and each number is still that of what it was
+abbrev pub IsSwept : Slab Kept → Slab Kept → Type 0
+IsSwept old new = (n : ℕ) → get new n ≡ left_of (get old n)
 
 -- the objects by their keys
 abbrev pub entries_of : Slab Kept → Numbers → Entries

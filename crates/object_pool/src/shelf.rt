@@ -6,11 +6,11 @@ ghost use Rattle.std.specs.List.{filter};
 ghost use Rattle.std.specs.List.Sorted.{IsStrictlySortedBy};
 ghost use Rattle.std.specs.Map.{keys_of, lookup};
 ghost use Rattle.std.specs.Option.{option_copied};
-ghost use Rattle.slab.specs.Slab.{get};
+ghost use Rattle.slab.specs.Slab.{get, Updates};
 ghost use Rattle.rgw_types.specs.declared.pool_key.Key.{Key as KeyOf};
 ghost use Rattle.object_pool.specs.Objects.{is_key, key_cmp};
 ghost use Rattle.object_pool.specs.Stored.{is_stored};
-ghost use Rattle.object_pool.specs.Shelves.{IsShelf, HasKey, is_stored_at};
+ghost use Rattle.object_pool.specs.Shelves.{IsShelf, IsSwept, HasKey, is_stored_at, left_of};
 ghost use Rattle.object_pool.specs.ShelfLending.{LendsStored};
 
 use crate::object::Stored;
@@ -113,14 +113,33 @@ impl Shelf {
         Ok(self.kept.insert_reserved(Kept { key: name, object }))
     }
 
-    // Keeps only the objects that exist.
+    // Keeps only the objects that exist. A step for each key, however many numbers there once were.
     pub(crate) fn retain_existing(&mut self)
         ensures entries { self.new ≡ filter (λ e. is_stored e.1) self.old }
         ensures in_order { IsStrictlySortedBy key_cmp (keys_of self.new) }
     {
+        forget_emptied(&mut self.kept, &self.numbers);
         let kept = &self.kept;
         self.numbers.retain(|_key, number| exists_at(kept, *number));
-        self.kept.retain(|_number, kept| kept.object.exists());
+    }
+}
+
+// Forgets each object that does not exist.
+fn forget_emptied(kept: &mut Slab<Kept>, numbers: &BTreeMap<Key, usize>)
+    requires { IsShelf kept.old numbers.now.entries }
+    ensures { IsSwept kept.old kept.new }
+{
+    for number in numbers.values() {
+        forget_if_emptied(kept, *number);
+    }
+}
+
+// Forgets the object with this number where it does not exist.
+fn forget_if_emptied(kept: &mut Slab<Kept>, number: usize)
+    ensures { Updates kept.old kept.new number (left_of (get kept.old number)) }
+{
+    if !exists_at(kept, number) {
+        let _ = kept.try_remove(number);
     }
 }
 
