@@ -83,17 +83,11 @@ impl Pool {
         self.objects.len()
     }
 
-    // Whether something is kept under the key.
-    fn is_kept(&self, key: &Key) -> bool
-        ensures { result ≡ is_some (lookup (is_key key.now) self.now.slots) }
-    {
-        self.objects.contains_key(key)
-    }
-
     // The number of the key under which something is kept. The calls below that are told a number try
     // it first, so that with this one they look no key up.
     pub(crate) fn number_of(&self, key: &Key) -> Option<usize>
-        ensures { is_some result ≡ is_some (lookup (is_key key.now) self.now.slots) }
+        ensures there { is_some result ≡ is_some (lookup (is_key key.now) self.now.slots) }
+        ensures sum { HasFrameSum self.now }
     {
         self.objects.number_of(key)
     }
@@ -120,16 +114,35 @@ impl Pool {
         ensures counts { KeepsCounts self.old self.new }
         ensures sum { HasFrameSum self.new }
     {
-        let number = self.number_of(key).unwrap_or(0);
+        let number = match self.number_of(key) {
+            Some(number) => number,
+            None => return self.make_place(alloc, key),
+        };
         if self.has_object(number, key) {
             return Ok(number);
         }
-        self.make_place(alloc, number, key)
+        self.make_empty(alloc, number, key)?;
+        Ok(number)
     }
 
-    // Makes a place for the key of an object that does not exist, with nothing in it.
-    fn make_place(&mut self, alloc: Global, number: usize, key: &Key) -> Result<usize, OutOfMemory>
-        requires { exists (slot_at self.old.slots key.now) ≡ false }
+    // Puts nothing in the place of what is kept for an object that does not exist.
+    fn make_empty(&mut self, alloc: Global, number: usize, key: &Key) -> Result<(), OutOfMemory>
+        requires there { IsSome (lookup (is_key key.now) self.old.slots) }
+        requires gone { exists (slot_at self.old.slots key.now) ≡ false }
+        ensures there { IsSome (lookup (is_key key.now) self.new.slots) }
+        ensures ok { OnOk result (slot_at self.new.slots key.now ≡ nothing) }
+        ensures objects { objects self.new ≡ objects self.old }
+        ensures all { KeepsAll self.old self.new }
+        ensures counts { KeepsCounts self.old self.new }
+        ensures sum { HasFrameSum self.old → HasFrameSum self.new }
+    {
+        *self.parts_mut(number, key) = ObjectParts::new(alloc)?;
+        Ok(())
+    }
+
+    // Makes a place for a key that has none, with nothing in it.
+    fn make_place(&mut self, alloc: Global, key: &Key) -> Result<usize, OutOfMemory>
+        requires { IsNone (lookup (is_key key.now) self.old.slots) }
         ensures there { OnOk result (IsSome (lookup (is_key key.now) self.new.slots)) }
         ensures ok { OnOk result (slot_at self.new.slots key.now ≡ nothing) }
         ensures objects { objects self.new ≡ objects self.old }
@@ -137,10 +150,6 @@ impl Pool {
         ensures counts { KeepsCounts self.old self.new }
         ensures sum { HasFrameSum self.old → HasFrameSum self.new }
     {
-        if self.is_kept(key) {
-            *self.parts_mut(number, key) = ObjectParts::new(alloc)?;
-            return Ok(number);
-        }
         if self.sweep.is_due(self.objects.len()) {
             self.forget_emptied();
         }

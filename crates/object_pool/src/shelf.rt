@@ -63,12 +63,6 @@ impl Shelf {
         self.numbers.len()
     }
 
-    pub(crate) fn contains_key(&self, key: &Key) -> bool
-        ensures { result ≡ is_some (lookup (is_key key.now) self.now) }
-    {
-        self.numbers.contains_key(key)
-    }
-
     // The number of a key that has something.
     pub(crate) fn number_of(&self, key: &Key) -> Option<usize>
         ensures { is_some result ≡ is_some (lookup (is_key key.now) self.now) }

@@ -1,7 +1,0 @@
-use Rattle.std.proofs.Common.{◌∙◌}
-use Rattle.object_pool.specs.Objects.{is_key}
-use Rattle.object_pool.proofs.ShelfLemmas.{number_or_not}
-use Rattle.object_pool.proofs.shelf.Shelf.contains_key.Goals as goal
-
-pub returns : goal.returns
-returns c = c.contains_key.ensures ∙ number_or_not c.self.inside.kept c.self.inside.numbers.entries _ (is_key c.args.key.now) c.self.view_is
