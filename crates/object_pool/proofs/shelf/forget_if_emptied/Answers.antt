@@ -1,4 +1,4 @@
-use Rattle.std.proofs.Common.{refl, sym, ◌∙◌}
+use Rattle.std.proofs.Common.{sym, ◌∙◌}
 use Rattle.object_pool.proofs.ShelfLemmas.{stays_there, leaves_none}
 use Rattle.object_pool.proofs.shelf.forget_if_emptied.Goals as goal
 

@@ -1,4 +1,4 @@
-use Rattle.std.proofs.Common.{◌≡◌, IsNone, ap, sym, refl, subst, ◌∙◌, rules}
+use Rattle.std.proofs.Common.{◌≡◌, IsNone, ap, sym, refl, subst, ◌∙◌}
 use Rattle.std.specs.List.{filter}
 use Rattle.std.specs.List.Sorted.{IsStrictlySortedBy}
 use Rattle.std.specs.Map.{lookup, keys_of}

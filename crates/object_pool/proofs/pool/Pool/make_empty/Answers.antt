@@ -1,6 +1,6 @@
-use Rattle.std.proofs.Common.{◌≡◌, ◌+◌, sum_by, IsSome, ap, ap₂, sym, ◌∙◌}
+use Rattle.std.proofs.Common.{◌≡◌, ◌+◌, sum_by, ap, ap₂, ◌∙◌}
 use Rattle.std.specs.List.{filter}
-use Rattle.std.specs.Map.{lookup, set_value}
+use Rattle.std.specs.Map.{set_value}
 use Rattle.object_pool.specs.Parts.{Parts}
 use Rattle.object_pool.specs.Objects.{Object, frames_of, is_key, nothing, exists, settled, slot_at}
 use Rattle.object_pool.proofs.Touches.{still_there, at_key, no_bytes, no_object_changes, same_objects}

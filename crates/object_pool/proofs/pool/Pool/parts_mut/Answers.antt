@@ -1,7 +1,7 @@
-use Rattle.std.proofs.Common.{◌≡◌, Some, is_some, ap, subst, refl, sym, ◌∙◌, unwrap_or}
+use Rattle.std.proofs.Common.{◌≡◌, Some, ap, refl, sym, ◌∙◌, unwrap_or}
 use Rattle.std.specs.Map.{lookup, set_value}
 use Rattle.object_pool.specs.Objects.{PoolView, is_key, slot_at, nothing}
-use Rattle.object_pool.specs.Stored.{Entries, IsSound, slots_in, object_in}
+use Rattle.object_pool.specs.Stored.{slots_in, object_in}
 use Rattle.object_pool.specs.Lending.{with_parts}
 use Rattle.object_pool.proofs.FrameSums.{view_of}
 use Rattle.object_pool.proofs.SlotLemmas.{entry_there, slot_there, kept_there, parts_sound, parts_view}

@@ -1,12 +1,10 @@
 use Rattle.std.proofs.Common.{◌≡◌, Some, IsNone, cond, ap, subst, sym, ◌∙◌}
-use Rattle.std.specs.List.Sorted.{IsStrictlySortedBy}
-use Rattle.std.specs.Map.{keys_of, lookup}
+use Rattle.std.specs.Map.{lookup}
 use Rattle.std.specs.BTreeMap.{insert_entry}
-use Rattle.slab.specs.Slab.{Slab, Updates}
+use Rattle.slab.specs.Slab.{Updates}
 use Rattle.rgw_types.specs.declared.pool_key.Key.{Key}
-use Rattle.object_pool.specs.declared.shelf.Kept.{Kept}
 use Rattle.object_pool.specs.Objects.{is_key, key_cmp}
-use Rattle.object_pool.specs.Shelves.{IsShelf, Numbers, entries_of}
+use Rattle.object_pool.specs.Shelves.{IsShelf, entries_of}
 use Rattle.object_pool.proofs.ShelfLemmas.{number_or_not, reserved_shelf, inserted_shelf, inserted_entries, inserted_found, entries_in_order}
 use Rattle.object_pool.proofs.shelf.Shelf.insert.Goals as goal
 
