@@ -6,10 +6,10 @@ use Rattle.std.specs.Map.{lookup, set_value}
 use Rattle.std.proofs.lemmas.List.Sums.{sum_by-cons}
 
 -- a choice by a test whose answer is known
-cond-true : {A : Type 0} {b : Bool} (x y : A) → b ≡ true → cond b x y ≡ x
+pub cond-true : {A : Type 0} {b : Bool} (x y : A) → b ≡ true → cond b x y ≡ x
 cond-true x y e = ap (λ c. cond c x y) e
 
-cond-false : {A : Type 0} {b : Bool} (x y : A) → b ≡ false → cond b x y ≡ y
+pub cond-false : {A : Type 0} {b : Bool} (x y : A) → b ≡ false → cond b x y ≡ y
 cond-false x y e = ap (λ c. cond c x y) e
 
 module _ {K X : Type 0} (test : K → Bool) where

@@ -54,7 +54,7 @@ module _ (k : Key) where
             let t : sum_by F (e ∷ insert_entry key_cmp es k v) ≡ f v + sum_by F (e ∷ es) = omega (arith, left, right, more) in t
       ] none
 
-  map_insert : {X Y : Type 0} (g : X → Y) (v : X) (es : List (Key × X)) → map (λ e. (e.0, g e.1)) (insert_entry key_cmp es k v) ≡ insert_entry key_cmp (map (λ e. (e.0, g e.1)) es) k (g v)
+  pub map_insert : {X Y : Type 0} (g : X → Y) (v : X) (es : List (Key × X)) → map (λ e. (e.0, g e.1)) (insert_entry key_cmp es k v) ≡ insert_entry key_cmp (map (λ e. (e.0, g e.1)) es) k (g v)
   map_insert g v [] = refl
   map_insert {X} g v (e ∷ es) =
       let G : Key × X → Key × _ = λ e. (e.0, g e.1) in
@@ -154,7 +154,7 @@ adds_from old new (Ok r) run is count owned adds free frame frames =
     record { frame = frame; frames = frames; free = omega (arith, free); count = subst (λ z. z.count ≡ 0) same count; owned = subst (λ z. Owns new z) same owned; adds = subst (λ z. AddsRun old new z) same adds }
 adds_from old new (Err e) run is count owned adds free frame frames = absurd cc
 
-none_is : {X : Type 0} (o : Option X) → IsNone o → o ≡ None
+pub none_is : {X : Type 0} (o : Option X) → IsNone o → o ≡ None
 none_is None h = refl
 none_is (Some x) h = absurd (let no : true ≡ false = h in cc)
 

@@ -5,12 +5,14 @@ use Rattle.std.specs.declared.cmp.Ordering.TheVariants.{Less, Equal, Greater}
 use Rattle.std.specs.Ordering.{is_eq, nat_cmp, ordering_then}
 use Rattle.std.specs.Cmp.Lexicographic.{slice_cmp}
 use Rattle.std.proofs.lemmas.Bool.{false_from_ne_true}
+use Rattle.std.proofs.lemmas.Cmp.{tied_itself}
 use Rattle.std.proofs.lemmas.Map.Lookups.{exact_unsigned}
 use Rattle.std.proofs.lemmas.Map.Text.{is_eq-slice_cmp}
 use Rattle.std.proofs.lemmas.Slice.Eq.{bytes_eq-Decides}
 use Rattle.std.specs.Cmp.{Equal-is}
 use Rattle.rgw_types.specs.declared.pool_key.Key.{Key}
 use Rattle.rgw_types.specs.declared.pool_key.Key.TheVariants.{Root, Shard, Head, Tail, Queue, Changes, Sync}
+use Rattle.rgw_types.specs.contracts.pool_key.KeyOrd.TheImpl.Laws.{total-law}
 use Rattle.object_pool.specs.Objects.{is_key}
 
 both_equal : (a b : Ordering) → is_eq (ordering_then a b) ≡ true → (is_eq a ≡ true) × (is_eq b ≡ true)
@@ -93,3 +95,7 @@ keys_apart_by k q other x here = false_from_ne_true _ (λ there.
     let both : is_key k q ≡ true = subst (λ z. is_key k z ≡ true) (sym (same_key q x there)) here in
     let no : false ≡ true = sym other ∙ both in
     absurd cc)
+
+-- and a key compares as equal to itself
+pub itself : (k : Key) → is_key k k ≡ true
+itself k = ap is_eq (tied_itself total-law k)

@@ -7,6 +7,7 @@ pub mod Lent
 pub mod PlaceLemmas
 pub mod Replacements
 pub mod RowLemmas
+pub mod ShelfLemmas
 pub mod SlotLemmas
 pub mod Sweeps
 pub mod Touches

@@ -3,4 +3,6 @@ pub mod Objects
 pub mod Parts
 pub mod PartsLending
 pub mod Places
+pub mod ShelfLending
+pub mod Shelves
 pub mod Stored

@@ -6,6 +6,7 @@ mod lookup;
 mod object;
 mod place;
 mod pool;
+mod shelf;
 mod sweep;
 #[cfg(test)]
 mod tests;

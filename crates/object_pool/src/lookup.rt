@@ -3,13 +3,13 @@ ghost use Rattle.std.specs.Map.{lookup};
 ghost use Rattle.object_pool.specs.Objects.{is_key};
 
 use crate::object::Stored;
+use crate::shelf::Shelf;
 use rgw_types::Key;
-use std::collections::BTreeMap;
 
 // What is kept under a key that has something.
-pub(crate) fn stored_at<'a>(objects: &'a BTreeMap<Key, Stored>, key: &Key) -> &'a Stored
-    requires { IsSome (lookup (is_key key.now) objects.now.entries) }
-    ensures { lookup (is_key key.now) objects.now.entries ≡ Some result.now }
+pub(crate) fn stored_at<'a>(objects: &'a Shelf, number: usize, key: &Key) -> &'a Stored
+    requires { IsSome (lookup (is_key key.now) objects.now) }
+    ensures { lookup (is_key key.now) objects.now ≡ Some result.now }
 {
-    objects.get(key).unwrap()
+    objects.get(number, key).unwrap()
 }

@@ -14,6 +14,8 @@ use std::alloc::Global;
 pub struct Place<'a> {
     pool: &'a mut Pool,
     key: &'a Key,
+    // Where the pool keeps the object.
+    number: usize,
     ghost there: { IsSome (lookup (is_key key.now) pool.now.slots) },
     ghost sum: { HasFrameSum pool.now },
 }
@@ -32,8 +34,12 @@ impl Pool {
         ensures ok { IfOk result (λ place. IsPlaceIn self.old key.now (object_at self.old key.now) place) }
         ensures there { IsTrue (exists (object_at self.old key.now)) → IsOk result }
     {
-        self.make_ready(alloc, key)?;
-        Ok(Place { pool: self, key })
+        let number = self.make_ready(alloc, key)?;
+        Ok(Place {
+            pool: self,
+            key,
+            number,
+        })
     }
 
     /// The place of a key whose object exists. Takes no memory.
@@ -44,10 +50,15 @@ impl Pool {
         ensures some { IfSome result (λ place. IsPlaceIn self.old key.now (object_at self.old key.now) place) }
         ensures pool { IfSome result (λ place. pool_of place ≡ self.old) }
     {
-        if !self.has_object(key) {
+        let number = self.number_of(key)?;
+        if !self.has_object(number, key) {
             return None;
         }
-        Some(Place { pool: self, key })
+        Some(Place {
+            pool: self,
+            key,
+            number,
+        })
     }
 }
 
@@ -67,21 +78,21 @@ impl Place<'_> {
     pub fn exists(&self) -> bool
         ensures { result ≡ exists (object_of self.now) }
     {
-        self.pool.has_object(self.key)
+        self.pool.has_object(self.number, self.key)
     }
 
     /// How many bytes the object has.
     pub fn size(&self) -> u64
         ensures { result ≡ length (object_of self.now).bytes }
     {
-        self.pool.size(self.key)
+        self.pool.size(self.number, self.key)
     }
 
     /// A copy of `count` bytes from `start` on, or of as many of them as there are.
     pub fn bytes(&self, alloc: Global, start: u64, count: u64) -> Result<Bytes, OutOfMemory>
         ensures { IfOk result (λ bytes. bytes ≡ take count (drop start (object_of self.now).bytes)) }
     {
-        self.pool.bytes(alloc, self.key, start, count)
+        self.pool.bytes(alloc, self.number, self.key, start, count)
     }
 
     /// Puts bytes in the place of those that the object has. The frames for them are taken before the
@@ -94,21 +105,21 @@ impl Place<'_> {
         ensures ok { OnOk result (Becomes self.old self.new (record (object_of self.old) { bytes = bytes.now })
             ((pool_of self.old).free - div_ceil (length bytes.now) (pool_of self.old).frame + frames_of (pool_of self.old).frame (object_of self.old))) }
     {
-        self.pool.put_bytes(self.key, bytes)
+        self.pool.put_bytes(self.number, self.key, bytes)
     }
 
     /// The attributes, lent.
     pub fn attrs(&self) -> &[u8]
         ensures { result.now ≡ (object_of self.now).attrs }
     {
-        self.pool.parts(self.key).attrs()
+        self.pool.parts(self.number, self.key).attrs()
     }
 
     /// Puts these attributes in the place of those that there are. Takes no memory.
     pub fn set_attrs(&mut self, attrs: Bytes)
         ensures { Changes self.old self.new (record (object_of self.old) { attrs = attrs }) }
     {
-        self.pool.parts_mut(self.key).set_attrs(attrs);
+        self.pool.parts_mut(self.number, self.key).set_attrs(attrs);
     }
 
     /// Writes bytes over those of the attributes from `start` on. Takes no memory.
@@ -117,7 +128,7 @@ impl Place<'_> {
         ensures { Changes self.old self.new (record (object_of self.old) { attrs = splice (object_of self.old).attrs start (start + length bytes.now) bytes.now }) }
     {
         self.pool
-            .parts_mut(self.key)
+            .parts_mut(self.number, self.key)
             .write_attrs(start as usize, bytes);
     }
 
@@ -128,7 +139,7 @@ impl Place<'_> {
         ensures no_room { IfNone result (room_at (rows_of self.now).rooms key.now ≡ 0) }
         ensures in_order { IsInOrder (rows_of self.now).rows }
     {
-        self.pool.parts(self.key).rows().get(key)
+        self.pool.parts(self.number, self.key).rows().get(key)
     }
 
     /// Puts the value at the key of a row, in the place of the one that was there.
@@ -145,7 +156,10 @@ impl Place<'_> {
         ensures err { OnErr result (Stays self.old self.new) }
         ensures in_order { IsInOrder (rows_of self.new).rows }
     {
-        self.pool.parts_mut(self.key).rows_mut().put(key, value)
+        self.pool
+            .parts_mut(self.number, self.key)
+            .rows_mut()
+            .put(key, value)
     }
 
     /// Removes the row at the key, and says whether it was there. Takes no memory.
@@ -161,7 +175,10 @@ impl Place<'_> {
         ensures absent { OnFalse result (rows_of self.new ≡ rows_of self.old) }
         ensures in_order { IsInOrder (rows_of self.new).rows }
     {
-        self.pool.parts_mut(self.key).rows_mut().remove(key)
+        self.pool
+            .parts_mut(self.number, self.key)
+            .rows_mut()
+            .remove(key)
     }
 
     /// Removes the rows whose keys are at least `from` and below `to`, and says how many they were.
@@ -179,7 +196,7 @@ impl Place<'_> {
         ensures in_order { IsInOrder (rows_of self.new).rows }
     {
         self.pool
-            .parts_mut(self.key)
+            .parts_mut(self.number, self.key)
             .rows_mut()
             .remove_range(from, to)
     }
@@ -202,7 +219,10 @@ impl Place<'_> {
         ensures err { OnErr result (Stays self.old self.new) }
         ensures in_order { IsInOrder (rows_of self.new).rows }
     {
-        self.pool.parts_mut(self.key).rows_mut().widen(key, room)
+        self.pool
+            .parts_mut(self.number, self.key)
+            .rows_mut()
+            .widen(key, room)
     }
 
     /// Puts `bytes` in the place of the `count` bytes from `start` of the value at the key. The new
@@ -227,7 +247,7 @@ impl Place<'_> {
         ensures in_order { IsInOrder (rows_of self.new).rows }
     {
         self.pool
-            .parts_mut(self.key)
+            .parts_mut(self.number, self.key)
             .rows_mut()
             .splice(key, start, count, bytes);
     }
@@ -248,7 +268,10 @@ impl Place<'_> {
         ensures err { OnErr result (Stays self.old self.new) }
         ensures in_order { IsInOrder (rows_of self.new).rows }
     {
-        self.pool.parts_mut(self.key).rows_mut().reserve(count)
+        self.pool
+            .parts_mut(self.number, self.key)
+            .rows_mut()
+            .reserve(count)
     }
 
     /// Makes a spare row the row of a key that is not there. The key has at most 16 bytes and the
@@ -269,7 +292,7 @@ impl Place<'_> {
         ensures in_order { IsInOrder (rows_of self.new).rows }
     {
         self.pool
-            .parts_mut(self.key)
+            .parts_mut(self.number, self.key)
             .rows_mut()
             .put_spare(key, value);
     }
@@ -283,7 +306,10 @@ impl Place<'_> {
             IsTrue page.end ↔ (length (rows_after (rows_of self.now).rows after.now) ≤ limit)) }
         ensures in_order { IfOk result (λ page. IsInOrder page.rows) }
     {
-        self.pool.parts(self.key).rows().page(alloc, after, limit)
+        self.pool
+            .parts(self.number, self.key)
+            .rows()
+            .page(alloc, after, limit)
     }
 
     /// Drops the bytes, the attributes and the rows, so that the object does not exist. Its frames are
@@ -292,6 +318,6 @@ impl Place<'_> {
         ensures { Becomes self.old self.new (dropped (object_of self.old))
             ((pool_of self.old).free + frames_of (pool_of self.old).frame (object_of self.old)) }
     {
-        self.pool.drop_object(self.key);
+        self.pool.drop_object(self.number, self.key);
     }
 }

@@ -9,12 +9,12 @@ ghost use Rattle.object_pool.specs.Lending.{LendsParts};
 use crate::error::NoSpace;
 use crate::lookup::stored_at;
 use crate::object::{ObjectParts, Stored};
+use crate::shelf::Shelf;
 use crate::sweep::Sweep;
 use frame_region::Region;
 use omap_pages::OutOfMemory;
 use rgw_types::{Bytes, Key};
 use std::alloc::Global;
-use std::collections::BTreeMap;
 use std::marker::Model;
 use std::mem::replace;
 
@@ -31,7 +31,7 @@ pub struct Pool {
     region: Region,
     // The bytes of one frame.
     frame: u32,
-    objects: BTreeMap<Key, Stored>,
+    objects: Shelf,
     sweep: Sweep,
 }
 
@@ -45,10 +45,10 @@ impl Model for Pool {
       frame = p.region.frame;
       frames = p.region.frames;
       free = p.region.free;
-      slots = slots_in p.region p.objects.entries;
+      slots = slots_in p.region p.objects;
     } };
 
-    ghost invariant = { λ p. IsSound p.region p.frame p.objects.entries };
+    ghost invariant = { λ p. IsSound p.region p.frame p.objects };
 }
 
 impl Pool {
@@ -64,7 +64,7 @@ impl Pool {
         Ok(Pool {
             region: Region::new(alloc, frames, frame)?,
             frame,
-            objects: BTreeMap::new(alloc),
+            objects: Shelf::new(alloc),
             sweep: Sweep::new(),
         })
     }
@@ -83,27 +83,29 @@ impl Pool {
         self.objects.len()
     }
 
-    // Whether something is kept under the key.
-    fn is_kept(&self, key: &Key) -> bool
-        ensures { result ≡ is_some (lookup (is_key key.now) self.now.slots) }
+    // The number of the key under which something is kept. The calls below that are told a number try
+    // it first, so that with this one they look no key up.
+    pub(crate) fn number_of(&self, key: &Key) -> Option<usize>
+        ensures there { is_some result ≡ is_some (lookup (is_key key.now) self.now.slots) }
+        ensures sum { HasFrameSum self.now }
     {
-        self.objects.contains_key(key)
+        self.objects.number_of(key)
     }
 
     // Whether the object exists.
-    pub(crate) fn has_object(&self, key: &Key) -> bool
+    pub(crate) fn has_object(&self, number: usize, key: &Key) -> bool
         ensures value { result ≡ exists (slot_at self.now.slots key.now) }
         ensures there { IsTrue result → IsSome (lookup (is_key key.now) self.now.slots) }
         ensures sum { HasFrameSum self.now }
     {
-        match self.objects.get(key) {
+        match self.objects.get(number, key) {
             Some(object) => object.exists(),
             None => false,
         }
     }
 
-    // Keeps something under the key: the object, or nothing where it does not exist.
-    pub(crate) fn make_ready(&mut self, alloc: Global, key: &Key) -> Result<(), OutOfMemory>
+    // Keeps something under the key: the object, or nothing where it does not exist. Says its number.
+    pub(crate) fn make_ready(&mut self, alloc: Global, key: &Key) -> Result<usize, OutOfMemory>
         ensures there { OnOk result (IsSome (lookup (is_key key.now) self.new.slots)) }
         ensures object { OnOk result (slot_at self.new.slots key.now ≡ object_at self.old key.now) }
         ensures exists { IsTrue (exists (slot_at self.old.slots key.now)) → IsOk result }
@@ -112,15 +114,35 @@ impl Pool {
         ensures counts { KeepsCounts self.old self.new }
         ensures sum { HasFrameSum self.new }
     {
-        if self.has_object(key) {
-            return Ok(());
+        let number = match self.number_of(key) {
+            Some(number) => number,
+            None => return self.make_place(alloc, key),
+        };
+        if self.has_object(number, key) {
+            return Ok(number);
         }
-        self.make_place(alloc, key)
+        self.make_empty(alloc, number, key)?;
+        Ok(number)
     }
 
-    // Makes a place for the key of an object that does not exist, with nothing in it.
-    fn make_place(&mut self, alloc: Global, key: &Key) -> Result<(), OutOfMemory>
-        requires { exists (slot_at self.old.slots key.now) ≡ false }
+    // Puts nothing in the place of what is kept for an object that does not exist.
+    fn make_empty(&mut self, alloc: Global, number: usize, key: &Key) -> Result<(), OutOfMemory>
+        requires there { IsSome (lookup (is_key key.now) self.old.slots) }
+        requires gone { exists (slot_at self.old.slots key.now) ≡ false }
+        ensures there { IsSome (lookup (is_key key.now) self.new.slots) }
+        ensures ok { OnOk result (slot_at self.new.slots key.now ≡ nothing) }
+        ensures objects { objects self.new ≡ objects self.old }
+        ensures all { KeepsAll self.old self.new }
+        ensures counts { KeepsCounts self.old self.new }
+        ensures sum { HasFrameSum self.old → HasFrameSum self.new }
+    {
+        *self.parts_mut(number, key) = ObjectParts::new(alloc)?;
+        Ok(())
+    }
+
+    // Makes a place for a key that has none, with nothing in it.
+    fn make_place(&mut self, alloc: Global, key: &Key) -> Result<usize, OutOfMemory>
+        requires { IsNone (lookup (is_key key.now) self.old.slots) }
         ensures there { OnOk result (IsSome (lookup (is_key key.now) self.new.slots)) }
         ensures ok { OnOk result (slot_at self.new.slots key.now ≡ nothing) }
         ensures objects { objects self.new ≡ objects self.old }
@@ -128,10 +150,6 @@ impl Pool {
         ensures counts { KeepsCounts self.old self.new }
         ensures sum { HasFrameSum self.old → HasFrameSum self.new }
     {
-        if self.is_kept(key) {
-            *self.parts_mut(key) = ObjectParts::new(alloc)?;
-            return Ok(());
-        }
         if self.sweep.is_due(self.objects.len()) {
             self.forget_emptied();
         }
@@ -145,12 +163,12 @@ impl Pool {
         ensures counts { KeepsCounts self.old self.new }
         ensures absent { (k : KeyOf) → IsNone (lookup (is_key k) self.old.slots) → IsNone (lookup (is_key k) self.new.slots) }
     {
-        self.objects.retain(|_key, object| object.exists());
+        self.objects.retain_existing();
         self.sweep.note(self.objects.len());
     }
 
     // Keeps nothing under a new key.
-    fn insert(&mut self, alloc: Global, key: &Key) -> Result<(), OutOfMemory>
+    fn insert(&mut self, alloc: Global, key: &Key) -> Result<usize, OutOfMemory>
         requires { IsNone (lookup (is_key key.now) self.old.slots) }
         ensures there { OnOk result (IsSome (lookup (is_key key.now) self.new.slots)) }
         ensures ok { OnOk result (slot_at self.new.slots key.now ≡ nothing) }
@@ -158,52 +176,50 @@ impl Pool {
         ensures all { KeepsAll self.old self.new }
         ensures counts { KeepsCounts self.old self.new }
     {
-        let key = key.clone()?;
         let parts = ObjectParts::new(alloc)?;
         let run = self.region.take(0).unwrap();
-        self.objects.insert(
-            key,
-            Stored {
-                run,
-                size: 0,
-                parts,
-            },
-        )?;
-        Ok(())
+        let object = Stored {
+            run,
+            size: 0,
+            parts,
+        };
+        let number = self.objects.insert(key, object)?;
+        Ok(number)
     }
 
     // The attributes and the rows at a key, to change them.
-    pub(crate) fn parts_mut(&mut self, key: &Key) -> &mut ObjectParts
+    pub(crate) fn parts_mut(&mut self, number: usize, key: &Key) -> &mut ObjectParts
         requires { IsSome (lookup (is_key key.now) self.old.slots) }
         ensures* lends { sem 𝓛 (LendsParts self.entry key.now result) }
         ensures attrs { result.now.attrs ≡ (slot_at self.old.slots key.now).attrs }
         ensures rows { result.now.rows ≡ (slot_at self.old.slots key.now).rows }
     {
-        let object = self.objects.get_mut(key).unwrap();
+        let object = self.objects.get_mut(number, key);
         &mut object.parts
     }
 
     // The attributes and the rows at a key.
-    pub(crate) fn parts(&self, key: &Key) -> &ObjectParts
+    pub(crate) fn parts(&self, number: usize, key: &Key) -> &ObjectParts
         requires { IsSome (lookup (is_key key.now) self.now.slots) }
         ensures attrs { result.now.attrs ≡ (slot_at self.now.slots key.now).attrs }
         ensures rows { result.now.rows ≡ (slot_at self.now.slots key.now).rows }
     {
-        &stored_at(&self.objects, key).parts
+        &stored_at(&self.objects, number, key).parts
     }
 
     // How many bytes are at a key.
-    pub(crate) fn size(&self, key: &Key) -> u64
+    pub(crate) fn size(&self, number: usize, key: &Key) -> u64
         requires { IsSome (lookup (is_key key.now) self.now.slots) }
         ensures { result ≡ length (slot_at self.now.slots key.now).bytes }
     {
-        stored_at(&self.objects, key).size
+        stored_at(&self.objects, number, key).size
     }
 
     // What there is of a range of the bytes at a key.
     pub(crate) fn bytes(
         &self,
         alloc: Global,
+        number: usize,
         key: &Key,
         start: u64,
         count: u64,
@@ -211,7 +227,7 @@ impl Pool {
         requires { IsSome (lookup (is_key key.now) self.now.slots) }
         ensures { IfOk result (λ bytes. bytes ≡ take count (drop start (slot_at self.now.slots key.now).bytes)) }
     {
-        let object = stored_at(&self.objects, key);
+        let object = stored_at(&self.objects, number, key);
         let first = start.min(object.size);
         let length = count.min(object.size - first);
         let mut bytes = vec![in alloc; 0u8; length as usize]?;
@@ -220,7 +236,12 @@ impl Pool {
     }
 
     // Puts bytes in the place of those at a key.
-    pub(crate) fn put_bytes(&mut self, key: &Key, bytes: &[u8]) -> Result<(), NoSpace>
+    pub(crate) fn put_bytes(
+        &mut self,
+        number: usize,
+        key: &Key,
+        bytes: &[u8],
+    ) -> Result<(), NoSpace>
         requires { IsSome (lookup (is_key key.now) self.old.slots) }
         ensures refused { IsErr result ↔ (self.old.free < div_ceil (length bytes.now) self.old.frame) }
         ensures told { IfErr result (λ e. e ≡ record { free = self.old.free; needed = min (div_ceil (length bytes.now) self.old.frame) (2 ^ 32 - 1) }) }
@@ -241,7 +262,7 @@ impl Pool {
             }
         };
         self.region.write(&run, 0, bytes);
-        let object = self.objects.get_mut(key).unwrap();
+        let object = self.objects.get_mut(number, key);
         object.size = bytes.len() as u64;
         let old = replace(&mut object.run, run);
         self.region.give(old);
@@ -249,14 +270,14 @@ impl Pool {
     }
 
     // Drops the bytes, the attributes and the rows at a key. Spare rows stay.
-    pub(crate) fn drop_object(&mut self, key: &Key)
+    pub(crate) fn drop_object(&mut self, number: usize, key: &Key)
         requires { IsSome (lookup (is_key key.now) self.old.slots) }
         ensures after { self.new ≡ with_object self.old key.now (dropped (slot_at self.old.slots key.now))
             (self.old.free + frames_of self.old.frame (slot_at self.old.slots key.now)) }
         ensures there { IsSome (lookup (is_key key.now) self.new.slots) }
         ensures sum { HasFrameSum self.new }
     {
-        let _ = self.put_bytes(key, &[]);
-        self.parts_mut(key).clear();
+        let _ = self.put_bytes(number, key, &[]);
+        self.parts_mut(number, key).clear();
     }
 }

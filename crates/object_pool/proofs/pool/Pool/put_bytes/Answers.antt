@@ -1,6 +1,5 @@
 use Rattle.std.proofs.Common.{◌≡◌, ◌≤◌, ap, ap₂, sym, subst, length, take, Some, is_some, ◌∙◌, arith}
 use Rattle.std.specs.Int.{div_ceil}
-use Rattle.std.specs.Option.{IsSome, option_copied_mut}
 use Rattle.std.specs.Map.{lookup, set_value}
 use Rattle.frame_region.specs.Region.{Run, RegionView, bytes_of, Owns, Apart, Keeps}
 use Rattle.object_pool.specs.declared.object.Stored.{Stored}
@@ -8,7 +7,6 @@ use Rattle.object_pool.specs.Objects.{is_key, HasFrameSum, frames_of, slot_at}
 use Rattle.object_pool.specs.Stored.{IsSound, IsHeld, slots_in, object_in}
 use Rattle.object_pool.proofs.Counts.{count_fits, first_of_overwritten}
 use Rattle.object_pool.proofs.FrameSums.{view_of, frame_sum, frames_are, same_pool}
-use Rattle.object_pool.proofs.Lent.{some_mut}
 use Rattle.object_pool.proofs.Replacements.{Replaces, replaced_sound, replaced_view}
 use Rattle.object_pool.proofs.Touches.{still_there}
 use Rattle.object_pool.proofs.SlotLemmas.{entry_there, slot_there, held_of}
@@ -17,40 +15,37 @@ use Rattle.object_pool.proofs.pool.Pool.put_bytes.Goals as goal
 pub returns-in-Err-clause-sum : goal.returns-in-Err-clause-sum
 returns-in-Err-clause-sum c =
     let same : c.take.new.self ≡ c.self.inside.region = c.in-Err.ensures.err in
-    let P : RegionView → Type 0 = λ r. HasFrameSum (view_of r c.self.inside.objects.entries) in
+    let P : RegionView → Type 0 = λ r. HasFrameSum (view_of r c.self.inside.objects) in
     subst P (sym same) (frame_sum _ c.self.inside.frame _ c.self.invariant)
 
-pub unwrap-object-requires : goal.unwrap-object-requires
-unwrap-object-requires c =
-    let there = entry_there c.self.inside.region c.self.inside.objects.entries _ (is_key c.args.key.now) (ap (λ p. p.slots) c.self.view_is) c.requires in
-    let P : _ → Type 0 = λ z. IsSome z in
-    some_mut c.get_mut.result (subst P (sym c.get_mut.ensures.value) there)
+pub get_mut-object-requires : goal.get_mut-object-requires
+get_mut-object-requires c = entry_there c.self.inside.region c.self.inside.objects _ (is_key c.args.key.now) (ap (λ p. p.slots) c.self.view_is) c.requires
 
 -- the old run is still owned once the new one is taken and written
 pub give-requires : goal.give-requires
 give-requires c =
-    let o = c.unwrap-object.result.now in
-    let found : lookup (is_key c.args.key.now) c.self.inside.objects.entries ≡ Some o = sym c.get_mut.ensures.value ∙ ap option_copied_mut c.unwrap-object.ensures in
+    let o = c.get_mut-object.result.now in
+    let found : lookup (is_key c.args.key.now) c.self.inside.objects ≡ Some o = c.get_mut-object.ensures.value in
     let held = held_of c.self.inside.region _ _ (is_key c.args.key.now) o c.self.invariant found in
     let taken = c.in-Ok.ensures.others o.run held.owned in
     subst (λ r. Owns c.write.new.self r) (sym c.replace-old.ensures.value) (c.write.ensures.others o.run taken.2.owned taken.0).owned
 
-found : (c : goal.After-give) → lookup (is_key c.args.key.now) c.self.inside.objects.entries ≡ Some c.unwrap-object.result.now
-found c = sym c.get_mut.ensures.value ∙ ap option_copied_mut c.unwrap-object.ensures
+found : (c : goal.After-give) → lookup (is_key c.args.key.now) c.self.inside.objects ≡ Some c.get_mut-object.result.now
+found c = c.get_mut-object.ensures.value
 
-held : (c : goal.After-give) → IsHeld c.self.inside.region c.unwrap-object.result.now
+held : (c : goal.After-give) → IsHeld c.self.inside.region c.get_mut-object.result.now
 held c = held_of c.self.inside.region _ _ (is_key c.args.key.now) _ c.self.invariant (found c)
 
 -- giving the old run back keeps what is apart from it
-give_keeps : (c : goal.After-give) → (other : Run) → Owns c.write.new.self other → Apart c.unwrap-object.result.now.run other → Keeps c.write.new.self c.give.new.self other
+give_keeps : (c : goal.After-give) → (other : Run) → Owns c.write.new.self other → Apart c.get_mut-object.result.now.run other → Keeps c.write.new.self c.give.new.self other
 give_keeps c other owned apart = c.give.ensures.others other owned (subst (λ r. Apart r other) (sym c.replace-old.ensures.value) apart)
 
 new_kept : (c : goal.After-give) → Keeps c.write.new.self c.give.new.self c.in-Ok.run'
-new_kept c = give_keeps c c.in-Ok.run' c.write.ensures.owned (c.in-Ok.ensures.others c.unwrap-object.result.now.run (held c).owned).1
+new_kept c = give_keeps c c.in-Ok.run' c.write.ensures.owned (c.in-Ok.ensures.others c.get_mut-object.result.now.run (held c).owned).1
 
-replaces : (c : goal.After-give) → Replaces c.self.inside.region c.give.new.self c.unwrap-object.result.now.run c.in-Ok.run'
+replaces : (c : goal.After-give) → Replaces c.self.inside.region c.give.new.self c.get_mut-object.result.now.run c.in-Ok.run'
 replaces c =
-    let o = c.unwrap-object.result.now in
+    let o = c.get_mut-object.result.now in
     let old = ap (λ r. r.count) c.replace-old.ensures.value in
     record {
       frame = c.give.ensures.frame ∙ (c.write.ensures.frame ∙ c.in-Ok.ensures.frame);
@@ -72,17 +67,18 @@ count c =
     c.in-Ok.ensures.count ∙ (count_fits c.try_from.result _ _ c.try_from.ensures c.unwrap_or-needed.ensures small ∙ c.div_ceil-frames.ensures)
 
 new_object : (c : goal.After-give) → Stored
-new_object c = record { run = c.in-Ok.run'; size = length c.args.bytes.now; parts = c.unwrap-object.result.now.parts }
+new_object c = record { run = c.in-Ok.run'; size = length c.args.bytes.now; parts = c.get_mut-object.result.now.parts }
 
-written : (c : goal.After-give) → (c.get_mut.follows.lender (record { run = c.replace-old.new.dest; size = length c.args.bytes.now; parts = c.unwrap-object.result.now.parts })).entries ≡ set_value (is_key c.args.key.now) c.self.inside.objects.entries (new_object c)
-unfolding new_object
-written c =
-    let with_run : Run → Stored = λ r. record { run = r; size = length c.args.bytes.now; parts = c.unwrap-object.result.now.parts } in
-    (c.get_mut.follows.holds (with_run c.replace-old.new.dest)).0 ∙ ap (λ r. set_value (is_key c.args.key.now) c.self.inside.objects.entries (with_run r)) c.replace-old.ensures.after
+abbrev with_run : (c : goal.After-give) → Run → Stored
+with_run c r = record { run = r; size = length c.args.bytes.now; parts = c.get_mut-object.result.now.parts }
 
-sound_now : (c : goal.After-give) → IsSound c.give.new.self c.self.inside.frame (set_value (is_key c.args.key.now) c.self.inside.objects.entries (new_object c))
+written : (c : goal.After-give) → set_value (is_key c.args.key.now) c.self.inside.objects (with_run c c.replace-old.new.dest) ≡ set_value (is_key c.args.key.now) c.self.inside.objects (new_object c)
 unfolding new_object
-sound_now c = replaced_sound c.self.inside.region c.give.new.self _ _ c.self.invariant (is_key c.args.key.now) c.unwrap-object.result.now (found c) c.in-Ok.run' (length c.args.bytes.now) (replaces c) (count c)
+written c = ap (λ r. set_value (is_key c.args.key.now) c.self.inside.objects (with_run c r)) c.replace-old.ensures.after
+
+sound_now : (c : goal.After-give) → IsSound c.give.new.self c.self.inside.frame (set_value (is_key c.args.key.now) c.self.inside.objects (new_object c))
+unfolding new_object
+sound_now c = replaced_sound c.self.inside.region c.give.new.self _ _ c.self.invariant (is_key c.args.key.now) c.get_mut-object.result.now (found c) c.in-Ok.run' (length c.args.bytes.now) (replaces c) (count c)
 
 pub invariant_of-self-2 : goal.invariant_of-self-2
 invariant_of-self-2 c = subst (λ es. IsSound c.give.new.self c.self.inside.frame es) (sym (written c)) (sound_now c)
@@ -101,7 +97,7 @@ returns-clause-ok c =
     let region = c.self.inside.region in
     let old = c.args.self.now in
     let key = c.args.key.now in
-    let o = c.unwrap-object.result.now in
+    let o = c.get_mut-object.result.now in
     let slots = ap (λ p. p.slots) c.self.view_is in
     let kept : slot_at old.slots key ≡ object_in region o = slot_there region _ old.slots key o slots (found c) in
     let frame : region.frame ≡ old.frame = ap (λ p. p.frame) c.self.view_is in
@@ -110,7 +106,7 @@ returns-clause-ok c =
     let given : frames_of old.frame (slot_at old.slots key) ≡ o.run.count = ap₂ frames_of (sym frame) kept ∙ frames_are region o (held c) in
     let object : object_in c.give.new.self (new_object c) ≡ record (slot_at old.slots key) { bytes = c.args.bytes.now } =
     λ i. record { bytes = bytes_now c i; attrs = (sym kept i).attrs; rows = (sym kept i).rows } in
-    let seen : slots_in c.give.new.self (set_value (is_key key) c.self.inside.objects.entries (new_object c)) ≡ set_value (is_key key) old.slots (record (slot_at old.slots key) { bytes = c.args.bytes.now }) =
+    let seen : slots_in c.give.new.self (set_value (is_key key) c.self.inside.objects (new_object c)) ≡ set_value (is_key key) old.slots (record (slot_at old.slots key) { bytes = c.args.bytes.now }) =
     replaced_view region c.give.new.self _ _ c.self.invariant (is_key key) o (found c) c.in-Ok.run' (length c.args.bytes.now) (replaces c) (count c) ∙ ap₂ (set_value (is_key key)) slots object in
     same_pool _ _
     ((replaces c).frame ∙ frame)
