@@ -14,8 +14,11 @@ import tempfile
 
 ROOT = os.path.dirname(os.path.dirname(os.path.abspath(__file__)))
 PROGRAM = os.environ.get("RGW", os.path.join(ROOT, "crates", "rgw_main", "out", "rgw_main"))
-TIMES = 20
+# So many entries are checked, and rows listed, that the time of storing the names hardly counts.
+ENTRIES = 4_000_000
 ROUNDS = 3
+# What one listing has at most.
+MOST_ROWS = 10_000
 
 
 def seconds(text, frames):
@@ -33,14 +36,19 @@ def seconds(text, frames):
     return min(times)
 
 
+def rate(stored, line, names, each, alone):
+    """How many entries a second the line passes, of which one has so many."""
+    times = max(1, ENTRIES // each)
+    return times * each / (seconds(stored + line * times, names + 64) - alone)
+
+
 def main():
     for names in [int(word) for word in sys.argv[1:]] or [10_000, 100_000]:
         stored = "".join(f"do 1 put box/object-{name:07} hello\n" for name in range(names))
         alone = seconds(stored, names + 64)
-        checks = seconds(stored + "do 1 check box\n" * TIMES, names + 64) - alone
-        lists = seconds(stored + "do 1 list box\n" * TIMES, names + 64) - alone
-        rows = min(names, 10_000)
-        print(f"{names} names: {TIMES * names / checks:.0f} entries checked and {TIMES * rows / lists:.0f} rows listed a second")
+        checks = rate(stored, "do 1 check box\n", names, names, alone)
+        lists = rate(stored, "do 1 list box\n", names, min(names, MOST_ROWS), alone)
+        print(f"{names} names: {checks:.0f} entries checked and {lists:.0f} rows listed a second")
 
 
 if __name__ == "__main__":
