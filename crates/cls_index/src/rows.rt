@@ -13,9 +13,7 @@ ghost use Rattle.class_words.specs.Shards.{HasEntry};
 ghost use Rattle.class_words.specs.Works.{WorksOnRows};
 ghost use Rattle.cls_index.specs.Rows.{KeepsToName, kept_or_none};
 
-use index_entry::{
-    EntryFront, FRONT_MOST, TAG_LEN, front, write_front, write_tag, write_tagged,
-};
+use index_entry::{EntryFront, FRONT_MOST, TAG_LEN, front, write_front, write_tag, write_tagged};
 use object_pool::{Bytes, OutOfMemory, Place};
 use object_words::{EntryRow, Tag};
 use std::alloc::Global;

@@ -1,7 +1,7 @@
 use super::{
-    EntryFront, FRONT_MOST, LOG_ROW_MOST, ShardHeader, TAG_LEN, decode_entry, decode_header, decode_what,
-    encode_entry, encode_header, front, log_key, position_of, write_bucket_row, write_front,
-    write_name_row, write_shard_row, write_tag, write_tagged, write_what,
+    EntryFront, FRONT_MOST, LOG_ROW_MOST, ShardHeader, TAG_LEN, decode_entry, decode_header,
+    decode_what, encode_entry, encode_header, front, log_key, position_of, write_bucket_row,
+    write_front, write_name_row, write_shard_row, write_tag, write_tagged, write_what,
 };
 use object_words::{BucketName, Fate, Hold, ObjectName, Tag};
 use rgw_types::Text;
