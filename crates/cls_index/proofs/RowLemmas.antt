@@ -1,22 +1,24 @@
 -- The row of one name at one change.
-use Rattle.std.proofs.Common.{◌≡◌, ℕ, ◌+◌, ◌*◌, ◌<◌, ◌^◌, List, [], ◌∷◌, ◌++◌, length, Option, Some, None, option_map, IsSome, IfSome, unwrap_or, refl, sym, ap, ◌∙◌, subst, arith, length-append}
+use Rattle.std.proofs.Common.{◌≡◌, ℕ, ◌+◌, ◌*◌, ◌<◌, ◌≤◌, ◌^◌, List, [], ◌∷◌, ◌++◌, length, take, replicate, Option, Some, None, option_map, IsSome, IfSome, unwrap_or, refl, sym, ap, ◌∙◌, subst, arith, length-append}
 use Rattle.std.specs.List.{AllByRecursion, remove, splice}
+use Rattle.std.proofs.lemmas.List.{take_at}
 use Rattle.std.proofs.lemmas.List.Edits.{length-remove}
 use Rattle.omap_pages.specs.Contents.{Contents, KeepsRooms}
 use Rattle.omap_pages.specs.Rows.{value_at}
 use Rattle.object_pool.specs.declared.place.Place.{Place}
 use Rattle.object_words.specs.declared.entry.Tag.{Tag}
-use Rattle.object_words.specs.Rows.{RowView, no_row}
+use Rattle.object_words.specs.Rows.{RowView}
+use Rattle.object_words.specs.Numbers.{next}
 use Rattle.object_words.specs.Entries.{EntryView, entry_of, no_entry, with_tags}
 use Rattle.object_words.specs.Tags.{with_tag}
 use Rattle.index_entry.specs.declared.entry.EntryFront.{EntryFront}
 use Rattle.index_entry.specs.Numbers.{number_bytes}
 use Rattle.index_entry.specs.Layouts.{IsEntry, IsTag, IsWritten, entry_bytes, front_bytes, front_of, row_bytes, tag_bytes}
-use Rattle.index_entry.proofs.EntryLemmas.{no_row_written}
+use Rattle.index_entry.proofs.EntryLemmas.{length-entry_bytes, no_row_written}
 use Rattle.class_words.specs.Shards.{HasEntry}
 use Rattle.class_words.proofs.WorksLemmas.{works_on_rows_then}
 use Rattle.cls_index.specs.Rows.{KeepsToName}
-use Rattle.cls_index.proofs.RawLemmas.{raw, raw_count, raw_first, raw_front, raw_less, raw_more, raw_revision}
+use Rattle.cls_index.proofs.RawLemmas.{raw, raw_count, raw_front, raw_less, raw_more, raw_revision}
 use Rattle.cls_index.proofs.TagLemmas.{all_with, all_without, rise_less, rise_more}
 
 pub some_same : {X : Type 0} (x y : X) → Some x ≡ Some y → x ≡ y
@@ -117,23 +119,50 @@ pub front_found : (found : Option EntryView) (f : EntryFront) → Some f ≡ opt
 front_found None f e = absurd cc
 front_found (Some e) f read = (refl, some_same f (front_of e) read)
 
--- the front of the first entry of a name, and then its tag
-pub first_front : (b c : Contents) (name : List ℕ) (value front : List ℕ) (blank : RowView) → blank ≡ no_row → length value ≡ 334 → value_at b.rows name ≡ Some value
-    → front ≡ front_bytes 0 1 blank 1 → Splices b c name 0 334 front → value_at c.rows name ≡ Some (raw 0 1 no_row 1 [])
-first_front b c name value front blank absent long here is first =
-    first value here ∙ ap Some (raw_first value front 334 (sym long)) ∙ ap (λ z. Some (z ++ [])) (is ∙ ap (λ r. front_bytes 0 1 r 1) absent)
+no_tags : (ts : List Tag) → length ts ≡ 0 → ts ≡ []
+no_tags [] none = refl
+no_tags (t ∷ ts) none = absurd (omega (arith, none))
 
-pub first_row : (c d : Contents) (name : List ℕ) (t : Tag) (bytes : List ℕ) (start end : ℕ) → value_at c.rows name ≡ Some (raw 0 1 no_row 1 []) → bytes ≡ tag_bytes t → start ≡ 27 → end ≡ start
-    → Splices c d name start end bytes → value_at d.rows name ≡ Some (entry_bytes (with_tags no_entry (with_tag t [])))
-first_row c d name t bytes start end here tag at ends second =
-    second (raw 0 1 no_row 1 []) here ∙ ap (λ z. Some (splice (raw 0 1 no_row 1 []) start end z)) tag ∙ ap Some (raw_more 0 1 no_row 1 [] t start end at ends)
+-- the row of an entry without tags, and its front
+pub record IsBare (row : List ℕ) (front : EntryFront) (found : Option EntryView) : Type 0 where
+  pub fits : IsEntry (entry_of found)
+  pub written : row ≡ entry_bytes (entry_of found)
+  pub none : (entry_of found).tags ≡ []
+  pub long : front.tags_start ≡ length row
+  pub revision : next front.revision ≡ next (entry_of found).revision
 
-pub first_fits : (t : Tag) → IsTag t → IsEntry (with_tags no_entry (with_tag t []))
-first_fits t fits = record {
-  version_fits = omega arith;
-  revision_fits = omega arith;
-  row_fits = no_row_written;
-  count_fits = omega arith;
-  tags_fit = (fits, tt);
-  rise = refl;
-}
+pub bare : (c : Contents) (name row : List ℕ) (front : EntryFront) (found : Option EntryView) → HasEntry c name found → Some row ≡ value_at c.rows name
+    → ((e : EntryView) → IsEntry e → row ≡ entry_bytes e → Some front ≡ Some (front_of e)) → front.tags ≤ 0 → IsBare row front found
+bare c name row front None has is read none = absurd (let bad : Some row ≡ None = is ∙ has.row in cc)
+bare c name row front (Some e) has is read none =
+    let here : row ≡ entry_bytes e = some_same row (entry_bytes e) (is ∙ has.row) in
+    let same = some_same front (front_of e) (read e has.entry here) in
+    let few : length e.tags ≡ 0 = omega (arith, tags_in front e same, none) in
+    record {
+      fits = has.entry;
+      written = here;
+      none = no_tags e.tags few;
+      long = omega (arith, tags_at front e same, few, ap length here, length-entry_bytes e);
+      revision = ap (λ (f : EntryFront). next f.revision) same;
+    }
+
+-- bytes that stand before others
+pub front_taken : (out x rest : List ℕ) (len : ℕ) → out ≡ x ++ rest → len ≡ length x → take len out ≡ x
+front_taken out x rest len is long = ap (take len) is ∙ take_at x rest len (sym long)
+
+pub front_within : (out x rest : List ℕ) (len : ℕ) → out ≡ x ++ rest → len ≡ length x → len ≤ length out
+front_within out x rest len is long = omega (arith, ap length is, length-append x rest, long)
+
+pub blank_fits : IsEntry no_entry
+blank_fits = record { version_fits = omega arith; revision_fits = omega arith; row_fits = no_row_written; count_fits = omega arith; tags_fit = tt; rise = refl }
+
+pub blank_bytes : entry_bytes no_entry ≡ 238 ∷ 1 ∷ 0 ∷ replicate 24 0
+unfolding number_bytes
+blank_bytes = refl
+
+-- the bytes of the first entry of a name
+abbrev pub first_bytes : Tag → List ℕ
+first_bytes t = entry_bytes (with_tags no_entry (with_tag t []))
+
+pub length-first : (t : Tag) → length (first_bytes t) ≡ 43
+length-first t = length-entry_bytes (with_tags no_entry (with_tag t []))

@@ -13,7 +13,7 @@ ghost use Rattle.class_words.specs.Shards.{HasEntry};
 ghost use Rattle.class_words.specs.Works.{WorksOnRows};
 ghost use Rattle.cls_index.specs.Rows.{KeepsToName, kept_or_none};
 
-use index_entry::{EntryFront, FRONT_MOST, TAG_LEN, front, write_front, write_tag};
+use index_entry::{EntryFront, FRONT_MOST, TAG_LEN, front, write_front, write_tag, write_tagged};
 use object_pool::{Bytes, OutOfMemory, Place};
 use object_words::{EntryRow, Tag};
 use std::alloc::Global;
@@ -26,6 +26,11 @@ const FRONT: u64 = FRONT_MOST as u64;
 
 /// The most bytes of an entry with one tag.
 const FIRST_ROOM: usize = FRONT_MOST + TAG_LEN;
+
+/// The entry of a name that has none.
+const BLANK: [u8; 27] = [
+    0xee, 1, 0, 0, 0, 0, 0, 0, 0, 0, 0, 0, 0, 0, 0, 0, 0, 0, 0, 0, 0, 0, 0, 0, 0, 0, 0,
+];
 
 /// What the entry of a name says before its tags, if there is one.
 pub(crate) fn front_at(shard: &Place<'_>, name: &[u8]) -> Option<EntryFront>
@@ -134,6 +139,25 @@ pub(crate) fn put_front(
     splice(shard, name, 0, front.tags_start, &out[..len]);
 }
 
+/// Puts an entry with one tag in the place of all that the row of a name has.
+fn put_tagged(
+    alloc: Global,
+    shard: &mut Place<'_>,
+    name: &[u8],
+    count: u64,
+    bytes: &[u8],
+) -> Result<(), OutOfMemory>
+    requires { (old : List ℕ) × (e : EntryView) × (value_at (rows_of shard.old).rows name.now ≡ Some old) × (count ≡ length old) × IsEntry e × (bytes.now ≡ entry_bytes e) × (length e.tags ≡ 1) }
+    ensures only { KeepsToName shard.old shard.new name.now }
+    ensures ok { (old : List ℕ) (e : EntryView) → value_at (rows_of shard.old).rows name.now ≡ Some old → count ≡ length old → IsEntry e → bytes.now ≡ entry_bytes e → length e.tags ≡ 1
+        → OnOk result (HasEntry (rows_of shard.new) name.now (Some e)) }
+    ensures err { OnErr result (Stays shard.old shard.new) }
+{
+    shard.widen_row(alloc, name, FIRST_ROOM as u64)?;
+    splice(shard, name, 0, count, bytes);
+    Ok(())
+}
+
 /// Puts the first entry of a name, with one tag.
 fn put_first(
     alloc: Global,
@@ -145,15 +169,33 @@ fn put_first(
     ensures ok { OnOk result (HasEntry (rows_of shard.new) name.now (Some (with_tags no_entry (with_tag tag.now [])))) }
     ensures err { OnErr result (Stays shard.old shard.new) }
 {
-    let absent = EntryRow::absent(alloc);
-    let mut out = [0; FRONT_MOST];
-    let len = write_front(0, 1, &absent, 1, &mut out);
+    let mut out = [0; FIRST_ROOM];
+    let len = write_tagged(&BLANK, 1, tag, &mut out);
     let key = Bytes::from_slice(alloc, name)?;
     // A row has room for its first value, which is therefore as long as the entry may become.
     let value = Bytes::from_slice(alloc, &[0; FIRST_ROOM])?;
     shard.put_row(alloc, key, value)?;
     splice(shard, name, 0, FIRST_ROOM as u64, &out[..len]);
-    splice(shard, name, len as u64, 0, &write_tag(tag));
+    Ok(())
+}
+
+/// Adds a tag to the entry of a name that has tags.
+fn add_further(
+    alloc: Global,
+    shard: &mut Place<'_>,
+    name: &[u8],
+    front: &EntryFront,
+    tag: &Tag,
+) -> Result<(), OutOfMemory>
+    requires there { (e : EntryView) × HasEntry (rows_of shard.old) name.now (Some e) × (front.now ≡ front_of e) × AllByRecursion (λ t. t.tag < tag.now.tag) e.tags }
+    requires few { front.now.tags_start + 16 * front.now.tags < 2 ^ 63 }
+    ensures only { KeepsToName shard.old shard.new name.now }
+    ensures ok { (e : EntryView) → HasEntry (rows_of shard.old) name.now (Some e) → front.now ≡ front_of e → AllByRecursion (λ t. t.tag < tag.now.tag) e.tags
+        → OnOk result (HasEntry (rows_of shard.new) name.now (Some (with_tags e (with_tag tag.now e.tags)))) }
+    ensures err { OnErr result (Stays shard.old shard.new) }
+{
+    push_tag(alloc, shard, name, front, tag)?;
+    put_revision(shard, name, front.revision.saturating_add(1));
     Ok(())
 }
 
@@ -170,14 +212,17 @@ pub(crate) fn add_tag(
         → OnOk result (HasEntry (rows_of shard.new) name.now (Some (with_tags (entry_of found) (with_tag tag.now (entry_of found).tags)))) }
     ensures err { OnErr result (Stays shard.old shard.new) }
 {
-    match front_at(shard, name) {
-        Some(front) => {
-            push_tag(alloc, shard, name, &front, tag)?;
-            put_revision(shard, name, front.revision.saturating_add(1));
-            Ok(())
-        }
-        None => put_first(alloc, shard, name, tag),
+    let Some(bytes) = shard.row(name) else {
+        return put_first(alloc, shard, name, tag);
+    };
+    let front = front_in(bytes).unwrap();
+    if front.tags > 0 {
+        return add_further(alloc, shard, name, &front, tag);
     }
+    let mut out = [0; FIRST_ROOM];
+    let revision = front.revision.saturating_add(1);
+    let len = write_tagged(bytes, revision, tag, &mut out);
+    put_tagged(alloc, shard, name, front.tags_start, &out[..len])
 }
 
 /// Takes the entry of a name away where nothing is left of it.

@@ -1,14 +1,15 @@
 -- Entries in bytes.
-use Rattle.std.proofs.Common.{◌≡◌, ℕ, zero, suc, ◌+◌, ◌<◌, ◌≤◌, ◌*◌, ◌==◌, Bool, true, false, true≢false, List, replicate, Option, Some, None, is_some, unwrap_or, [], ◌∷◌, ◌++◌, length, take, drop, get_or, refl, sym, ap, ap₂, ◌∙◌, arith, append_assoc, length-append}
+use Rattle.std.proofs.Common.{◌≡◌, ℕ, zero, suc, ◌+◌, ◌^◌, ◌<◌, ◌≤◌, ◌*◌, ◌==◌, Bool, true, false, true≢false, List, replicate, Option, Some, None, is_some, unwrap_or, [], ◌∷◌, ◌++◌, length, take, drop, get_or, refl, sym, ap, ap₂, ◌∙◌, arith, append_assoc, append-nil, length-append}
 use mir.Val.{bool_byte}
 use Rattle.std.specs.Str.{IsUtf8}
 use Rattle.std.specs.List.{AllByRecursion}
-use Rattle.std.proofs.lemmas.List.{drop_more, length-drop, length-take, get_or-drop}
+use Rattle.std.proofs.lemmas.List.{drop_more, length-drop, length-take, get_or-drop, take_at}
+use Rattle.object_words.specs.declared.entry.Tag.{Tag}
 use Rattle.object_words.specs.Rows.{RowView, no_row}
 use Rattle.index_entry.specs.Numbers.{number_bytes, short_bytes}
 use Rattle.object_words.specs.Entries.{EntryView}
 use Rattle.index_entry.specs.declared.entry.EntryFront.{EntryFront}
-use Rattle.index_entry.specs.Layouts.{IsEntry, IsWritten, entry_bytes, front_bytes, live_bytes, row_bytes, tags_bytes, flag}
+use Rattle.index_entry.specs.Layouts.{IsEntry, IsTag, IsWritten, entry_bytes, front_bytes, live_bytes, row_bytes, tags_bytes, flag}
 use Rattle.index_entry.proofs.TagLemmas.{length-tags_bytes}
 use Rattle.std.specs.Int.{w16, from_be_bytes}
 use Rattle.index_entry.proofs.PieceLemmas.{short_once, AreBytes, a_number, all_fit, begins, behind, taken, part_fits, length-number_bytes, length-short_bytes}
@@ -247,6 +248,30 @@ end_known bs found end was exact e is here =
     let rest = number_bytes (length e.tags) ++ tags_bytes e.tags in
     same_some _ _ (sym was ∙ exact e.version e.revision e.row rest is.row_fits
     (omega (arith, length-append (number_bytes (length e.tags)) (tags_bytes e.tags), length-number_bytes (length e.tags))) (here ∙ entry_split e))
+
+-- where the parts of an entry without tags are, which a tag and another revision leave as they are
+pub record IsUntagged (bs : List ℕ) (e : EntryView) : Type 0 where
+  pub long : length bs ≡ 27 + length (row_bytes e.row)
+  pub first : take 11 bs ≡ 238 ∷ 1 ∷ flag e.row.exists ∷ number_bytes e.version
+  pub row : take (length (row_bytes e.row)) (drop 19 bs) ≡ row_bytes e.row
+
+pub untagged : (bs : List ℕ) (e : EntryView) → bs ≡ entry_bytes e → e.tags ≡ [] → IsUntagged bs e
+untagged bs e here none =
+    let end = 19 + length (row_bytes e.row) in
+    let r = entry_read bs e end refl here in
+    let begin = 238 ∷ 1 ∷ flag e.row.exists ∷ number_bytes e.version in
+    let eleven : length begin ≡ 11 = omega (arith, length-number_bytes e.version) in
+    record {
+      long = omega (arith, length-entry bs e here, ap length none);
+      first = ap (take 11) (r.start ∙ ap (λ z. 238 ∷ 1 ∷ flag e.row.exists ∷ z) r.at_3) ∙ take_at begin (drop 11 bs) 11 eleven;
+      row = taken bs 19 (length (row_bytes e.row)) _ _ r.at_19 refl;
+    }
+
+pub tagged_flat : (a b r n t : List ℕ) (x y z : ℕ) → (((((x ∷ y ∷ z ∷ a) ++ b) ++ r) ++ n) ++ t) ≡ (x ∷ y ∷ z ∷ (a ++ (b ++ (r ++ n)))) ++ (t ++ [])
+tagged_flat a b r n t x y z = simp (append_assoc, append-nil) refl
+
+pub one_tag_entry : (e : EntryView) (revision : ℕ) (t : Tag) → IsEntry e → revision < 2 ^ 64 → IsTag t → IsEntry (record e { revision = revision; tags = t ∷ [] })
+one_tag_entry e revision t is fits tag = record { version_fits = is.version_fits; revision_fits = fits; row_fits = is.row_fits; count_fits = omega arith; tags_fit = (tag, tt); rise = refl }
 
 pub live_flat : (a b d e f : List ℕ) (z : ℕ) → (((((a ++ b) ++ (z ∷ [])) ++ d) ++ e) ++ f) ≡ a ++ (b ++ (z ∷ (d ++ (e ++ f))))
 live_flat a b d e f z = simp append_assoc refl

@@ -1,4 +1,4 @@
-ghost use Rattle.std.specs.Prelude.{◌≡◌, ◌≢◌, ◌+◌, ◌*◌, ◌≤◌, ◌<◌, ◌++◌, ◌∷◌, ℕ, List, Some, true, IsTrue, IfSome, IfNone, length, drop, slice_index_or};
+ghost use Rattle.std.specs.Prelude.{◌≡◌, ◌≢◌, ◌+◌, ◌*◌, ◌≤◌, ◌<◌, ◌++◌, ◌∷◌, [], ℕ, List, Some, true, IsTrue, IfSome, IfNone, length, drop, slice_index_or};
 ghost use Rattle.std.specs.List.{AllByRecursion};
 ghost use Rattle.object_words.specs.declared.entry.Tag.{Tag as TagOf};
 ghost use Rattle.object_words.specs.Rows.{RowView};
@@ -222,6 +222,23 @@ pub fn write_front(
     let at = put(out, at, &revision.to_be_bytes());
     let at = put_row(out, at, row);
     put(out, at, &tags.to_be_bytes())
+}
+
+/// Writes an entry that has no tags with this revision and one tag, and gives how many bytes that are.
+/// Takes no memory.
+pub fn write_tagged(bytes: &[u8], revision: u64, tag: &Tag, out: &mut [u8; 334]) -> usize
+    requires { (e : EntryView) × IsEntry e × (bytes.now ≡ entry_bytes e) × (e.tags ≡ []) }
+    ensures len { (e : EntryView) → IsEntry e → bytes.now ≡ entry_bytes e → e.tags ≡ [] → result ≡ length (entry_bytes (record e { revision = revision; tags = tag.now ∷ [] })) }
+    ensures written { (e : EntryView) → IsEntry e → bytes.now ≡ entry_bytes e → e.tags ≡ []
+        → out.new ≡ entry_bytes (record e { revision = revision; tags = tag.now ∷ [] }) ++ drop result out.old }
+    ensures fits { (e : EntryView) → IsEntry e → e.tags ≡ [] → IsEntry (record e { revision = revision; tags = tag.now ∷ [] }) }
+{
+    let count_start = bytes.len() - 8;
+    let at = put(out, 0, &bytes[..11]);
+    let at = put(out, at, &revision.to_be_bytes());
+    let at = put(out, at, &bytes[19..count_start]);
+    let at = put(out, at, &1u64.to_be_bytes());
+    put(out, at, &write_tag(tag))
 }
 
 /// Writes a row at a place, and gives the place behind it.

@@ -9,7 +9,9 @@ mod log_row;
 mod numbers;
 
 pub use codec::{decode_entry, encode_entry, read_entry};
-pub use entry::{EntryFront, FRONT_MOST, TAG_LEN, front, tag_at, write_front, write_tag};
+pub use entry::{
+    EntryFront, FRONT_MOST, TAG_LEN, front, tag_at, write_front, write_tag, write_tagged,
+};
 pub use header::{HEADER_LEN, ShardHeader, decode_header, encode_header};
 pub use laws::{
     a_header_has_one_spelling, a_log_row_has_one_spelling, an_entry_has_one_spelling,

@@ -1,26 +1,38 @@
-use Rattle.std.proofs.Common.{◌≡◌, ◌∙◌, ap, subst, Some}
+use Rattle.std.proofs.Common.{◌≡◌, ◌∷◌, [], ◌++◌, Some, OnOk, refl, sym, ap, ◌∙◌, subst}
 use Rattle.object_pool.specs.Places.{rows_of}
 use Rattle.object_words.specs.Numbers.{next}
-use Rattle.object_words.specs.Tags.{with_tag}
-use Rattle.object_words.specs.Entries.{entry_of}
-use Rattle.index_entry.specs.declared.entry.EntryFront.{EntryFront}
+use Rattle.object_words.specs.Entries.{EntryView, entry_of}
+use Rattle.index_entry.specs.Layouts.{entry_bytes}
 use Rattle.class_words.specs.Shards.{HasEntry}
-use Rattle.cls_index.proofs.RowLemmas.{front_found}
+use Rattle.cls_index.proofs.RowLemmas.{bare, front_taken}
 use Rattle.cls_index.proofs.rows.add_tag.Goals as goal
 
-pub put_revision-requires : goal.put_revision-requires
-put_revision-requires c =
+pub put_tagged-requires : goal.put_tagged-requires
+put_tagged-requires c =
     let found = c.requires.0 in
-    let is = front_found found c.in-Some.front (c.in-Some.ensures.front found c.requires.1) in
-    let has = subst (HasEntry (rows_of c.args.shard.now) c.args.name.now) is.0 c.requires.1 in
-    (_, c.in_ok-push_tag-in-Some.ensures.ok (entry_of found) has is.1 c.requires.2)
+    let b = bare (rows_of c.args.shard.now) c.args.name.now _ c.unwrap-front.result found c.requires.1 c.in-Some.ensures.value
+    (λ e fits here. sym c.unwrap-front.ensures ∙ c.front_in.ensures.exact e fits here) c.if-front-gt0.false in
+    let w = c.write_tagged-len.ensures in
+    let e = entry_of found in (
+      _,
+      record e { revision = c.saturating_add-revision.result; tags = c.args.tag.now ∷ [] },
+      sym c.in-Some.ensures.value,
+      b.long,
+      w.fits e b.fits b.none,
+      front_taken _ (entry_bytes (record e { revision = c.saturating_add-revision.result; tags = c.args.tag.now ∷ [] })) _ _ (w.written e b.fits b.written b.none) (w.len e b.fits b.written b.none),
+      refl,
+    )
 
-pub returns-in_ok-push_tag-in-Some-clause-ok : goal.returns-in_ok-push_tag-in-Some-clause-ok
-returns-in_ok-push_tag-in-Some-clause-ok c found has below =
-    let is = front_found found c.in-Some.front (c.in-Some.ensures.front found has) in
+pub returns-clause-ok : goal.returns-clause-ok
+returns-clause-ok c found has below =
+    let b = bare (rows_of c.args.shard.now) c.args.name.now _ c.unwrap-front.result found has c.in-Some.ensures.value
+    (λ e fits here. sym c.unwrap-front.ensures ∙ c.front_in.ensures.exact e fits here) c.if-front-gt0.false in
+    let w = c.write_tagged-len.ensures in
     let e = entry_of found in
-    let there = subst (HasEntry (rows_of c.args.shard.now) c.args.name.now) is.0 has in
-    let pushed = c.in_ok-push_tag-in-Some.ensures.ok e there is.1 below in
-    let revised = c.put_revision.ensures.entry (record e { tags = with_tag c.args.tag.now e.tags }) pushed in
-    let revision : c.saturating_add.result ≡ next e.revision = c.saturating_add.ensures ∙ ap (λ (f : EntryFront). next f.revision) is.1 in
-    subst (λ n. HasEntry (rows_of c.put_revision.new.shard) c.args.name.now (Some (record e { revision = n; tags = with_tag c.args.tag.now e.tags }))) revision revised
+    let t = c.args.tag.now in
+    let put = c.put_tagged.ensures.ok _ (record e { revision = c.saturating_add-revision.result; tags = t ∷ [] }) (sym c.in-Some.ensures.value) b.long (w.fits e b.fits b.none)
+    (front_taken _ (entry_bytes (record e { revision = c.saturating_add-revision.result; tags = t ∷ [] })) _ _ (w.written e b.fits b.written b.none) (w.len e b.fits b.written b.none)) refl in
+    let revision : c.saturating_add-revision.result ≡ next e.revision = c.saturating_add-revision.ensures ∙ b.revision in
+    let tags : t ∷ [] ≡ e.tags ++ t ∷ [] = ap (λ ts. ts ++ t ∷ []) (sym b.none) in
+    let same : record e { revision = c.saturating_add-revision.result; tags = t ∷ [] } ≡ record e { revision = next e.revision; tags = e.tags ++ t ∷ [] } = λ i. record e { revision = revision i; tags = tags i } in
+    subst (λ (x : EntryView). OnOk c.put_tagged.result (HasEntry (rows_of c.put_tagged.new.shard) c.args.name.now (Some x))) same put

@@ -1,52 +1,39 @@
-use Rattle.std.proofs.Common.{◌≡◌, ◌≤◌, [], length, Some, sym, ap, ◌∙◌, subst, arith, take}
-use Rattle.std.proofs.lemmas.List.{take_at}
+use Rattle.std.proofs.Common.{◌≡◌, ◌≤◌, length, Some, refl, sym, ap, ◌∙◌, subst, arith, append-nil}
 use Rattle.omap_pages.specs.Contents.{KeepsOtherRooms, room_at}
 use Rattle.omap_pages.specs.Rows.{value_at}
 use Rattle.omap_pages.specs.Rows as rows
 use Rattle.object_pool.specs.Places.{rows_of}
-use Rattle.object_words.specs.Rows.{no_row}
-use Rattle.index_entry.specs.Layouts.{front_bytes, row_bytes}
-use Rattle.index_entry.proofs.TagLemmas.{length-tag_bytes}
-use Rattle.index_entry.proofs.EntryLemmas.{length-front_bytes}
+use Rattle.object_words.specs.Entries.{no_entry}
 use Rattle.class_words.proofs.WorksLemmas.{works_on_rows}
 use Rattle.cls_index.specs.Rows.{KeepsToName}
-use Rattle.cls_index.proofs.RawLemmas.{length-raw, raw}
-use Rattle.cls_index.proofs.RowLemmas.{first_fits, first_front, first_row, keeps_then}
+use Rattle.cls_index.proofs.RawLemmas.{raw_first}
+use Rattle.cls_index.proofs.RowLemmas.{blank_bytes, blank_fits, first_bytes, front_taken, front_within, keeps_then, length-first}
 use Rattle.cls_index.proofs.rows.put_first.Goals as goal
+
+pub write_tagged-len-requires : goal.write_tagged-len-requires
+write_tagged-len-requires c = (no_entry, blank_fits, sym blank_bytes, refl)
+
+pub slice_bounds-out-end : goal.slice_bounds-out-end
+slice_bounds-out-end c =
+    let w = c.write_tagged-len.ensures in
+    front_within _ (first_bytes c.args.tag.now) _ _ (w.written no_entry blank_fits (sym blank_bytes) refl) (w.len no_entry blank_fits (sym blank_bytes) refl)
+
+pub slice_bounds-splice-end : goal.slice_bounds-splice-end
+slice_bounds-splice-end c =
+    let w = c.write_tagged-len.ensures in
+    let len = w.len no_entry blank_fits (sym blank_bytes) refl in
+    len ∙ sym (ap length (front_taken _ (first_bytes c.args.tag.now) _ _ (w.written no_entry blank_fits (sym blank_bytes) refl) len))
 
 pub splice-requires : goal.splice-requires
 splice-requires c =
     let b = rows_of c.put_row.new.self in
-    let name = c.args.name.now in
     let value = c.in_ok-value.value in
     let long : length value ≡ 334 = ap length c.in_ok-value.ensures in
-    let w = c.write_front-len.ensures in
-    let blank = c.absent-absent.result in
-    let front : take c.write_front-len.result c.write_front-len.new.out ≡ front_bytes 0 1 blank 1 = ap (take c.write_front-len.result) w.written ∙ take_at _ _ _ (sym w.len) in
-    let size : length (row_bytes blank) ≡ 0 = ap (λ r. length (row_bytes r)) c.absent-absent.ensures in
-    let n : c.write_front-len.result ≡ 27 = w.len ∙ omega (arith, length-front_bytes 0 1 blank 1, size) in
     let here = subst (λ k. value_at b.rows k ≡ Some value) c.in_ok-key.ensures c.in_ok-put_row.ensures.at_key in
     let room = subst (λ k. length value ≤ room_at b.rooms k) c.in_ok-key.ensures c.in_ok-put_row.ensures.fits in
-    let m = ap length front ∙ length-front_bytes 0 1 blank 1 in
-    (value, here, omega (arith, long), omega (arith, long, room, m, size))
-
-pub splice-requires-2 : goal.splice-requires-2
-splice-requires-2 c =
-    let b = rows_of c.put_row.new.self in
-    let name = c.args.name.now in
-    let value = c.in_ok-value.value in
-    let long : length value ≡ 334 = ap length c.in_ok-value.ensures in
-    let w = c.write_front-len.ensures in
-    let blank = c.absent-absent.result in
-    let front : take c.write_front-len.result c.write_front-len.new.out ≡ front_bytes 0 1 blank 1 = ap (take c.write_front-len.result) w.written ∙ take_at _ _ _ (sym w.len) in
-    let size : length (row_bytes blank) ≡ 0 = ap (λ r. length (row_bytes r)) c.absent-absent.ensures in
-    let n : c.write_front-len.result ≡ 27 = w.len ∙ omega (arith, length-front_bytes 0 1 blank 1, size) in
-    let here = subst (λ k. value_at b.rows k ≡ Some value) c.in_ok-key.ensures c.in_ok-put_row.ensures.at_key in
-    let room = subst (λ k. length value ≤ room_at b.rooms k) c.in_ok-key.ensures c.in_ok-put_row.ensures.fits in
-    let mid = first_front b (rows_of c.splice.new.shard) name value _ blank c.absent-absent.ensures long here front c.splice.ensures.row in
-    let m = length-raw 0 1 no_row 1 [] in
-    let sixteen : length c.write_tag.result ≡ 16 = ap length c.write_tag.ensures.form ∙ length-tag_bytes c.args.tag.now in
-    (raw 0 1 no_row 1 [], mid, omega (arith, n, m), omega (arith, m, sixteen, long, room, c.splice.ensures.room))
+    let w = c.write_tagged-len.ensures in
+    let bytes = front_taken _ (first_bytes c.args.tag.now) _ _ (w.written no_entry blank_fits (sym blank_bytes) refl) (w.len no_entry blank_fits (sym blank_bytes) refl) in
+    (value, here, omega (arith, long), omega (arith, long, room, ap length bytes, length-first c.args.tag.now))
 
 pub returns-clause-only : goal.returns-clause-only
 returns-clause-only c =
@@ -59,25 +46,19 @@ returns-clause-only c =
       rooms = subst (KeepsOtherRooms o d) c.in_ok-key.ensures c.in_ok-put_row.ensures.other_rooms;
       spare = c.put_row.ensures.spare;
     } in
-    keeps_then _ _ _ name put (keeps_then _ _ _ name c.splice.ensures.only c.splice-2.ensures.only)
+    keeps_then _ _ _ name put c.splice.ensures.only
 
 pub returns-clause-ok : goal.returns-clause-ok
 returns-clause-ok c =
     let b = rows_of c.put_row.new.self in
-    let name = c.args.name.now in
     let value = c.in_ok-value.value in
     let long : length value ≡ 334 = ap length c.in_ok-value.ensures in
-    let w = c.write_front-len.ensures in
-    let blank = c.absent-absent.result in
-    let front : take c.write_front-len.result c.write_front-len.new.out ≡ front_bytes 0 1 blank 1 = ap (take c.write_front-len.result) w.written ∙ take_at _ _ _ (sym w.len) in
-    let size : length (row_bytes blank) ≡ 0 = ap (λ r. length (row_bytes r)) c.absent-absent.ensures in
-    let n : c.write_front-len.result ≡ 27 = w.len ∙ omega (arith, length-front_bytes 0 1 blank 1, size) in
     let here = subst (λ k. value_at b.rows k ≡ Some value) c.in_ok-key.ensures c.in_ok-put_row.ensures.at_key in
     let room = subst (λ k. length value ≤ room_at b.rooms k) c.in_ok-key.ensures c.in_ok-put_row.ensures.fits in
-    let t = c.args.tag.now in
-    let mid = first_front b (rows_of c.splice.new.shard) name value _ blank c.absent-absent.ensures long here front c.splice.ensures.row in
+    let w = c.write_tagged-len.ensures in
+    let bytes = front_taken _ (first_bytes c.args.tag.now) _ _ (w.written no_entry blank_fits (sym blank_bytes) refl) (w.len no_entry blank_fits (sym blank_bytes) refl) in
     record {
-      row = first_row (rows_of c.splice.new.shard) (rows_of c.splice-2.new.shard) name t c.write_tag.result _ _ mid c.write_tag.ensures.form n (omega arith) c.splice-2.ensures.row;
-      entry = first_fits t c.write_tag.ensures.fits;
-      room = omega (arith, long, room, c.splice.ensures.room, c.splice-2.ensures.room);
+      row = c.splice.ensures.row value here ∙ ap Some (raw_first value _ 334 (sym long) ∙ append-nil _ ∙ bytes);
+      entry = w.fits no_entry blank_fits refl;
+      room = omega (arith, long, room, c.splice.ensures.room);
     }

@@ -1,6 +1,4 @@
 use Rattle.std.proofs.Common.{arith}
-use Rattle.object_words.specs.Tags.{tag_of}
-use Rattle.object_words.specs.ShardCalls.{prepared}
 use Rattle.cls_index.proofs.WithinLemmas.{small_within, within_prepared}
 use Rattle.cls_index.proofs.tests.prepare_next.Goals as goal
 
