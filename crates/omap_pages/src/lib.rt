@@ -8,6 +8,7 @@ mod leaf;
 mod leaves;
 mod lookup;
 mod omap;
+mod order;
 mod page;
 mod place;
 mod row;

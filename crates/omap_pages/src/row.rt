@@ -5,6 +5,7 @@ ghost use Rattle.omap_pages.specs.Heads.{IsHead};
 ghost use Rattle.omap_pages.specs.Rows.{key_cmp};
 
 use crate::head::head_of;
+use crate::order::order;
 use rgw_types::Bytes;
 use std::alloc::{AllocError, Global};
 use std::cmp::Ordering;
@@ -48,7 +49,7 @@ impl Row {
         ensures { result ≡ key_cmp self.now.0 key.now }
     {
         if self.head == head {
-            self.key.as_slice().cmp(key)
+            order(self.key.as_slice(), key)
         } else {
             self.head.cmp(&head)
         }
