@@ -1,7 +1,7 @@
 use super::{
-    EntryFront, FRONT_MOST, LOG_ROW_MOST, ShardHeader, TAG_LEN, decode_entry, decode_header,
-    decode_what, encode_entry, encode_header, front, log_key, position_of, write_bucket_row,
-    write_front, write_name_row, write_shard_row, write_tag, write_tagged, write_what,
+    EntryFront, FRONT_MOST, LOG_ROW_MOST, ShardHeader, decode_entry, decode_header, decode_what,
+    encode_entry, encode_header, front, log_key, position_of, write_bucket_row, write_front,
+    write_name_row, write_shard_row, write_tag, write_what,
 };
 use object_words::{BucketName, Fate, Hold, ObjectName, Tag};
 use rgw_types::Text;
@@ -101,26 +101,6 @@ fn tags_are_written(rt: HostRuntime) -> Result<(), Fail> {
         deadline: 18_446_744_073_709_551_615,
     });
     assert!(rt; second[..] == TAGGED[81..]);
-    Ok(())
-}
-
-/// `KNOWN` with revision 3 and the tag 7.
-const ONCE_TAGGED: [u8; 81] = [
-    238, 1, 1, 0, 0, 0, 0, 0, 0, 0, 8, 0, 0, 0, 0, 0, 0, 0, 3, 0, 0, 0, 0, 0, 0, 0, 5, 0, 0, 0, 0,
-    0, 0, 0, 5, 1, 93, 65, 64, 42, 188, 75, 42, 118, 185, 113, 157, 145, 16, 23, 197, 146, 0, 3,
-    97, 47, 98, 0, 0, 0, 0, 0, 0, 0, 1, 0, 0, 0, 0, 0, 0, 0, 7, 0, 0, 0, 0, 0, 0, 0, 100,
-];
-
-#[test]
-fn a_first_tag_is_written(rt: HostRuntime) -> Result<(), Fail> {
-    let tag = Tag {
-        tag: 7,
-        deadline: 100,
-    };
-    let mut out = [255; FRONT_MOST + TAG_LEN];
-    let len = write_tagged(&KNOWN, 3, &tag, &mut out);
-    assert!(rt; out[..len] == ONCE_TAGGED[..]);
-    assert!(rt; out[len..].iter().all(|byte| *byte == 255));
     Ok(())
 }
 
