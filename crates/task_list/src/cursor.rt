@@ -1,3 +1,4 @@
+use byte_order::compare;
 use object_words::{Entry, EntryPage};
 use std::cmp::Ordering;
 use std::vec::IntoIter;
@@ -113,6 +114,6 @@ impl Ord for Cursor {
 
     fn cmp(&self, other: &Cursor) -> Ordering {
         let name = self.front.name.as_text().as_bytes();
-        other.front.name.as_text().as_bytes().cmp(name)
+        compare(other.front.name.as_text().as_bytes(), name)
     }
 }

@@ -2,6 +2,7 @@ ghost use Rattle.std.specs.Prelude.{◌≡◌};
 ghost use Rattle.list_words.specs.declared.row.ListedRow.TheVariants.{Subdir};
 ghost use Rattle.list_words.specs.Listings.{is_same_subdir};
 
+use byte_order::compare;
 use list_words::{Key, ListCommand, ListedRow, ListedRows, ListedThing};
 use object_words::{EntryRow, ObjectName, SeenSlot};
 use rgw_types::{Items, Text};
@@ -58,8 +59,7 @@ impl Progress {
     pub fn is_open(&self, name: &ObjectName) -> bool
         ensures { result ≡ is_before (settled_of self.now) name.now }
     {
-        let settled = self.settled.as_bytes();
-        settled.cmp(name.as_text().as_bytes()).is_lt()
+        compare(self.settled.as_bytes(), name.as_text().as_bytes()).is_lt()
     }
 
     /// Whether names with this key have their row already.
