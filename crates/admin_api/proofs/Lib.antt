@@ -1,3 +1,1 @@
-pub mod Moments
-pub mod Asking
 pub mod Going

@@ -1,19 +1,15 @@
 -- What running a job comes to: its outcome, the events that it rests on, the moments that were told for them, and what a
 -- fault leaves.
-use Rattle.std.specs.Prelude.{◌≡◌, ℕ, ◌^◌, Bool, true, false, List, [], ◌∷◌, ◌++◌, length, map, filter, Option}
-use Rattle.std.specs.List.{AllByRecursion}
-use Rattle.std.specs.Io.KnownBytes.{Appends}
+use Rattle.std.specs.Prelude.{◌≡◌, ℕ, ◌^◌, Bool, List, [], length, Option}
 use Rattle.turn_cell.specs.declared.machine.DoorFault.{DoorFault}
 use Rattle.turn_cell.specs.declared.machine.DoorFault.TheVariants.{Worn}
 use Rattle.realm_model.specs.Accounts.{blank}
 use Rattle.realm_model.specs.Doors.{DoorView, actor_at}
 use Rattle.realm_model.specs.Histories.{Legal, account_of}
 use Rattle.realm_model.specs.Owns.{own_events}
-use Rattle.realm_model.specs.Phases.{ActorId}
 use Rattle.realm_model.specs.Settings.{SettingsView}
-use Rattle.realm_model.specs.Worlds.{same_actor, actor_of}
 use Rattle.realm_model.specs.declared.event.Event.{Event}
-use Rattle.realm_door.specs.Steps.{Grows}
+use Rattle.door_moments.specs.Acts.{Asks}
 use Rattle.job_words.specs.declared.job.Job.{Job}
 use Rattle.job_words.specs.declared.job.Job.TheVariants.{Check}
 use Rattle.job_words.specs.declared.outcome.JobOutcome.{JobOutcome}
@@ -46,36 +42,6 @@ pub record IsNew (settings : SettingsView) (d : DoorView) : Type 0 where
   pub legal : Legal settings d.seen
   pub account : account_of settings d.seen (actor_at d) ≡ blank
   pub events : own_events d.seen (actor_at d) ≡ []
-
--- the moments of an actor's events
-abbrev pub own_moments : List Event → ActorId → List ℕ
-own_moments history actor = map (λ e. e.moment) (filter (λ e. same_actor actor (actor_of e)) history)
-
--- each event that the history grew by is one of the present actor
-pub record OnlyOwn (d e : DoorView) : Type 0 where
-  pub more : List Event
-  pub grows : e.seen ≡ d.seen ++ more
-  pub own : AllByRecursion (λ x. actor_of x ≡ actor_at d) more
-
--- the actor went on, and its events have these moments; where nobody else makes events, there are no others
-pub record Acts (alone : Type 0) (settings : SettingsView) (d e : DoorView) (moments : List ℕ) : Type 0 where
-  pub legal : Legal settings e.seen
-  pub grows : Grows settings d e
-  pub each : own_moments e.seen (actor_at d) ≡ own_moments d.seen (actor_at d) ++ moments
-  pub only : alone → OnlyOwn d e
-
--- these moments were told: one for each event, and one more or not
-abbrev pub Tells : Bool → List ℕ → List ℕ → Type 0
-Tells true told moments = (last : ℕ) × (told ≡ moments ++ last ∷ [])
-Tells false told moments = told ≡ moments
-
--- the clock was asked once for each event of the actor, and once more or not
-pub record Asks (tells alone : Type 0) (settings : SettingsView) (more : Bool) (d e : DoorView) (told told' : Option (List ℕ)) : Type 0 where
-  pub moments : List ℕ
-  pub clock : List ℕ
-  pub asked_clock : Appends told told' clock
-  pub each : Tells more clock moments
-  pub acts : tells → Acts alone settings d e moments
 
 -- ---- faults
 

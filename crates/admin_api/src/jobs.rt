@@ -2,7 +2,8 @@ ghost use Rattle.std.specs.Prelude.{◌≡◌, ◌<◌, ◌≤◌, ◌^◌, true
 ghost use Rattle.turn_cell.specs.declared.machine.DoorFault.TheVariants.{Worn};
 ghost use Rattle.task_repair.specs.Stages.{IsOpen, IsOver};
 ghost use Rattle.task_repair.specs.Tasks.{stage_of, request_of, fault_of};
-ghost use Rattle.admin_api.specs.Jobs.{IsNew, IsUpTo, Asks, JobMeans, StopsJob};
+ghost use Rattle.admin_api.specs.Jobs.{IsNew, IsUpTo, JobMeans, StopsJob};
+ghost use Rattle.door_moments.specs.Acts.{Asks};
 
 use gw_io::Clock;
 use job_words::{Job, JobOutcome};

@@ -1,5 +1,3 @@
 pub mod Fronts
-pub mod Moments
-pub mod Asking
 pub mod Passing
 pub mod Replying

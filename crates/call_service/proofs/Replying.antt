@@ -24,10 +24,11 @@ use Rattle.task_words.specs.Answers.{span_of}
 use Rattle.call_service.specs.Bodies.{BreaksIn, HasFate, IsBegunOrLeft, LeavesBody}
 use Rattle.call_service.specs.declared.fault.ServeFault.{ServeFault}
 use Rattle.call_service.specs.declared.fault.ServeFault.TheVariants as faults
-use Rattle.call_service.specs.Serving.{Site, Side, Asks, is_by_end, AppendsFront, LeavesText, BearsOut, form_at, LeavesUnwritten, IsReplied, IsServed, IsInPart, IsLeft, IsBeforeReply, IsStopped}
+use Rattle.call_service.specs.Serving.{Site, Side, is_by_end, AppendsFront, LeavesText, BearsOut, form_at, LeavesUnwritten, IsReplied, IsServed, IsInPart, IsLeft, IsBeforeReply, IsStopped}
+use Rattle.door_moments.specs.Acts.{Asks}
 use Rattle.call_service.specs.declared.served.Served.TheVariants as services
 use Rattle.call_service.specs.Replying.{StopsEvent, IsUnwanted, Replies, IsPartly, stand, StopsReply}
-use Rattle.call_service.proofs.Asking.{both_ask}
+use Rattle.door_moments.proofs.Asking.{both_ask}
 use Rattle.call_service.proofs.Passing.{fate_begun, broken_begun}
 
 -- the text of a reply does not say whose task it was

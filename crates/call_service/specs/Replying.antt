@@ -12,7 +12,8 @@ use Rattle.call_words.specs.Bodies.{read_whole}
 use Rattle.call_words.specs.Calls.{task, text_by}
 use Rattle.call_service.specs.declared.fault.ServeFault.{ServeFault}
 use Rattle.call_service.specs.declared.fault.ServeFault.TheVariants as faults
-use Rattle.call_service.specs.Serving.{Site, Asks, AppendsFront, BearsOut, IsLateIn, is_by_end}
+use Rattle.call_service.specs.Serving.{Site, AppendsFront, BearsOut, IsLateIn, is_by_end}
+use Rattle.door_moments.specs.Acts.{Asks}
 
 -- an event was refused: for want of memory, or since the realm has as many events as it may have
 abbrev pub StopsEvent : Type 0 → List Event → ServeFault → Type 0

@@ -16,7 +16,8 @@ use Rattle.call_service.specs.declared.fault.ServeFault.{ServeFault}
 use Rattle.call_service.specs.declared.fault.ServeFault.TheVariants as faults
 use Rattle.call_service.specs.declared.served.Served.{Served}
 use Rattle.call_service.specs.declared.served.Served.TheVariants as services
-use Rattle.call_service.specs.Serving.{Site, Side, Asks, AppendsFront, IsServed, IsStopped}
+use Rattle.call_service.specs.Serving.{Site, Side, AppendsFront, IsServed, IsStopped}
+use Rattle.door_moments.specs.Acts.{Asks}
 
 -- the row of the container grants the PUT, and nothing of the body was read: of a 100 was written what this says
 pub record Answers (tells alone : Type 0) (site : Site) (c : PutCommand) (x z : Side) (grown : List ℕ → Type 0) : Type 0 where

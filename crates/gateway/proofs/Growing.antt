@@ -14,7 +14,8 @@ use Rattle.realm_model.proofs.Others.{phase-others, account-others}
 use Rattle.realm_door.specs.Steps.{actor_of_pass, next_count, begun, IsUnused, IsSame, Grows}
 use Rattle.realm_door.proofs.Others.{own-append, same_both}
 use Rattle.realm_door.proofs.Steps.{counted_begun, counted_grown}
-use Rattle.call_service.specs.Serving.{IsNew, own_moments}
+use Rattle.call_service.specs.Serving.{IsNew}
+use Rattle.door_moments.specs.Acts.{own_moments}
 use Rattle.gateway.specs.Calls.{MayBegin, Advances}
 
 -- ---- an actor without events

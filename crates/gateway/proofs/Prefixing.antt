@@ -13,7 +13,8 @@ use Rattle.call_words.specs.Bodies.{read_whole, IsBehind}
 use Rattle.call_words.specs.Calls.{Ground, alone as by_itself, task, Call, whole_text, IsOfNext, IsRight, AreRight, AreSame, actor_after}
 use Rattle.call_words.specs.Streams.{form_of, CallsEnd, at_clean, at_close, at_cut, at_bad, Taken, TakesCall, IsStreamFrom}
 use Rattle.call_words.proofs.Staying.{stay}
-use Rattle.call_service.specs.Serving.{Site, Side, own_moments, Tells, is_by_end}
+use Rattle.call_service.specs.Serving.{Site, Side, is_by_end}
+use Rattle.door_moments.specs.Acts.{own_moments, Tells}
 use Rattle.call_service.specs.declared.fault.ServeFault.{ServeFault}
 use Rattle.call_service.specs.declared.fault.ServeFault.TheVariants as faults
 use Rattle.gateway.specs.declared.serve.ConnEnd.{ConnEnd}

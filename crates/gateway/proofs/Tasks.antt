@@ -27,10 +27,11 @@ use Rattle.call_words.specs.Calls.{task, text_by, is_waiting, IsBorneOut}
 use Rattle.call_words.specs.Texts.{continue_text, continue_if}
 use Rattle.call_service.specs.Bodies.{HasFate, BreaksIn}
 use Rattle.call_service.specs.Waiting.{Continues, IsServedWaiting, IsStoppedWaiting, IsPutServed, IsPutStopped}
-use Rattle.call_service.proofs.Asking.{both_ask}
+use Rattle.door_moments.proofs.Asking.{both_ask}
 use Rattle.call_service.proofs.Passing.{left_given, give_all, break_behind}
 use Rattle.call_service.proofs.Replying.{any_actor}
-use Rattle.call_service.specs.Serving.{Site, Side, side, own_moments, Acts, Asks, is_by_end, Tells, form_at, BearsOut, IsReplied, LeavesUnwritten, IsServed, IsStopped}
+use Rattle.call_service.specs.Serving.{Site, Side, side, is_by_end, form_at, BearsOut, IsReplied, LeavesUnwritten, IsServed, IsStopped}
+use Rattle.door_moments.specs.Acts.{own_moments, Acts, Asks, Tells}
 use Rattle.call_service.specs.declared.fault.ServeFault.{ServeFault}
 use Rattle.call_service.specs.declared.fault.ServeFault.TheVariants as faults
 use Rattle.call_service.specs.declared.served.Served.{Served}

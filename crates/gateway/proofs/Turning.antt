@@ -23,9 +23,10 @@ use Rattle.call_words.specs.Bodies.{Fate, read_whole, broken_off, unread}
 use Rattle.call_words.specs.Calls.{Ground, Call, whole_text, actor_after}
 use Rattle.call_words.specs.Streams.{use_of, form_of, at_close, at_cut, Taken, TakesCall, IsCutBody, IsCutRequest, IsEnd, IsStreamFrom}
 use Rattle.call_service.specs.Bodies.{BreaksIn}
-use Rattle.call_service.specs.Serving.{Site, Side, side, Acts, Asks, form_at, IsLeft, IsStopped}
+use Rattle.call_service.specs.Serving.{Site, Side, side, form_at, IsLeft, IsStopped}
+use Rattle.door_moments.specs.Acts.{Acts, Asks}
 use Rattle.call_service.specs.Waiting.{IsBehindContinue, IsStoppedWaiting, IsPutStopped}
-use Rattle.call_service.proofs.Asking.{both_ask}
+use Rattle.door_moments.proofs.Asking.{both_ask}
 use Rattle.task_words.specs.declared.command.PutCommand.{PutCommand}
 use Rattle.swift_requests.specs.declared.body.BodyUse.TheVariants as uses
 use Rattle.call_service.specs.declared.fault.ServeFault.{ServeFault}

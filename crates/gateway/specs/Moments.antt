@@ -3,7 +3,8 @@ use Rattle.std.specs.Prelude.{◌≡◌, ℕ, List, [], ◌∷◌, ◌++◌}
 use Rattle.realm_model.specs.declared.event.Event.{Event}
 use Rattle.realm_door.specs.Steps.{actor_of_pass}
 use Rattle.call_words.specs.Calls.{Ground, alone, task, Call}
-use Rattle.call_service.specs.Serving.{own_moments, Tells, is_by_end}
+use Rattle.call_service.specs.Serving.{is_by_end}
+use Rattle.door_moments.specs.Acts.{own_moments, Tells}
 
 -- What was told for a reply that rests on this: nothing for a request alone; for a task the moments of its events, and one
 -- more where the body's end decided.

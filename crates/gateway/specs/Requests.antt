@@ -20,7 +20,8 @@ use Rattle.call_words.specs.Calls.{Ground, alone as by_itself, Call, text_by, wh
 use Rattle.call_words.specs.Bodies.{Fate, read_whole, broken_off, unread, is_left, is_broken, Suits}
 use Rattle.call_words.specs.Texts.{continue_if}
 use Rattle.call_service.specs.Bodies.{IsCutIn, FailsIn, HasFate}
-use Rattle.call_service.specs.Serving.{Site, Side, side, own_moments, AppendsFront, form_at, IsStopped}
+use Rattle.call_service.specs.Serving.{Site, Side, side, AppendsFront, form_at, IsStopped}
+use Rattle.door_moments.specs.Acts.{own_moments}
 use Rattle.call_service.specs.declared.fault.ServeFault.{ServeFault}
 use Rattle.call_service.specs.declared.fault.ServeFault.TheVariants as faults
 use Rattle.call_service.specs.declared.served.Served.{Served}

@@ -16,7 +16,8 @@ use Rattle.realm_door.specs.Steps.{next_count, actor_of_pass}
 use Rattle.swift_requests.specs.Asks.{asked_of}
 use Rattle.call_words.specs.Calls.{Call}
 use Rattle.call_words.specs.Streams.{use_of, CallsEnd, at_clean, at_close, at_cut, at_bad, Taken, IsStreamFrom, IsFrontFrom}
-use Rattle.call_service.specs.Serving.{Site, Side, side, own_moments, AppendsFront, HasServeCause}
+use Rattle.call_service.specs.Serving.{Site, Side, side, AppendsFront, HasServeCause}
+use Rattle.door_moments.specs.Acts.{own_moments}
 use Rattle.call_service.specs.declared.fault.ServeFault.{ServeFault}
 use Rattle.call_service.specs.declared.fault.ServeFault.TheVariants as faults
 use Rattle.gateway.specs.declared.serve.ConnEnd.{ConnEnd}

@@ -27,12 +27,13 @@ use Rattle.call_words.specs.Calls.{IsBorneOut}
 use Rattle.call_words.specs.Texts.{broken_text}
 use Rattle.call_words.proofs.Fates.{broken_has_reply}
 use Rattle.call_service.specs.Bodies.{BreaksIn}
-use Rattle.call_service.specs.Serving.{Site, Side, Asks, is_by_end, AppendsFront, LeavesText, BearsOut, IsServed, IsStopped}
+use Rattle.call_service.specs.Serving.{Site, Side, is_by_end, AppendsFront, LeavesText, BearsOut, IsServed, IsStopped}
+use Rattle.door_moments.specs.Acts.{Asks}
 use Rattle.call_service.specs.declared.fault.ServeFault.{ServeFault}
 use Rattle.call_service.specs.declared.fault.ServeFault.TheVariants as faults
 use Rattle.call_service.specs.declared.served.Served.{Served}
 use Rattle.call_service.specs.declared.served.Served.TheVariants as services
-use Rattle.call_service.proofs.Asking.{untold_asks, both_ask}
+use Rattle.door_moments.proofs.Asking.{untold_asks, both_ask}
 use Rattle.call_service.proofs.Replying.{broken_replied, broken_stops}
 use Rattle.get_service.specs.Getting.{end_at_first, text_at_first, AsksAtFirst, IsServedSo, EndsEarly, LeavesEarly}
 use Rattle.get_service.specs.Texts.{end_text, StopsEnd}

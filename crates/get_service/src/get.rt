@@ -9,7 +9,8 @@ ghost use Rattle.call_words.specs.Bodies.{IsWrong};
 ghost use Rattle.task_get.specs.Stages.{IsOpen, IsOver, IsBehindRow};
 ghost use Rattle.task_get.specs.declared.stage.Stage.TheVariants.{Look};
 ghost use Rattle.task_get.specs.Tasks.{request_of, stage_of, fault_of, bytes_of, shown_of, events_at, Fits};
-ghost use Rattle.call_service.specs.Serving.{IsNew, IsServed, IsStopped, HasServeCause, Asks, WritesAtFault, side};
+ghost use Rattle.call_service.specs.Serving.{IsNew, IsServed, IsStopped, HasServeCause, WritesAtFault, side};
+ghost use Rattle.door_moments.specs.Acts.{Asks};
 ghost use Rattle.call_service.specs.Replying.{StopsEvent, stand, AsksFrom};
 ghost use Rattle.get_service.specs.Getting.{IsUpTo, brought_at, piece_in, HasWritten, Replies, StopsReply, EndsEarly, LeavesEarly};
 

@@ -30,12 +30,13 @@ use Rattle.call_words.specs.Calls.{IsBorneOut}
 use Rattle.call_words.specs.Texts.{list_reply, text_if, broken_text}
 use Rattle.call_words.proofs.Fates.{broken_has_list_reply}
 use Rattle.call_service.specs.Bodies.{BreaksIn}
-use Rattle.call_service.specs.Serving.{Site, Side, Asks, is_by_end, LeavesText, BearsOut, IsServed, IsStopped}
+use Rattle.call_service.specs.Serving.{Site, Side, is_by_end, LeavesText, BearsOut, IsServed, IsStopped}
+use Rattle.door_moments.specs.Acts.{Asks}
 use Rattle.call_service.specs.declared.fault.ServeFault.{ServeFault}
 use Rattle.call_service.specs.declared.fault.ServeFault.TheVariants as faults
 use Rattle.call_service.specs.declared.served.Served.{Served}
 use Rattle.call_service.specs.declared.served.Served.TheVariants as services
-use Rattle.call_service.proofs.Asking.{untold_asks, both_ask}
+use Rattle.door_moments.proofs.Asking.{untold_asks, both_ask}
 use Rattle.call_service.proofs.Replying.{broken_replied, broken_stops}
 use Rattle.list_service.specs.Listing.{asked_by}
 use Rattle.list_service.specs.Early.{end_at_first, early_text, AsksEarly, early_served, EndsEarly, LeavesEarly}

@@ -35,8 +35,9 @@ use Rattle.call_service.specs.Bodies.{HasGiven, HasGivenAll, ReadsTo, BreaksIn, 
 use Rattle.call_service.specs.declared.fault.ServeFault.{ServeFault}
 use Rattle.call_service.specs.declared.fault.ServeFault.TheVariants.{ReadFault}
 use Rattle.call_service.proofs.Passing.{give_all, break_behind}
-use Rattle.call_service.specs.Serving.{is_by_end, Asks}
-use Rattle.call_service.proofs.Asking.{both_ask}
+use Rattle.call_service.specs.Serving.{is_by_end}
+use Rattle.door_moments.specs.Acts.{Asks}
+use Rattle.door_moments.proofs.Asking.{both_ask}
 use Rattle.put_service.specs.Standing.{IsEnd, IsEndBy, IsEndAt, IsByEvent, IsByBody, IsSteadyAt, IsSteady}
 use Rattle.put_service.proofs.Orders.{of_put}
 use Rattle.put_service.specs.Parts.{Place, AsksAt, EndsSo, HasEnded, task_end, RunsTask, StopsBody}

@@ -22,7 +22,8 @@ use Rattle.task_put.specs.declared.stage.Stage.{Stage}
 use Rattle.task_put.specs.declared.stage.Stage.TheVariants.{Looking, Ended}
 use Rattle.task_put.specs.declared.task.PutTask.{PutTask}
 use Rattle.call_service.specs.Bodies.{HasFate, HasBegun}
-use Rattle.call_service.specs.Serving.{Site, Side, side, Asks, is_by_end, AppendsFront, form_at, IsServed, IsReplied, IsCutOff, IsLeft, IsStopped, LeavesText}
+use Rattle.call_service.specs.Serving.{Site, Side, side, is_by_end, AppendsFront, form_at, IsServed, IsReplied, IsCutOff, IsLeft, IsStopped, LeavesText}
+use Rattle.door_moments.specs.Acts.{Asks}
 use Rattle.call_service.specs.declared.fault.ServeFault.{ServeFault}
 use Rattle.call_service.specs.declared.fault.ServeFault.TheVariants as faults
 use Rattle.put_service.specs.Standing.{IsSteady, IsSteadyAt, IsEndAt}

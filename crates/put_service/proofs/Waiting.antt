@@ -27,14 +27,15 @@ use Rattle.task_put.specs.declared.stage.Stage.TheVariants.{Feeding, Ended}
 use Rattle.task_put.specs.declared.task.PutTask.{PutTask}
 use Rattle.call_words.specs.Bodies.{unread}
 use Rattle.call_words.specs.Texts.{HasReply, told_reply, outcome_reply, front_if, text_if}
-use Rattle.call_service.specs.Serving.{Site, Side, side, Asks, is_by_end, AppendsFront, LeavesText, IsServed, IsStopped}
+use Rattle.call_service.specs.Serving.{Site, Side, side, is_by_end, AppendsFront, LeavesText, IsServed, IsStopped}
+use Rattle.door_moments.specs.Acts.{Asks}
 use Rattle.call_service.specs.declared.fault.ServeFault.{ServeFault}
 use Rattle.call_service.specs.declared.fault.ServeFault.TheVariants as faults
 use Rattle.call_service.specs.declared.served.Served.TheVariants as services
 use Rattle.call_service.specs.Waiting.{Answers, IsServedWaiting, IsStoppedWaiting, IsPutStopped}
 use Rattle.call_service.specs.declared.served.Served.{Served}
 use Rattle.call_words.specs.Texts.{continue_text}
-use Rattle.call_service.proofs.Asking.{none_asks}
+use Rattle.door_moments.proofs.Asking.{none_asks}
 use Rattle.call_service.proofs.Passing.{none_begun}
 use Rattle.put_service.specs.Leaving.{left_text}
 use Rattle.task_put.proofs.Stepping.{means_it}

@@ -25,7 +25,8 @@ use Rattle.task_put.specs.Stages.{IsOver}
 use Rattle.task_put.specs.Taking.{WantsBytes, fed_request}
 use Rattle.task_put.specs.Tasks.{request_of, stage_of, fault_of}
 use Rattle.call_service.specs.Bodies.{HasGiven, ReadsTo, IsCutIn, FailsIn, HasFate, HasBegun}
-use Rattle.call_service.specs.Serving.{Site, Asks, is_by_end}
+use Rattle.call_service.specs.Serving.{Site, is_by_end}
+use Rattle.door_moments.specs.Acts.{Asks}
 use Rattle.call_service.specs.declared.fault.ServeFault.{ServeFault}
 use Rattle.call_service.specs.declared.fault.ServeFault.TheVariants as faults
 use Rattle.call_service.specs.declared.served.Served.{Served}

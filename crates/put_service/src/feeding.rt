@@ -4,7 +4,7 @@ ghost use Rattle.task_put.specs.Bodies.{most_bytes};
 ghost use Rattle.task_put.specs.Taking.{WantsBytes};
 ghost use Rattle.task_put.specs.Tasks.{request_of, stage_of, fault_of};
 ghost use Rattle.call_service.specs.Bodies.{ReadsAtFault, most_due};
-ghost use Rattle.call_service.specs.Serving.{Asks};
+ghost use Rattle.door_moments.specs.Acts.{Asks};
 ghost use Rattle.put_service.specs.Standing.{IsUp, IsSteady};
 ghost use Rattle.call_service.specs.Replying.{StopsEvent};
 ghost use Rattle.put_service.specs.Parts.{TakesBytes, TakesBody, StopsBody, place};

@@ -2,7 +2,7 @@
 ghost use Rattle.std.specs.Prelude.{◌≡◌, ◌<◌, ◌≤◌, ◌^◌, Ok, None, true, false, IfOk, OnOk, IfErr, OnErr};
 ghost use Rattle.task_put.specs.Tasks.{request_of, stage_of, fault_of};
 ghost use Rattle.task_put.specs.Stages.{IsReady};
-ghost use Rattle.call_service.specs.Serving.{Asks};
+ghost use Rattle.door_moments.specs.Acts.{Asks};
 ghost use Rattle.put_service.specs.Standing.{IsUp, IsSteady, PausesAt, StandsAfter, is_untold, is_untold_at};
 ghost use Rattle.call_service.specs.Replying.{StopsEvent};
 

@@ -27,7 +27,8 @@ use Rattle.swift_requests.specs.declared.asked.Asked.TheVariants as Asks
 use Rattle.swift_requests.specs.declared.body.BodyUse.{BodyUse}
 use Rattle.call_words.specs.Streams.{use_of, CallsEnd}
 use Rattle.swift_requests.specs.Bodies.{is_awaited}
-use Rattle.call_service.specs.Serving.{Site, Side, side, Asks as AsksClock}
+use Rattle.call_service.specs.Serving.{Site, Side, side}
+use Rattle.door_moments.specs.Acts.{Asks as AsksClock}
 use Rattle.call_service.specs.declared.fault.ServeFault.{ServeFault}
 use Rattle.call_service.specs.declared.fault.ServeFault.TheVariants as faults
 use Rattle.gateway.specs.Calls.{standard_asker, site_of, AreSettled}

@@ -8,7 +8,8 @@ use Rattle.realm_model.proofs.ObjectLemmas.{actor_itself}
 use Rattle.realm_door.specs.Steps.{actor_of_pass}
 use Rattle.call_words.specs.Calls.{Ground, alone, task, Call}
 use Rattle.call_words.specs.Made.{AreMadeFor, AreMade}
-use Rattle.call_service.specs.Serving.{own_moments, Tells, is_by_end}
+use Rattle.call_service.specs.Serving.{is_by_end}
+use Rattle.door_moments.specs.Acts.{own_moments, Tells}
 use Rattle.gateway.specs.Moments.{AreToldFor, AreTold}
 use Rattle.once_law.specs.Runs.{AreAt}
 

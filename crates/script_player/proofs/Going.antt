@@ -11,8 +11,8 @@ use Rattle.realm_model.specs.declared.event.Event.{Event}
 use Rattle.realm_door.specs.Steps.{Grows, event_at}
 use Rattle.realm_door.specs.Turns.{MakesEvent, IsOneMore}
 use Rattle.realm_door.proofs.Steps.{grows_none, grows_both}
-use Rattle.call_service.specs.Serving.{own_moments}
-use Rattle.call_service.proofs.Moments.{moments_next}
+use Rattle.door_moments.specs.Acts.{own_moments}
+use Rattle.door_moments.proofs.Moments.{moments_next}
 use Rattle.script_player.specs.Going.{ActsAlone, Goes, GoesUpTo, Steps, HasGone}
 use Rattle.script_player.specs.declared.player.Gone.{Gone}
 

@@ -7,7 +7,7 @@ use Rattle.realm_model.specs.Histories.{Legal}
 use Rattle.realm_model.specs.Worlds.{actor_of}
 use Rattle.realm_model.specs.declared.event.Event.{Event}
 use Rattle.realm_door.specs.Steps.{Grows}
-use Rattle.call_service.specs.Serving.{own_moments}
+use Rattle.door_moments.specs.Acts.{own_moments}
 use Rattle.script_player.specs.declared.player.Gone.{Gone}
 use Rattle.script_player.specs.declared.player.Gone.TheVariants.{Short, Ended}
 

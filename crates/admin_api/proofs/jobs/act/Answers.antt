@@ -1,4 +1,4 @@
-use Rattle.admin_api.proofs.Asking.{untold_asks_if, event_asks_if}
+use Rattle.door_moments.proofs.Asking.{untold_asks_if, event_asks_if}
 use Rattle.admin_api.proofs.jobs.act.Goals as goal
 
 pub returns-clause-asks : goal.returns-clause-asks

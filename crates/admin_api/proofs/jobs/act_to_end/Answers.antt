@@ -4,7 +4,7 @@ use Rattle.realm_model.specs.Settings.{SettingsView}
 use Rattle.task_repair.specs.Tasks.{stage_of}
 use Rattle.task_repair.proofs.Turning.{still_open}
 use Rattle.admin_api.specs.Jobs.{IsUpTo}
-use Rattle.admin_api.proofs.Asking.{none_asks, both_ask}
+use Rattle.door_moments.proofs.Asking.{none_asks, both_ask}
 use Rattle.admin_api.proofs.jobs.act_to_end.Goals as goal
 
 pub events-init : goal.events-init

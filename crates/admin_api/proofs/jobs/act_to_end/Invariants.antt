@@ -1,6 +1,7 @@
 use Rattle.std.proofs.Common.{◌≡◌, ◌-◌, ◌^◌, false, None}
 use Rattle.task_repair.specs.Tasks.{request_of, fault_of}
-use Rattle.admin_api.specs.Jobs.{IsUpTo, Asks}
+use Rattle.admin_api.specs.Jobs.{IsUpTo}
+use Rattle.door_moments.specs.Acts.{Asks}
 use Rattle.admin_api.proofs.jobs.act_to_end.Given as goal
 
 abbrev pub invariant-events : goal.invariant-events

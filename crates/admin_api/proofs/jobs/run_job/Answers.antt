@@ -1,5 +1,5 @@
 use Rattle.std.proofs.Common.{false}
-use Rattle.admin_api.proofs.Asking.{none_asks}
+use Rattle.door_moments.proofs.Asking.{none_asks}
 use Rattle.admin_api.proofs.Going.{goes_on_first}
 use Rattle.admin_api.proofs.jobs.run_job.Goals as goal
 

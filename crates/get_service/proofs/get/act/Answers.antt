@@ -1,4 +1,4 @@
-use Rattle.call_service.proofs.Asking.{untold_asks, event_asks}
+use Rattle.door_moments.proofs.Asking.{untold_asks, event_asks}
 use Rattle.get_service.proofs.Acting.{event_made, piece_follows, first_brings_none}
 use Rattle.get_service.proofs.get.act.Goals as goal
 

@@ -7,7 +7,7 @@ use Rattle.realm_door.specs.declared.task.TaskTurn.TheVariants.{Gives}
 use Rattle.task_words.specs.Answers.{span_of}
 use Rattle.task_get.specs.declared.request.GetRequest.{GetRequest}
 use Rattle.task_get.specs.Tasks.{request_of, stage_of, bytes_of, shown_of}
-use Rattle.call_service.proofs.Asking.{none_asks, both_ask}
+use Rattle.door_moments.proofs.Asking.{none_asks, both_ask}
 use Rattle.get_service.specs.Texts.{StopsPiece, piece_text}
 use Rattle.call_service.specs.Replying.{stand}
 use Rattle.get_service.specs.Getting.{IsUpTo, brought_at, piece_in, HasWritten, StopsReply}

@@ -1,6 +1,6 @@
 use Rattle.std.proofs.Common.{◌≡◌, ◌^◌, false, None, ◌-◌}
 use Rattle.task_get.specs.Tasks.{request_of, fault_of}
-use Rattle.call_service.specs.Serving.{Asks}
+use Rattle.door_moments.specs.Acts.{Asks}
 use Rattle.get_service.specs.Getting.{IsUpTo, HasWritten}
 use Rattle.get_service.proofs.get.send_pieces.Given as goal
 

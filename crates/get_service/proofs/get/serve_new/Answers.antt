@@ -11,7 +11,7 @@ use Rattle.call_words.specs.Bodies.{unread}
 use Rattle.call_service.specs.Bodies.{dropped_if}
 use Rattle.call_service.specs.Serving.{IsServed, IsStopped, side}
 use Rattle.call_service.specs.declared.served.Served.TheVariants as services
-use Rattle.call_service.proofs.Asking.{none_asks}
+use Rattle.door_moments.proofs.Asking.{none_asks}
 use Rattle.call_service.proofs.Replying.{reply_stops, replied, shut_form}
 use Rattle.get_service.specs.Getting.{site_of}
 use Rattle.get_service.proofs.get.serve_new.Goals as goal

@@ -9,7 +9,8 @@ use Rattle.call_service.specs.Bodies.{DropsBody}
 use Rattle.swift_requests.specs.declared.body.BodyUse.TheVariants.{Dropped}
 use Rattle.call_words.specs.Bodies.{read_whole, broken_off}
 use Rattle.call_words.specs.Calls.{IsBorneOut}
-use Rattle.call_service.specs.Serving.{Asks, BearsOut, side}
+use Rattle.call_service.specs.Serving.{BearsOut, side}
+use Rattle.door_moments.specs.Acts.{Asks}
 use Rattle.task_get.specs.declared.request.GetRequest.{GetRequest}
 use Rattle.call_words.proofs.Fates.{wrong_of}
 use Rattle.call_service.proofs.Passing.{none_begun, breaks_so}

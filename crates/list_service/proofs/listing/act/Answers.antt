@@ -1,4 +1,4 @@
-use Rattle.call_service.proofs.Asking.{untold_asks, event_asks}
+use Rattle.door_moments.proofs.Asking.{untold_asks, event_asks}
 use Rattle.list_service.proofs.listing.act.Goals as goal
 
 pub returns-in-Ok-clause-asks : goal.returns-in-Ok-clause-asks

@@ -1,7 +1,7 @@
 use Rattle.std.proofs.Common.{rules, true, false, refl, sym, ◌∙◌, subst, arith}
 use Rattle.std.proofs.lemmas.Result.{err_from_is_err_and}
 use Rattle.realm_model.specs.Settings.{SettingsView}
-use Rattle.call_service.proofs.Asking.{none_asks, both_ask}
+use Rattle.door_moments.proofs.Asking.{none_asks, both_ask}
 use Rattle.list_service.specs.Listing.{IsUpTo}
 use Rattle.list_service.proofs.listing.run.Goals as goal
 

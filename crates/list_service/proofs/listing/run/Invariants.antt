@@ -1,6 +1,6 @@
 use Rattle.std.proofs.Common.{◌≡◌, ◌^◌, false, None, ◌-◌}
 use Rattle.task_list.specs.Tasks.{request_of, fault_of}
-use Rattle.call_service.specs.Serving.{Asks}
+use Rattle.door_moments.specs.Acts.{Asks}
 use Rattle.list_service.specs.Listing.{IsUpTo}
 use Rattle.list_service.proofs.listing.run.Given as goal
 

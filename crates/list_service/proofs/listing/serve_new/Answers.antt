@@ -9,7 +9,7 @@ use Rattle.call_words.specs.Bodies.{unread}
 use Rattle.call_service.specs.Bodies.{dropped_if}
 use Rattle.call_service.specs.Serving.{IsServed, IsStopped, side}
 use Rattle.call_service.specs.declared.served.Served.TheVariants as services
-use Rattle.call_service.proofs.Asking.{none_asks}
+use Rattle.door_moments.proofs.Asking.{none_asks}
 use Rattle.call_service.proofs.Replying.{reply_stops, replied, shut_form}
 use Rattle.list_service.specs.Listing.{site_of, asked_by}
 use Rattle.list_service.proofs.listing.serve_new.Goals as goal

@@ -14,7 +14,8 @@ use Rattle.call_words.specs.Bodies.{read_whole, broken_off}
 use Rattle.call_words.specs.Calls.{IsBorneOut}
 use Rattle.call_words.proofs.Fates.{wrong_of}
 use Rattle.call_service.specs.Bodies.{DropsBody}
-use Rattle.call_service.specs.Serving.{Asks, BearsOut, side}
+use Rattle.call_service.specs.Serving.{BearsOut, side}
+use Rattle.door_moments.specs.Acts.{Asks}
 use Rattle.call_service.proofs.Passing.{none_begun, breaks_so}
 use Rattle.call_service.specs.Replying.{Replies, stand, StopsReply}
 use Rattle.list_service.specs.Early.{end_at_first}

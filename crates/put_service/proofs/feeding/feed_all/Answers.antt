@@ -1,8 +1,8 @@
 use Rattle.std.proofs.Common.{rules, true, false, Bool, [], ◌++◌, take, refl, sym, ◌∙◌, subst}
 use Rattle.realm_model.specs.Settings.{SettingsView}
 use Rattle.task_put.specs.Tasks.{request_of}
-use Rattle.call_service.specs.Serving.{Asks}
-use Rattle.call_service.proofs.Asking.{none_asks, both_ask}
+use Rattle.door_moments.specs.Acts.{Asks}
+use Rattle.door_moments.proofs.Asking.{none_asks, both_ask}
 use Rattle.put_service.specs.Standing.{IsUp, PausesAt, is_untold}
 use Rattle.put_service.specs.declared.stepping.Pause.{Pause}
 use Rattle.put_service.proofs.Joining.{fed_none, fed_behind, request_fed, seam, few_left}

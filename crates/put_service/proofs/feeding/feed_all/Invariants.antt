@@ -2,7 +2,7 @@ use Rattle.std.proofs.Common.{◌≡◌, ◌≤◌, ◌+◌, ℕ, false, None, L
 use Rattle.task_put.specs.Bodies.{most_bytes}
 use Rattle.task_put.specs.Tasks.{request_of, stage_of, fault_of}
 use Rattle.task_put.specs.Taking.{WantsBytes, fed_request}
-use Rattle.call_service.specs.Serving.{Asks}
+use Rattle.door_moments.specs.Acts.{Asks}
 use Rattle.put_service.specs.Standing.{IsUp, IsSteady}
 use Rattle.put_service.proofs.feeding.feed_all.Given as goal
 

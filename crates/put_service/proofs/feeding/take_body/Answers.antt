@@ -6,8 +6,8 @@ use Rattle.task_put.specs.Tasks.{request_of}
 use Rattle.task_put.specs.Taking.{fed_request}
 use Rattle.http_chunks.specs.declared.body.BodyEnd.TheVariants as End
 use Rattle.call_service.specs.Bodies.{most_due}
-use Rattle.call_service.specs.Serving.{Asks}
-use Rattle.call_service.proofs.Asking.{both_ask}
+use Rattle.door_moments.specs.Acts.{Asks}
+use Rattle.door_moments.proofs.Asking.{both_ask}
 use Rattle.call_service.proofs.Passing.{none_given, give_more, break_behind, end_behind}
 use Rattle.put_service.specs.declared.stepping.Pause.{Pause}
 use Rattle.put_service.specs.Standing.{IsUp, PausesAt, is_untold}

@@ -1,5 +1,5 @@
 use Rattle.std.proofs.Common.{◌≡◌, Some, ap, ◌∙◌, subst}
-use Rattle.call_service.specs.Serving.{Asks}
+use Rattle.door_moments.specs.Acts.{Asks}
 use Rattle.task_put.specs.Bodies.{first_end}
 use Rattle.task_put.specs.Tasks.{request_of}
 use Rattle.put_service.specs.declared.stepping.Pause.{Pause}

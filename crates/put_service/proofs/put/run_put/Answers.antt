@@ -2,7 +2,7 @@ use Rattle.std.proofs.Common.{rules, ℕ, List, true, ap, ◌∙◌, subst}
 use Rattle.std.proofs.lemmas.Result.{IfOk-weaker, IfErr-weaker}
 use Rattle.realm_model.specs.Settings.{SettingsView}
 use Rattle.call_service.specs.Bodies.{ReadsTo}
-use Rattle.call_service.proofs.Asking.{both_ask}
+use Rattle.door_moments.proofs.Asking.{both_ask}
 use Rattle.task_put.specs.Taking.{ended_request}
 use Rattle.task_put.specs.Tasks.{request_of, fits}
 use Rattle.put_service.specs.declared.feeding.Taken.{Taken}

@@ -7,7 +7,8 @@ use Rattle.swift_requests.specs.declared.asked.Asked.TheVariants.{Put}
 use Rattle.swift_requests.specs.declared.body.BodyUse.TheVariants.{Fed, Unread}
 use Rattle.task_put.specs.Tasks.{request_of, stage_of}
 use Rattle.task_put.specs.declared.stage.PutRequest.{PutRequest}
-use Rattle.call_service.specs.Serving.{Site, Asks, side, IsServed, IsStopped}
+use Rattle.call_service.specs.Serving.{Site, side, IsServed, IsStopped}
+use Rattle.door_moments.specs.Acts.{Asks}
 use Rattle.call_service.proofs.Passing.{none_begun}
 use Rattle.call_service.proofs.Replying.{row_stops}
 use Rattle.put_service.specs.declared.stepping.Pause.{Pause}

@@ -1,7 +1,7 @@
 use Rattle.std.proofs.Common.{◌≡◌, rules, false, true, Option, None, refl, ◌∙◌, subst}
 use Rattle.realm_model.specs.Settings.{SettingsView}
-use Rattle.call_service.specs.Serving.{Asks}
-use Rattle.call_service.proofs.Asking.{none_asks, both_ask}
+use Rattle.door_moments.specs.Acts.{Asks}
+use Rattle.door_moments.proofs.Asking.{none_asks, both_ask}
 use Rattle.put_service.specs.declared.stepping.Pause.{Pause}
 use Rattle.put_service.specs.Standing.{IsUp, StandsAfter, is_untold_at}
 use Rattle.put_service.proofs.stepping.advance.Goals as goal

@@ -1,6 +1,6 @@
 use Rattle.std.proofs.Common.{◌≡◌, ◌-◌, ◌^◌, false, None}
 use Rattle.task_put.specs.Tasks.{request_of, fault_of}
-use Rattle.call_service.specs.Serving.{Asks}
+use Rattle.door_moments.specs.Acts.{Asks}
 use Rattle.put_service.specs.Standing.{IsUp, IsSteady}
 use Rattle.put_service.proofs.stepping.advance.Given as goal
 

@@ -1,4 +1,4 @@
-use Rattle.call_service.proofs.Asking.{event_asks, untold_asks}
+use Rattle.door_moments.proofs.Asking.{event_asks, untold_asks}
 use Rattle.put_service.proofs.Steps.{steady_after}
 use Rattle.put_service.proofs.stepping.make_event.Goals as goal
 

@@ -1,5 +1,5 @@
 use Rattle.std.proofs.Common.{refl}
-use Rattle.call_service.proofs.Asking.{none_asks, untold_asks}
+use Rattle.door_moments.proofs.Asking.{none_asks, untold_asks}
 use Rattle.put_service.proofs.Pausing.{up_decided, steady_ready}
 use Rattle.put_service.proofs.stepping.take_step.Goals as goal
 

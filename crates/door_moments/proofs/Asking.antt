@@ -1,13 +1,13 @@
 -- The clock, asked once for each event.
-use Rattle.std.proofs.Common.{◌≡◌, ℕ, Bool, true, false, List, [], ◌∷◌, ◌++◌, Option, refl, sym, ap, ◌∙◌, subst, append_assoc}
+use Rattle.std.proofs.Common.{◌≡◌, ℕ, Bool, true, false, List, [], ◌∷◌, ◌++◌, Option, Result, Ok, Err, OnOk, OnErr, refl, sym, ap, ◌∙◌, subst, append_assoc}
 use Rattle.std.proofs.KnownBytes.{Appends-nil, Appends-trans}
 use Rattle.std.specs.Io.KnownBytes.{Appends}
 use Rattle.realm_model.specs.Settings.{SettingsView}
 use Rattle.realm_model.specs.Histories.{Legal}
 use Rattle.realm_model.specs.Doors.{DoorView}
 use Rattle.realm_door.specs.Turns.{MakesEvent, IsOneMore}
-use Rattle.call_service.specs.Serving.{Tells, Acts, Asks}
-use Rattle.call_service.proofs.Moments.{no_act, act_once, act_both}
+use Rattle.door_moments.specs.Acts.{Tells, Acts, Asks}
+use Rattle.door_moments.proofs.Moments.{no_act, act_once, act_both}
 
 tells_both : (more : Bool) (told moments first : List ℕ) → Tells more told moments → Tells more (first ++ told) (first ++ moments)
 tells_both true told moments first (last, is) = (last, ap (λ l. first ++ l) is ∙ sym (append_assoc first moments (last ∷ [])))
@@ -49,3 +49,14 @@ module _ (tells alone : Type 0) (settings : SettingsView) where
         each = subst (λ l. Tells more (l ++ y.clock) (x.moments ++ y.moments)) (sym x.each) (tells_both more y.clock y.moments x.moments y.each);
         acts = λ is. act_both alone settings d e f x.moments y.moments (x.acts is) (y.acts is);
       }
+
+  -- after one event, if it came
+  pub event_asks_if : {T E : Type 0} (result : Result T E) (d e : DoorView) (a b : Option (List ℕ)) (moment : ℕ) → Appends a b (moment ∷ [])
+      → OnOk result (tells → MakesEvent settings moment d e) → OnOk result (tells → alone → IsOneMore d e) → OnOk result (Asks tells alone settings false d e a b)
+  event_asks_if (Ok x) d e a b moment asks made few = event_asks d e a b moment asks made few
+  event_asks_if (Err f) d e a b moment asks made few = tt
+
+  pub untold_asks_if : {T E : Type 0} (result : Result T E) (d e : DoorView) (a b : Option (List ℕ)) (moment : ℕ) (stays : Type 0) → (tells → Legal settings d.seen) → Appends a b (moment ∷ [])
+      → OnErr result ((tells → e ≡ d) × stays) → OnErr result (Asks tells alone settings true d e a b)
+  untold_asks_if (Ok x) d e a b moment stays legal asks same = tt
+  untold_asks_if (Err f) d e a b moment stays legal asks same = untold_asks d e a b moment legal same.0 asks

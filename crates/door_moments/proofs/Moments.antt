@@ -15,7 +15,7 @@ use Rattle.realm_door.specs.Steps.{event_at}
 use Rattle.realm_door.specs.Turns.{MakesEvent, IsOneMore}
 use Rattle.realm_door.proofs.Others.{none_by}
 use Rattle.realm_door.proofs.Steps.{grows_none, grows_both}
-use Rattle.admin_api.specs.Jobs.{own_moments, OnlyOwn, Acts}
+use Rattle.door_moments.specs.Acts.{own_moments, OnlyOwn, Acts}
 
 -- ---- own moments
 

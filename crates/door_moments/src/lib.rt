@@ -1,0 +1,7 @@
+//! The events that an actor makes through a door, and the moments that are asked of a clock for them: one for each event,
+//! and one more or not.
+#![tactic(auto)]
+
+mod laws;
+
+pub use laws::asking_adds_up;
