@@ -2,6 +2,7 @@
 #![tactic(auto)]
 
 mod error;
+mod guesses;
 mod lookup;
 mod object;
 mod place;

@@ -153,7 +153,16 @@ impl Pool {
         if self.sweep.is_due(self.objects.len()) {
             self.forget_emptied();
         }
-        self.insert(alloc, key)
+        let number = self.insert(alloc, key)?;
+        self.note(alloc, key, number);
+        Ok(number)
+    }
+
+    // Looks for the key under this number first from now on.
+    fn note(&mut self, alloc: Global, key: &Key, number: usize)
+        ensures { self.new ≡ self.old }
+    {
+        self.objects.note(alloc, key, number);
     }
 
     // Forgets what is kept for objects that do not exist.

@@ -13,6 +13,7 @@ ghost use Rattle.object_pool.specs.Stored.{is_stored};
 ghost use Rattle.object_pool.specs.Shelves.{IsShelf, IsSwept, HasKey, is_stored_at, left_of};
 ghost use Rattle.object_pool.specs.ShelfLending.{LendsStored};
 
+use crate::guesses::Guesses;
 use crate::object::Stored;
 use omap_pages::OutOfMemory;
 use rgw_types::Key;
@@ -30,11 +31,13 @@ pub(crate) struct Kept {
 }
 
 // Contracts see the objects by their keys, in the order of these. A call that is told the number of
-// a key looks there first, and in the map of the numbers only where another key has it.
+// a key looks there first, one that is told none under the number that is guessed, and in the map of
+// the numbers only where another key has it.
 #[derive(Drop)]
 pub(crate) struct Shelf {
     numbers: BTreeMap<Key, usize>,
     kept: Slab<Kept>,
+    guesses: Guesses,
 }
 
 impl Model for Shelf {
@@ -55,6 +58,7 @@ impl Shelf {
         Shelf {
             numbers: BTreeMap::new(alloc),
             kept: Slab::new(alloc),
+            guesses: Guesses::new(alloc),
         }
     }
 
@@ -67,7 +71,16 @@ impl Shelf {
     pub(crate) fn number_of(&self, key: &Key) -> Option<usize>
         ensures { is_some result ≡ is_some (lookup (is_key key.now) self.now) }
     {
-        self.numbers.get(key).copied()
+        let guess = self.guesses.number_of(key);
+        locate(&self.numbers, &self.kept, guess, key)
+    }
+
+    // Looks for the key under this number first from now on.
+    pub(crate) fn note(&mut self, alloc: Global, key: &Key, number: usize)
+        ensures { self.new ≡ self.old }
+    {
+        let objects = self.numbers.len();
+        self.guesses.note(alloc, objects, key, number);
     }
 
     // What the key has. Its number is tried first.

@@ -4,4 +4,4 @@ use Rattle.object_pool.proofs.ShelfLemmas.{number_or_not}
 use Rattle.object_pool.proofs.shelf.Shelf.number_of.Goals as goal
 
 pub returns : goal.returns
-returns c = ap is_some (c.copied.ensures ∙ c.get.ensures.value) ∙ number_or_not c.self.inside.kept c.self.inside.numbers.entries _ (is_key c.args.key.now) c.self.view_is
+returns c = ap is_some c.locate.ensures ∙ number_or_not c.self.inside.kept c.self.inside.numbers.entries _ (is_key c.args.key.now) c.self.view_is
