@@ -1,6 +1,7 @@
 mod callers;
 
 use super::{NoSpace, OutOfMemory, Pool};
+use crate::guesses::Guesses;
 use rgw_types::{Bytes, Key, PartNumber, Text};
 use std::alloc::Global;
 use std::test::Fail;
@@ -222,4 +223,22 @@ fn spare_rows_at_their_greatest(rt: HostRuntime) -> Result<(), Fail> {
     let len = place.row(b"sixteen letters.").ok_or("the row")?.len();
     assert_eq!(rt; len, 1_040);
     Ok(())
+}
+
+// A guess gives way only where five keys meet in one group, of which there are 512 in the end.
+#[test]
+fn most_numbers_are_guessed(rt: HostRuntime) {
+    let mut guesses = Guesses::new(rt.alloc());
+    for number in 0..1_000 {
+        guesses.note(rt.alloc(), number, &tail(number), number);
+    }
+    let right = (0..1_000).filter(|number| guesses.number_of(&tail(*number)) == *number);
+    assert!(rt; right.count() >= 900);
+}
+
+fn tail(number: usize) -> Key {
+    Key::Tail {
+        write: number as u64,
+        part: PartNumber::new(1),
+    }
 }
