@@ -91,6 +91,19 @@ raw_less version revision row count ts p start end some is ends =
     ap (λ z. splice z start end []) parts ∙ splice_piece (front ++ before) (tag_bytes s.0) behind [] start end long (omega (arith, ends, length-tag_bytes s.0))
     ∙ append_assoc front before behind ∙ ap (λ z. front ++ z) (sym (tags_bytes-append (take p ts) (drop (suc p) ts)))
 
+-- the number of tags and the first of them, which stand side by side, with another number in their place
+pub raw_less_first : (version revision : ℕ) (row : RowView) (count next : ℕ) (ts : List Tag) (start end : ℕ) → 0 < length ts → start ≡ 19 + length (row_bytes row) → end ≡ start + 24
+    → splice (raw version revision row count ts) start end (number_bytes next) ≡ raw version revision row next (remove ts 0)
+raw_less_first version revision row count next [] start end some is ends = absurd (omega (arith, some))
+raw_less_first version revision row count next (t ∷ ts) start end some is ends =
+    let front = body version revision row in
+    let gone = number_bytes count ++ tag_bytes t in
+    let parts : raw version revision row count (t ∷ ts) ≡ front ++ (gone ++ tags_bytes ts) =
+    at_count version revision row count (t ∷ ts) ∙ ap (λ z. front ++ z) (sym (append_assoc (number_bytes count) (tag_bytes t) (tags_bytes ts))) in
+    ap (λ z. splice z start end (number_bytes next)) parts
+    ∙ splice_piece front gone (tags_bytes ts) (number_bytes next) start end (long_body version revision row ∙ sym is) (omega (arith, ends, length-append (number_bytes count) (tag_bytes t), length-number_bytes count, length-tag_bytes t))
+    ∙ sym (at_count version revision row next ts)
+
 pub raw_more : (version revision : ℕ) (row : RowView) (count : ℕ) (ts : List Tag) (t : Tag) (start end : ℕ) → start ≡ 27 + length (row_bytes row) + 16 * length ts → end ≡ start
     → splice (raw version revision row count ts) start end (tag_bytes t) ≡ raw version revision row count (ts ++ t ∷ [])
 raw_more version revision row count ts t start end is ends =

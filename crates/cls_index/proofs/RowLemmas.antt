@@ -18,7 +18,7 @@ use Rattle.index_entry.proofs.EntryLemmas.{length-entry_bytes, no_row_written}
 use Rattle.class_words.specs.Shards.{HasEntry}
 use Rattle.class_words.proofs.WorksLemmas.{works_on_rows_then}
 use Rattle.cls_index.specs.Rows.{KeepsToName}
-use Rattle.cls_index.proofs.RawLemmas.{raw, raw_count, raw_front, raw_less, raw_more, raw_revision}
+use Rattle.cls_index.proofs.RawLemmas.{raw, raw_count, raw_front, raw_less, raw_less_first, raw_more, raw_revision}
 use Rattle.cls_index.proofs.TagLemmas.{all_with, all_without, rise_less, rise_more}
 
 pub some_same : {X : Type 0} (x y : X) → Some x ≡ Some y → x ≡ y
@@ -53,6 +53,12 @@ pub count_row : (c d : Contents) (name : List ℕ) (e : EntryView) (count next :
 count_row c d name e count next ts bytes start end here is at ends splices =
     splices (raw e.version e.revision e.row count ts) here ∙ ap (λ b. Some (splice (raw e.version e.revision e.row count ts) start end b)) is
     ∙ ap Some (raw_count e.version e.revision e.row count next ts start end at ends)
+
+pub first_row : (c d : Contents) (name : List ℕ) (e : EntryView) (next : ℕ) (bytes : List ℕ) (start end : ℕ) → HasEntry c name (Some e) → 0 < length e.tags → bytes ≡ number_bytes next
+    → start ≡ 19 + length (row_bytes e.row) → end ≡ start + 24 → Splices c d name start end bytes → value_at d.rows name ≡ Some (raw e.version e.revision e.row next (remove e.tags 0))
+first_row c d name e next bytes start end has some is at ends splices =
+    splices (entry_bytes e) has.row ∙ ap (λ b. Some (splice (entry_bytes e) start end b)) is
+    ∙ ap Some (raw_less_first e.version e.revision e.row (length e.tags) next e.tags start end some at ends)
 
 pub revision_row : (c d : Contents) (name : List ℕ) (e : EntryView) (next : ℕ) (bytes : List ℕ) → HasEntry c name (Some e) → bytes ≡ number_bytes next → Splices c d name 11 19 bytes
     → value_at d.rows name ≡ Some (entry_bytes (record e { revision = next }))

@@ -45,7 +45,7 @@ pub(crate) fn front_at(shard: &Place<'_>, name: &[u8]) -> Option<EntryFront>
 }
 
 /// What the bytes of an entry say before its tags. No slice has more than 2^63 bytes.
-fn front_in(bytes: &[u8]) -> Option<EntryFront>
+pub(crate) fn front_in(bytes: &[u8]) -> Option<EntryFront>
     ensures exact { (e : EntryView) → IsEntry e → bytes.now ≡ entry_bytes e → result ≡ Some (front_of e) }
     ensures few { IfSome result (λ f. f.tags_start + 16 * f.tags < 2 ^ 63) }
 {
@@ -81,10 +81,25 @@ pub(crate) fn take_tag(shard: &mut Place<'_>, name: &[u8], front: &EntryFront, p
     ensures entry { (e : EntryView) → HasEntry (rows_of shard.old) name.now (Some e) → front.now ≡ front_of e → place < length e.tags
         → HasEntry (rows_of shard.new) name.now (Some (record e { tags = remove e.tags place })) }
 {
+    if place == 0 {
+        return take_first_tag(shard, name, front);
+    }
     let start = front.tags_start + TAG * place;
     splice(shard, name, start, TAG, &[]);
     let count = number(front.tags - 1);
     splice(shard, name, front.tags_start - 8, 8, &count);
+}
+
+/// Takes the first tag from the entry of a name. The number of tags stands right before it.
+fn take_first_tag(shard: &mut Place<'_>, name: &[u8], front: &EntryFront)
+    requires there { (e : EntryView) × HasEntry (rows_of shard.old) name.now (Some e) × (front.now ≡ front_of e) × (0 < length e.tags) }
+    requires few { front.now.tags_start + 16 * front.now.tags < 2 ^ 63 }
+    ensures only { KeepsToName shard.old shard.new name.now }
+    ensures entry { (e : EntryView) → HasEntry (rows_of shard.old) name.now (Some e) → front.now ≡ front_of e → 0 < length e.tags
+        → HasEntry (rows_of shard.new) name.now (Some (record e { tags = remove e.tags 0 })) }
+{
+    let count = number(front.tags - 1);
+    splice(shard, name, front.tags_start - 8, 8 + TAG, &count);
 }
 
 /// Adds a tag behind those of the entry of a name.

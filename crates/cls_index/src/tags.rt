@@ -9,7 +9,7 @@ ghost use Rattle.index_entry.specs.Layouts.{IsEntry, entry_bytes, front_of};
 ghost use Rattle.class_words.specs.Shards.{HasEntry};
 ghost use Rattle.cls_index.specs.Rows.{KeepsToName};
 
-use crate::rows::{front_at, take_tag};
+use crate::rows::{front_in, take_tag};
 use index_entry::{EntryFront, tag_at};
 use object_pool::Place;
 use object_words::Tag;
@@ -22,15 +22,15 @@ fn tag_of(shard: &Place<'_>, name: &[u8], place: u64) -> Tag
     tag_at(shard.row(name).unwrap(), place)
 }
 
-/// The place of a tag in the entry of a name.
-fn place_of(shard: &Place<'_>, name: &[u8], count: u64, tag: u64) -> Option<u64>
-    requires { (e : EntryView) × HasEntry (rows_of shard.now) name.now (Some e) × (count ≡ length e.tags) }
-    ensures found { (e : EntryView) → HasEntry (rows_of shard.now) name.now (Some e) → count ≡ length e.tags → is_some result ≡ has_tag tag e.tags }
-    ensures place { IfSome result (λ place. (e : EntryView) → HasEntry (rows_of shard.now) name.now (Some e) → count ≡ length e.tags
+/// The place of a tag in an entry.
+fn place_of(bytes: &[u8], count: u64, tag: u64) -> Option<u64>
+    requires { (e : EntryView) × IsEntry e × (bytes.now ≡ entry_bytes e) × (count ≡ length e.tags) }
+    ensures found { (e : EntryView) → IsEntry e → bytes.now ≡ entry_bytes e → count ≡ length e.tags → is_some result ≡ has_tag tag e.tags }
+    ensures place { IfSome result (λ place. (e : EntryView) → IsEntry e → bytes.now ≡ entry_bytes e → count ≡ length e.tags
         → (place < length e.tags) × (without_tag tag e.tags ≡ remove e.tags place)) }
 {
     for place in 0..count {
-        if tag_of(shard, name, place).tag == tag {
+        if tag_at(bytes, place).tag == tag {
             return Some(place);
         }
     }
@@ -45,8 +45,9 @@ pub(crate) fn find_tag(shard: &Place<'_>, name: &[u8], tag: u64) -> Option<(Entr
         → (found ≡ Some (entry_of found)) × (r.0 ≡ front_of (entry_of found)) × (r.1 < length (entry_of found).tags) × (without_tag tag (entry_of found).tags ≡ remove (entry_of found).tags r.1)) }
     ensures few { IfSome result (λ r. r.0.tags_start + 16 * r.0.tags < 2 ^ 63) }
 {
-    let front = front_at(shard, name)?;
-    let place = place_of(shard, name, front.tags, tag)?;
+    let bytes = shard.row(name)?;
+    let front = front_in(bytes)?;
+    let place = place_of(bytes, front.tags, tag)?;
     Some((front, place))
 }
 
