@@ -1,11 +1,14 @@
 //! How strings of bytes compare, eight bytes at a time.
 #![tactic(auto)]
 
-ghost use Rattle.std.specs.Prelude.{◌≡◌, ◌+◌, ◌≤◌, length, drop};
+mod head;
+
+ghost use Rattle.std.specs.Prelude.{◌≡◌};
 ghost use Rattle.std.specs.Ordering.{nat_cmp};
 ghost use Rattle.std.specs.Cmp.Lexicographic.{slice_cmp};
-ghost use Rattle.byte_order.specs.Words.{IsWord};
 
+pub use head::head_of;
+use head::word_at;
 use std::cmp::Ordering;
 
 #[cfg(test)]
@@ -31,12 +34,4 @@ pub fn compare(one: &[u8], other: &[u8]) -> Ordering
         at = from + 8;
     }
     one.len().cmp(&other.len())
-}
-
-// The eight bytes of a string from a place on, the first of them highest.
-fn word_at(bytes: &[u8], at: usize) -> u64
-    requires { at + 8 ≤ length bytes.now }
-    ensures { IsWord (drop at bytes.now) result }
-{
-    u64::from_be_bytes(*bytes[at..at + 8].as_array::<8>().unwrap())
 }

@@ -2,6 +2,7 @@ ghost use Rattle.std.specs.Prelude.{◌≡◌};
 ghost use Rattle.list_words.specs.Listings.{is_before};
 
 use crate::Key;
+use byte_order::compare;
 use object_words::{BucketName, ObjectName};
 use rgw_types::Text;
 use std::alloc::{AllocError, Global};
@@ -115,7 +116,7 @@ impl ListCommand {
 fn is_before(one: &str, other: &str) -> bool
     ensures { result ≡ is_before one.now other.now }
 {
-    one.as_bytes().cmp(other.as_bytes()).is_lt()
+    compare(one.as_bytes(), other.as_bytes()).is_lt()
 }
 
 /// A text that mostly is the greatest of those below this one that are not long.

@@ -3,7 +3,6 @@ pub mod CutLemmas
 pub mod DirectoryLemmas
 pub mod FilterLemmas
 pub mod FlatLemmas
-pub mod HeadLemmas
 pub mod KeyLemmas
 pub mod LeavesLemmas
 pub mod PageLemmas

@@ -1,6 +1,5 @@
 pub mod Cells
 pub mod Contents
-pub mod Heads
 pub mod LeafLending
 pub mod Leaves
 pub mod LeavesLending

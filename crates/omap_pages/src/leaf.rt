@@ -2,7 +2,7 @@
 ghost use Rattle.std.specs.Prelude.{◌≡◌, ◌+◌, ◌<◌, ◌≤◌, ◌==◌, ◌/◌, ◌↔◌, [], ◌++◌, length, take, drop, vec_len, vec_capacity, slice_index_or, IsTrue, IfOk, IfErr};
 ghost use Rattle.std.specs.FinMap.Entries.{is_sorted};
 ghost use Rattle.std.specs.List.{insert, remove, remove_range};
-ghost use Rattle.omap_pages.specs.Heads.{IsHead};
+ghost use Rattle.byte_order.specs.Words.{IsWord};
 ghost use Rattle.omap_pages.specs.Leaves.{first_key_of};
 ghost use Rattle.omap_pages.specs.Places.{IsAt, IsGapFor};
 ghost use Rattle.omap_pages.specs.Rows.{key_cmp};
@@ -75,7 +75,7 @@ impl Leaf {
     // How the key of the first row compares with one that has this head. Where there is no row it
     // is the empty key.
     pub(crate) fn cmp_first_key(&self, key: &[u8], head: u64) -> Ordering
-        requires { IsHead key.now head }
+        requires { IsWord key.now head }
         ensures { result ≡ key_cmp (first_key_of self.now) key.now }
     {
         match self.rows.first() {
@@ -87,7 +87,7 @@ impl Leaf {
     // The place of the key, which has this head, or the place where it would go.
     pub(crate) fn search(&self, key: &[u8], head: u64) -> Result<usize, usize>
         requires in_order { IsTrue (is_sorted key_cmp self.now) }
-        requires head { IsHead key.now head }
+        requires head { IsWord key.now head }
         ensures found { IfOk result (IsAt self.now key.now) }
         ensures absent { IfErr result (IsGapFor self.now key.now) }
     {

@@ -3,12 +3,10 @@
 #![tactic(auto)]
 
 mod error;
-mod head;
 mod leaf;
 mod leaves;
 mod lookup;
 mod omap;
-mod order;
 mod page;
 mod place;
 mod row;

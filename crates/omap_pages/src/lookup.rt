@@ -6,9 +6,9 @@ ghost use Rattle.omap_pages.specs.Leaves.{flat, position, AreLeaves, IsPlace, Is
 ghost use Rattle.omap_pages.specs.Places.{IsAt, IsGapFor, IsPartedAt};
 ghost use Rattle.omap_pages.specs.Rows.{key_cmp};
 
-use crate::head::head_of;
 use crate::leaf::Leaf;
 use crate::place::Place;
+use byte_order::head_of;
 
 // The place of the key, or the place where it would go.
 pub(crate) fn search(leaves: &[Leaf], key: &[u8]) -> Result<Place, Place>

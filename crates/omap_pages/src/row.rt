@@ -1,11 +1,10 @@
 ghost use Rattle.std.specs.Prelude.{◌≡◌, ◌+◌, ◌≤◌, ◌++◌, length, max, vec_len, vec_capacity, IsOk, OnOk, OnErr};
 ghost use Rattle.std.specs.List.{splice};
 ghost use Rattle.omap_pages.specs.Cells.{values_of};
-ghost use Rattle.omap_pages.specs.Heads.{IsHead};
+ghost use Rattle.byte_order.specs.Words.{IsWord};
 ghost use Rattle.omap_pages.specs.Rows.{key_cmp};
 
-use crate::head::head_of;
-use crate::order::order;
+use byte_order::{compare, head_of};
 use rgw_types::Bytes;
 use std::alloc::{AllocError, Global};
 use std::cmp::Ordering;
@@ -23,14 +22,14 @@ pub(crate) struct Row {
 impl Model for Row {
     ghost use Rattle.std.specs.Prelude.{ℕ, List, vec_capacity};
     ghost use Rattle.omap_pages.specs.Cells.{Cell};
-    ghost use Rattle.omap_pages.specs.Heads.{IsHead};
+    ghost use Rattle.byte_order.specs.Words.{IsWord};
 
     ghost Value = { List ℕ × Cell };
 
     ghost view = { λ row.
         (row.key.items, record { value = row.value.items; room = vec_capacity row.value }) };
 
-    ghost invariant = { λ row. IsHead row.key.items row.head };
+    ghost invariant = { λ row. IsWord row.key.items row.head };
 }
 
 impl Row {
@@ -45,11 +44,11 @@ impl Row {
 
     // How the row's key compares with one that has this head.
     pub(crate) fn cmp_key(&self, key: &[u8], head: u64) -> Ordering
-        requires { IsHead key.now head }
+        requires { IsWord key.now head }
         ensures { result ≡ key_cmp self.now.0 key.now }
     {
         if self.head == head {
-            order(self.key.as_slice(), key)
+            compare(self.key.as_slice(), key)
         } else {
             self.head.cmp(&head)
         }

@@ -1,6 +1,7 @@
 ghost use Rattle.std.specs.Str.{IsUtf8};
 ghost use Rattle.std.specs.Prelude.{◌≡◌, ◌==◌, ◌++◌, ◌↔◌, [], length, IfOk, OnOk, OnErr, IsTrue, string_bytes};
 
+use byte_order::compare;
 use std::alloc::{AllocError, Global};
 use std::cmp::Ordering;
 use std::fmt;
@@ -176,6 +177,6 @@ impl Ord for Text {
     ghost matches_eq = { texts_ties };
 
     fn cmp(&self, other: &Text) -> Ordering {
-        self.value.as_bytes().cmp(other.value.as_bytes())
+        compare(self.value.as_bytes(), other.value.as_bytes())
     }
 }

@@ -2,7 +2,7 @@ use Rattle.std.proofs.Common.{◌+◌, ◌-◌, take, drop, ap, ◌∙◌, arith
 use Rattle.std.specs.Int.{w64, from_be_bytes}
 use Rattle.std.specs.Array.{IsWholeChunk}
 use Rattle.byte_order.proofs.WordLemmas.{word_at}
-use Rattle.byte_order.proofs.word_at.Goals as goal
+use Rattle.byte_order.proofs.head.word_at.Goals as goal
 
 pub returns : goal.returns
 returns c =
