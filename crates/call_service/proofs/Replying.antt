@@ -65,8 +65,8 @@ fate_text form asked read_whole outcome shown a b whole is = any_actor form aske
 fate_text form asked (broken_off why) outcome shown a b whole is = let clash : true ≡ false = whole in absurd (cc)
 fate_text form asked unread outcome shown a b whole is = left_text form asked outcome shown a is ∙ any_actor form asked unread outcome shown a b
 
-module _ (zone : ℕ) (asker : Asker) (body shown : List ℕ) (y : Account) (events : List OwnEvent) where
-  left_borne : (asked : Asked) (outcome : Outcome) → IsUnwanted asked → is_by_end outcome ≡ false → IsBorneOut zone asker asked read_whole body outcome shown y events → IsBorneOut zone asker asked unread body outcome shown y events
+module _ (stripe zone : ℕ) (asker : Asker) (body shown : List ℕ) (y : Account) (events : List OwnEvent) where
+  left_borne : (asked : Asked) (outcome : Outcome) → IsUnwanted asked → is_by_end outcome ≡ false → IsBorneOut stripe zone asker asked read_whole body outcome shown y events → IsBorneOut stripe zone asker asked unread body outcome shown y events
   left_borne BadHost outcome unwanted is borne = absurd borne
   left_borne (Refused why) outcome unwanted is borne = absurd borne
   left_borne (Put c) outcome unwanted is borne = absurd unwanted
@@ -75,7 +75,7 @@ module _ (zone : ℕ) (asker : Asker) (body shown : List ℕ) (y : Account) (eve
   left_borne (Listing c listing) BodyFailed unwanted is borne = let clash : true ≡ false = is in absurd (cc)
   left_borne (Listing c listing) outcome unwanted is borne = borne
 
-  fate_borne : (asked : Asked) (fate : Fate) (outcome : Outcome) → IsUnwanted asked → is_broken fate ≡ false → is_by_end outcome ≡ false → IsBorneOut zone asker asked read_whole body outcome shown y events → IsBorneOut zone asker asked fate body outcome shown y events
+  fate_borne : (asked : Asked) (fate : Fate) (outcome : Outcome) → IsUnwanted asked → is_broken fate ≡ false → is_by_end outcome ≡ false → IsBorneOut stripe zone asker asked read_whole body outcome shown y events → IsBorneOut stripe zone asker asked fate body outcome shown y events
   fate_borne asked read_whole outcome unwanted whole is borne = borne
   fate_borne asked (broken_off why) outcome unwanted whole is borne = let clash : true ≡ false = whole in absurd (cc)
   fate_borne asked unread outcome unwanted whole is borne = left_borne asked outcome unwanted is borne
@@ -145,7 +145,7 @@ module _ (tells alone : Type 0) (site : Site) (form : ReplyForm) (asked : Asked)
 
     borne : (outcome : Outcome) (shown : List ℕ) → is_by_end outcome ≡ false → BearsOut site asked read_whole body outcome shown y.door → BearsOut site asked fate body outcome shown y.door
     borne outcome shown is right =
-        fate_borne site.zone site.asker body shown (account_of site.settings y.door.seen (actor_at y.door)) (own_events y.door.seen (actor_at y.door)) asked fate outcome unwanted whole is right
+        fate_borne site.settings.stripe site.zone site.asker body shown (account_of site.settings y.door.seen (actor_at y.door)) (own_events y.door.seen (actor_at y.door)) asked fate outcome unwanted whole is right
 
     abbrev in_part : (more : Bool) → Asks tells alone site.settings more d y.door told y.ends.told → Replies tells site form asked y.door (AppendsFront x.ends.taken y.ends.taken) → IsInPart tells alone site form asked plan x y
     in_part more asks part = record {

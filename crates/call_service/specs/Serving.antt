@@ -93,7 +93,7 @@ form_at form unread = record form { close = true }
 -- the present actor's account and events bear out that its task ended so, over a body of that fate
 abbrev pub BearsOut : Site → Asked → Fate → List ℕ → Outcome → List ℕ → DoorView → Type 0
 BearsOut site asked fate body outcome shown e =
-    IsBorneOut site.zone site.asker asked fate body outcome shown (account_of site.settings e.seen (actor_at e)) (own_events e.seen (actor_at e))
+    IsBorneOut site.settings.stripe site.zone site.asker asked fate body outcome shown (account_of site.settings e.seen (actor_at e)) (own_events e.seen (actor_at e))
 
 -- ---- good ends
 

@@ -15,13 +15,13 @@ use Rattle.call_words.specs.Calls.{Ground, alone, task, Call, IsBorneOut, RestsO
 module _ (settings : SettingsView) (zone : ℕ) (asker : Asker) (pass : ℕ) (history later : List Event) where
   borne : (asked : Asked) (fate : Fate) (body shown : List ℕ) (actor : ℕ) (outcome : Outcome)
       → IsSame settings history later (actor_of_pass pass actor)
-      → IsBorneOut zone asker asked fate body outcome shown (account_of settings history (actor_of_pass pass actor)) (own_events history (actor_of_pass pass actor))
-      → IsBorneOut zone asker asked fate body outcome shown (account_of settings later (actor_of_pass pass actor)) (own_events later (actor_of_pass pass actor))
+      → IsBorneOut settings.stripe zone asker asked fate body outcome shown (account_of settings history (actor_of_pass pass actor)) (own_events history (actor_of_pass pass actor))
+      → IsBorneOut settings.stripe zone asker asked fate body outcome shown (account_of settings later (actor_of_pass pass actor)) (own_events later (actor_of_pass pass actor))
   borne asked fate body shown actor outcome same b =
       let account : account_of settings later (actor_of_pass pass actor) ≡ account_of settings history (actor_of_pass pass actor) =
       ap (λ (q : Doings). q.account) same.doings in
-      let moved = subst (λ (y : Account). IsBorneOut zone asker asked fate body outcome shown y (own_events history (actor_of_pass pass actor))) (sym account) b in
-      subst (λ (events : List OwnEvent). IsBorneOut zone asker asked fate body outcome shown (account_of settings later (actor_of_pass pass actor)) events) (sym same.events) moved
+      let moved = subst (λ (y : Account). IsBorneOut settings.stripe zone asker asked fate body outcome shown y (own_events history (actor_of_pass pass actor))) (sym account) b in
+      subst (λ (events : List OwnEvent). IsBorneOut settings.stripe zone asker asked fate body outcome shown (account_of settings later (actor_of_pass pass actor)) events) (sym same.events) moved
 
   -- the calls from this actor on use actors up to the last
   pub in_order : (next : ℕ) (calls : List Call) (last : ℕ) → AreRight settings zone asker pass history next calls last → next ≤ last

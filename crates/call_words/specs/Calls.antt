@@ -26,6 +26,7 @@ use Rattle.task_words.specs.declared.outcome.Outcome.TheVariants.{Done, BodyFail
 use Rattle.task_words.specs.declared.reply.MapReply.TheVariants.{Shown, Refused as Refuses}
 use Rattle.task_words.specs.declared.reply.Refusal.TheVariants.{Unauthorized, Denied, NoContainer}
 use Rattle.task_words.specs.Answers.{get, answer, deed_of, span_of}
+use Rattle.task_words.specs.Cuts.{AreCut}
 use Rattle.task_words.specs.Outcomes.{Body, Granted, IsGetOutcome, IsPutOutcome}
 use Rattle.task_list.specs.Listed.{IsListOutcome, AreOfListing}
 use Rattle.task_list.specs.declared.request.ListRequest.{ListRequest}
@@ -116,16 +117,23 @@ abbrev pub IsListEnd : ListRequest → Fate → Outcome → Account → List Own
 IsListEnd r fate BodyFailed y events = Granted r.zone r.asker r.command.container ListContainer y
 IsListEnd r fate outcome y events = IsListOutcome r outcome y events × IsEarly fate outcome
 
--- the account and the events of an actor bear the end of its task out, and the events are those that such a task makes
-abbrev pub IsBorneOut : ℕ → Asker → Asked → Fate → List ℕ → Outcome → List ℕ → Account → List OwnEvent → Type 0
-IsBorneOut zone asker BadHost fate body outcome shown y events = ⊥
-IsBorneOut zone asker (Refused why) fate body outcome shown y events = ⊥
-IsBorneOut zone asker (Put c) fate body outcome shown y events =
+-- the events of a PUT cut its body; of one that broke off, some bytes came
+abbrev pub IsCutBy : ℕ → ℕ → Fate → List ℕ → List OwnEvent → Type 0
+IsCutBy stripe zone (broken_off why) body events = (came : List ℕ) × AreCut zone stripe came events
+IsCutBy stripe zone fate body events = AreCut zone stripe body events
+
+-- the account and the events of an actor bear the end of its task out, and the events are those that such a task makes, of
+-- stripes of this size
+abbrev pub IsBorneOut : ℕ → ℕ → Asker → Asked → Fate → List ℕ → Outcome → List ℕ → Account → List OwnEvent → Type 0
+IsBorneOut stripe zone asker BadHost fate body outcome shown y events = ⊥
+IsBorneOut stripe zone asker (Refused why) fate body outcome shown y events = ⊥
+IsBorneOut stripe zone asker (Put c) fate body outcome shown y events =
     IsPutOutcome zone asker c (body_at fate body) outcome y events × HasReply (told_reply None fate outcome) × (shown ≡ []) × AreOfPut events
-IsBorneOut zone asker (Get c) fate body outcome shown y events =
+    × IsCutBy stripe zone fate body events
+IsBorneOut stripe zone asker (Get c) fate body outcome shown y events =
     IsGetEnd zone asker c fate outcome y × HasReply (told_reply (span_of c) fate outcome) × AreShownBy zone c outcome shown y.decided
     × AreOfGet events
-IsBorneOut zone asker (Listing c listing) fate body outcome shown y events =
+IsBorneOut stripe zone asker (Listing c listing) fate body outcome shown y events =
     IsListEnd (record { zone = zone; asker = asker; command = c }) fate outcome y events × HasReply (told_list listing fate outcome)
     × (shown ≡ []) × AreOfListing events
 
@@ -141,7 +149,7 @@ IsRefused (Listing c listing) = ⊥
 abbrev pub RestsOn : SettingsView → ℕ → Asker → ℕ → List Event → Asked → Fate → List ℕ → List ℕ → Ground → Type 0
 RestsOn settings zone asker pass history asked fate body shown alone = IsRefused asked × (shown ≡ [])
 RestsOn settings zone asker pass history asked fate body shown (task actor outcome) =
-    IsBorneOut zone asker asked fate body outcome shown
+    IsBorneOut settings.stripe zone asker asked fate body outcome shown
     (account_of settings history (actor_of_pass pass actor)) (own_events history (actor_of_pass pass actor))
 
 -- the reply to a call is right in a history

@@ -113,9 +113,9 @@ list_end r fate (LateRead read_at clock) events x = list_outcome r (LateRead rea
 list_end r fate (NoSpace free needed) events x = list_outcome r (NoSpace free needed) events x.0
 
 -- nothing is borne out by an actor without events
-pub not_blank : (zone : ℕ) (asker : Asker) (asked : Asked) (fate : Fate) (body shown : List ℕ) (outcome : Outcome) (events : List OwnEvent) → IsBorneOut zone asker asked fate body outcome shown blank events → ⊥
-not_blank zone asker BadHost fate body shown outcome events x = x
-not_blank zone asker (Refused why) fate body shown outcome events x = x
-not_blank zone asker (Put c) fate body shown outcome events x = put_outcome zone asker c (body_at fate body) outcome events x.0
-not_blank zone asker (Get c) fate body shown outcome events x = get_end zone asker c fate outcome x.0
-not_blank zone asker (Listing c l) fate body shown outcome events x = list_end (record { zone = zone; asker = asker; command = c }) fate outcome events x.0
+pub not_blank : (stripe zone : ℕ) (asker : Asker) (asked : Asked) (fate : Fate) (body shown : List ℕ) (outcome : Outcome) (events : List OwnEvent) → IsBorneOut stripe zone asker asked fate body outcome shown blank events → ⊥
+not_blank stripe zone asker BadHost fate body shown outcome events x = x
+not_blank stripe zone asker (Refused why) fate body shown outcome events x = x
+not_blank stripe zone asker (Put c) fate body shown outcome events x = put_outcome zone asker c (body_at fate body) outcome events x.0
+not_blank stripe zone asker (Get c) fate body shown outcome events x = get_end zone asker c fate outcome x.0
+not_blank stripe zone asker (Listing c l) fate body shown outcome events x = list_end (record { zone = zone; asker = asker; command = c }) fate outcome events x.0

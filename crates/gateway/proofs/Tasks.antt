@@ -67,16 +67,16 @@ module _ (alone : Type 0) (site : Site) (d e : DoorView) (moments : List ℕ) (m
       → IsSettled alone site d e (record { request = record { head = head; body = body }; asked = asked; fate = fate; ground = task (next_count d) outcome; shown = shown })
   settled_by asked head fate body shown outcome right =
       let own = actor_of_pass d.pass (next_count d) in
-      let there : IsBorneOut site.zone site.asker asked fate body outcome shown (account_of site.settings e.seen own) (own_events e.seen own) =
-      subst (λ (a : ActorId). IsBorneOut site.zone site.asker asked fate body outcome shown (account_of site.settings e.seen a) (own_events e.seen a)) same_actor_at right in
+      let there : IsBorneOut site.settings.stripe site.zone site.asker asked fate body outcome shown (account_of site.settings e.seen own) (own_events e.seen own) =
+      subst (λ (a : ActorId). IsBorneOut site.settings.stripe site.zone site.asker asked fate body outcome shown (account_of site.settings e.seen a) (own_events e.seen a)) same_actor_at right in
       record {
         of_next = refl;
         right = there;
         last = elim (grown_count site.settings d e acts.grows) [
           | inl next ↦ next
           | inr same ↦
-              absurd (not_blank site.zone site.asker asked fate body shown outcome (own_events e.seen own)
-              (subst (λ (y : Account). IsBorneOut site.zone site.asker asked fate body outcome shown y (own_events e.seen own))
+              absurd (not_blank site.settings.stripe site.zone site.asker asked fate body shown outcome (own_events e.seen own)
+              (subst (λ (y : Account). IsBorneOut site.settings.stripe site.zone site.asker asked fate body outcome shown y (own_events e.seen own))
               (ap (λ (v : DoorView). account_of site.settings v.seen own) same ∙ (new_actor site.settings d may).account) there))
         ];
         advances = advances_one site.settings d e may acts.legal acts.grows;

@@ -40,9 +40,9 @@ use Rattle.get_service.specs.Texts.{end_text, StopsEnd}
 use Rattle.get_service.proofs.OwnReads.{stage_reads}
 
 -- the reply is borne out
-pub right_at_first : (r : GetRequest) (why : BodyEnd) (stage : Stage) (y : Account) (p : Phase) (events : List OwnEvent) → IsWrong why → IsBehindRow stage → FitsStage r stage y p events
-    → IsBorneOut r.zone r.asker (Get r.get) (broken_off why) [] (end_at_first stage) [] y events
-right_at_first r why (Open container) y p events wrong first fits = (
+pub right_at_first : (stripe : ℕ) (r : GetRequest) (why : BodyEnd) (stage : Stage) (y : Account) (p : Phase) (events : List OwnEvent) → IsWrong why → IsBehindRow stage → FitsStage r stage y p events
+    → IsBorneOut stripe r.zone r.asker (Get r.get) (broken_off why) [] (end_at_first stage) [] y events
+right_at_first stripe r why (Open container) y p events wrong first fits = (
   (
     record {
       by_row = record {
@@ -60,13 +60,13 @@ right_at_first r why (Open container) y p events wrong first fits = (
   refl,
   stage_reads r (Open container) y p events fits,
 )
-right_at_first r why (Ended (Done (Refused Unauthorized)) given) y p events wrong first fits =
+right_at_first stripe r why (Ended (Done (Refused Unauthorized)) given) y p events wrong first fits =
     ((fits.0.0, tt), tt, refl, stage_reads r (Ended (Done (Refused Unauthorized)) given) y p events fits)
-right_at_first r why (Ended (Done (Refused (Denied rule))) given) y p events wrong first fits =
+right_at_first stripe r why (Ended (Done (Refused (Denied rule))) given) y p events wrong first fits =
     ((fits.0.0, tt), tt, refl, stage_reads r (Ended (Done (Refused (Denied rule))) given) y p events fits)
-right_at_first r why (Ended (Done (Refused NoContainer)) given) y p events wrong first fits =
+right_at_first stripe r why (Ended (Done (Refused NoContainer)) given) y p events wrong first fits =
     ((fits.0.0, tt), tt, refl, stage_reads r (Ended (Done (Refused NoContainer)) given) y p events fits)
-right_at_first r why stage y p events wrong first fits = absurd first
+right_at_first stripe r why stage y p events wrong first fits = absurd first
 
 -- ---- the reply
 

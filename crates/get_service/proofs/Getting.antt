@@ -60,10 +60,10 @@ rests_on_event r (Shown kind meta etag stamp size start count) y is rests = reco
 rests_on_event r reply y is rests = absurd is
 
 -- it is borne out where these bytes are shown
-borne_by_event : (r : GetRequest) (reply : MapReply) (y : Account) (events : List OwnEvent) (shown : List ℕ) (event : Decided) → IsShown reply → IsGetOutcome r.zone r.asker r.get (Done reply) y → y.decided ≡ Some event → shown ≡ shown_at r event → AreOfGet events → IsBorneOut r.zone r.asker (Get r.get) read_whole [] (Done reply) shown y events
-borne_by_event r (Shown kind meta etag stamp size start count) y events shown event is rests decided bytes read =
+borne_by_event : (stripe : ℕ) (r : GetRequest) (reply : MapReply) (y : Account) (events : List OwnEvent) (shown : List ℕ) (event : Decided) → IsShown reply → IsGetOutcome r.zone r.asker r.get (Done reply) y → y.decided ≡ Some event → shown ≡ shown_at r event → AreOfGet events → IsBorneOut stripe r.zone r.asker (Get r.get) read_whole [] (Done reply) shown y events
+borne_by_event stripe r (Shown kind meta etag stamp size start count) y events shown event is rests decided bytes read =
     ((rests, tt), tt, record { event = event; is_last = decided; bytes = bytes }, read)
-borne_by_event r reply y events shown event is rests decided bytes read = absurd is
+borne_by_event stripe r reply y events shown event is rests decided bytes read = absurd is
 
 -- the rest behind a front
 drop_front : (front rest : List ℕ) → drop (length front) (front ++ rest) ≡ rest
@@ -112,14 +112,14 @@ all_but_late r (Done reply) y events m late = all_brought r reply y events m
 all_but_late r (LateRead read_at clock) y events m late = let e : true ≡ false = late in cc
 all_but_late r outcome y events m late = absurd m
 
-borne_without_bytes : (r : GetRequest) (outcome : Outcome) (y : Account) (events : List OwnEvent) → ends_get outcome ≡ true → Means r outcome y events → brought r.get events ≡ [] → IsBorneOut r.zone r.asker (Get r.get) read_whole [] outcome [] y events
-borne_without_bytes r (Done (Shown kind meta etag stamp size start count)) y events ends m none =
+borne_without_bytes : (stripe : ℕ) (r : GetRequest) (outcome : Outcome) (y : Account) (events : List OwnEvent) → ends_get outcome ≡ true → Means r outcome y events → brought r.get events ≡ [] → IsBorneOut stripe r.zone r.asker (Get r.get) read_whole [] outcome [] y events
+borne_without_bytes stripe r (Done (Shown kind meta etag stamp size start count)) y events ends m none =
     let by = m.0.0 in
     let read = means_reads r (Done (Shown kind meta etag stamp size start count)) y events m in
     ((m.0, tt), tt, record { event = by.event; is_last = by.is_last; bytes = sym none ∙ m.1.1 by.event by.is_last }, read)
-borne_without_bytes r (Done (Same etag stamp)) y events ends m none = ((m.0, tt), tt, refl, means_reads r (Done (Same etag stamp)) y events m)
-borne_without_bytes r (Done (Refused refusal)) y events ends m none = ((m.0, tt), tt, refl, means_reads r (Done (Refused refusal)) y events m)
-borne_without_bytes r outcome y events ends m none = let e : false ≡ true = ends in cc
+borne_without_bytes stripe r (Done (Same etag stamp)) y events ends m none = ((m.0, tt), tt, refl, means_reads r (Done (Same etag stamp)) y events m)
+borne_without_bytes stripe r (Done (Refused refusal)) y events ends m none = ((m.0, tt), tt, refl, means_reads r (Done (Refused refusal)) y events m)
+borne_without_bytes stripe r outcome y events ends m none = let e : false ≡ true = ends in cc
 
 ends_by_event : (outcome : Outcome) → ends_get outcome ≡ true → is_by_end outcome ≡ false
 ends_by_event (Done (Shown kind meta etag stamp size start count)) ends = refl
@@ -160,7 +160,7 @@ module _ (tells : Type 0) (settings : SettingsView) (form : ReplyForm) where
             let whole : shown_at r on.event ≡ begun.bytes ++ front.rest = front.joined ∙ ap (λ l. l ++ front.rest) (sym (begun.is_brought is)) in
             let left : rest ≡ front.rest =
             ap (λ o. drop (length begun.bytes) (shown_now r o)) on.decided ∙ ap (drop (length begun.bytes)) whole ∙ drop_front begun.bytes front.rest in
-            borne_by_event r begun.reply y (events_at d) shown on.event begun.shows rests.0 on.decided (ap (λ l. begun.bytes ++ l) left ∙ sym whole)
+            borne_by_event settings.stripe r begun.reply y (events_at d) shown on.event begun.shows rests.0 on.decided (ap (λ l. begun.bytes ++ l) left ∙ sym whole)
             (stage_reads r (stage_of t) y (phase_at settings d) (events_at d) fits.stage);
       }
 
@@ -278,7 +278,7 @@ module _ (tells : Type 0) (settings : SettingsView) (form : ReplyForm) where
           right = λ is body.
               let rests = shown_rests r (stage_of t) y (phase_at settings d) (events_at d) begun.reply (up is).1.stage (begun.is_shown is) in
               let on = rests_on_event r begun.reply y begun.shows rests.0 in
-              borne_by_event r begun.reply y (events_at d) begun.bytes on.event begun.shows rests.0 on.decided
+              borne_by_event settings.stripe r begun.reply y (events_at d) begun.bytes on.event begun.shows rests.0 on.decided
               (begun.is_brought is ∙ all_but_late r outcome y (events_at d) (meant is) late on.event on.decided)
               (means_reads r outcome y (events_at d) (meant is));
         }
@@ -289,7 +289,7 @@ module _ (tells : Type 0) (settings : SettingsView) (form : ReplyForm) where
       shown = [];
       by_event = ends_by_event outcome ends;
       written = subst (λ o. grown (text_if form o [])) (sym (told_whole (span_of (request_of t).get) outcome)) written;
-      right = λ is body. borne_without_bytes (request_of t) outcome (account_at settings d) (events_at d) ends (meant is) (none is);
+      right = λ is body. borne_without_bytes settings.stripe (request_of t) outcome (account_at settings d) (events_at d) ends (meant is) (none is);
     }
     unbegun_ends grown false ends late none written = record {
       outcome = LateRead 0 0;

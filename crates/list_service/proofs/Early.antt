@@ -43,9 +43,9 @@ use Rattle.list_service.specs.Early.{end_at_first, early_text, AsksEarly, early_
 
 -- ---- what bears it out
 
-module _ (r : ListRequest) (listing : ListingForm) (why : BodyEnd) (wrong : IsWrong why) (moved last : ℕ) (y : Account) (events : List OwnEvent) where
+module _ (stripe : ℕ) (r : ListRequest) (listing : ListingForm) (why : BodyEnd) (wrong : IsWrong why) (moved last : ℕ) (y : Account) (events : List OwnEvent) where
   abbrev Right : Outcome → Type 0
-  Right outcome = IsBorneOut r.zone r.asker (Listing r.command listing) (broken_off why) [] outcome [] y events
+  Right outcome = IsBorneOut stripe r.zone r.asker (Listing r.command listing) (broken_off why) [] outcome [] y events
 
   goes_on : Going r moved y events last → (row : Bucket) → Looking r row y last → Right BodyFailed
   goes_on g row l = (

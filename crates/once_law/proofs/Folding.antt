@@ -164,8 +164,8 @@ rests_before settings zone asker pass history more next (task actor outcome) ask
     let e : next ≡ actor = sym of_next in
     let same = same_after_others settings history more (actor_of_pass pass actor) (subst (λ a. NoneBy (actor_of_pass pass a) more) e none) in
     let account = ap (λ (q : Doings). q.account) same.doings in
-    let there = subst (λ (y : Account). IsBorneOut zone asker asked fate body outcome shown y (own_events (history ++ more) (actor_of_pass pass actor))) account rests in
-    subst (λ (l : List OwnEvent). IsBorneOut zone asker asked fate body outcome shown (account_of settings history (actor_of_pass pass actor)) l) same.events there
+    let there = subst (λ (y : Account). IsBorneOut settings.stripe zone asker asked fate body outcome shown y (own_events (history ++ more) (actor_of_pass pass actor))) account rests in
+    subst (λ (l : List OwnEvent). IsBorneOut settings.stripe zone asker asked fate body outcome shown (account_of settings history (actor_of_pass pass actor)) l) same.events there
 
 module _ (settings : SettingsView) (good : IsSettings settings) (zone : ℕ) (asker : Asker) (pass : ℕ) (clocks : ℕ → ℕ) where
   -- what one call leaves: the rows stay
@@ -189,7 +189,7 @@ module _ (settings : SettingsView) (good : IsSettings settings) (zone : ℕ) (as
 
       one_task : (asked : Asked) (fate : Fate) (body : List ℕ) (outcome : Outcome) (shown : List ℕ)
           → ((event : Decided) → y.decided ≡ Some event → clocks count ≡ event.clock)
-          → IsBorneOut zone asker asked fate body outcome shown y (own_events (before ++ first) actor)
+          → IsBorneOut settings.stripe zone asker asked fate body outcome shown y (own_events (before ++ first) actor)
           → ((z : ℕ) → (state_of settings (before ++ first)).root z ≡ (state_of settings before).root z)
           × IsSaidTo (fixed_by settings before zone asker clocks) (slots_in settings before zone) asked fate body (task count outcome) shown
           × (left_behind (fixed_by settings before zone asker clocks) (slots_in settings before zone) (command_in asked fate body) (task count outcome) ≡ slots_in settings (before ++ first) zone)

@@ -77,7 +77,7 @@ module _ (settings : SettingsView) (good : IsSettings settings) (zone : ℕ) (as
     list_full r fate MovedOften events still by = let none = still.moved in let many = by.0.1 in absurd (omega (arith, none, many))
     list_full r fate outcome events still by = absurd by.0
 
-    one_full : (asked : Asked) (fate : Fate) (body : List ℕ) (outcome : Outcome) (shown : List ℕ) → IsBorneOut zone asker asked fate body outcome shown y (own_events (before ++ first) actor) → IsRepliedOrFull (task count outcome)
+    one_full : (asked : Asked) (fate : Fate) (body : List ℕ) (outcome : Outcome) (shown : List ℕ) → IsBorneOut settings.stripe zone asker asked fate body outcome shown y (own_events (before ++ first) actor) → IsRepliedOrFull (task count outcome)
     one_full Asks.BadHost fate body outcome shown borne = absurd borne
     one_full (Asks.Refused why) fate body outcome shown borne = absurd borne
     one_full (Asks.Put c) fate body outcome shown borne =

@@ -1,5 +1,6 @@
 -- How the task of a PUT ended.
-use Rattle.std.proofs.Common.{◌≡◌, inl, inr, ℕ, Bool, true, false, List, [], ◌++◌, Option, Some, None, refl, sym, subst}
+use Rattle.std.proofs.Common.{◌≡◌, inl, inr, ℕ, Bool, true, false, List, [], ◌++◌, Option, Some, None, refl, sym, ◌∙◌, ap, subst, append_assoc}
+use Rattle.std.proofs.lemmas.List.{append-nil}
 use Rattle.realm_model.specs.Accounts.{Account}
 use Rattle.realm_model.specs.Owns.{OwnEvent, own_events}
 use Rattle.realm_model.specs.Settings.{SettingsView}
@@ -13,12 +14,14 @@ use Rattle.task_words.specs.declared.outcome.Outcome.{Outcome}
 use Rattle.task_words.specs.declared.outcome.Outcome.TheVariants.{Done, BodyFailed, Busy, MovedOften, RacedOften, LateTag, LateRead, NoSpace}
 use Rattle.task_words.specs.declared.reply.MapReply.TheVariants.{Stored, Refused}
 use Rattle.task_words.specs.declared.reply.Refusal.TheVariants.{Unauthorized, Denied, NoContainer, NotMet, OtherEtag}
+use Rattle.task_words.specs.Cuts.{AreCut}
 use Rattle.task_words.specs.Outcomes.{Body, IsPutOutcome}
 use Rattle.task_put.specs.declared.stage.PutRequest.{PutRequest}
 use Rattle.task_put.specs.declared.stage.Stage.{Stage}
 use Rattle.task_put.specs.declared.stage.Stage.TheVariants.{Looking, Feeding, LookingAgain, Preparing, Announcing, Writing, Cancelling, Completing, LookingForShard, Ended}
 use Rattle.task_put.specs.declared.task.PutTask.{PutTask}
 use Rattle.task_put.specs.Bodies.{first_end}
+use Rattle.task_put.specs.Cuts.{CutBody}
 use Rattle.task_put.specs.Stages.{IsOver}
 use Rattle.task_put.specs.Taking.{fed_request, ended_request}
 use Rattle.task_put.specs.Tasks.{request_of, stage_of, fault_of, fits}
@@ -27,7 +30,7 @@ use Rattle.task_put.proofs.Stepping.{means_it}
 use Rattle.http_chunks.specs.declared.body.BodyEnd.{BodyEnd as HttpEnd}
 use Rattle.http_chunks.specs.declared.body.BodyEnd.TheVariants as End
 use Rattle.call_words.specs.Bodies.{Fate, read_whole, broken_off, IsWrong}
-use Rattle.call_words.specs.Calls.{body_at}
+use Rattle.call_words.specs.Calls.{body_at, IsCutBy}
 use Rattle.call_words.specs.Events.{AreOfPut}
 use Rattle.http_intake.specs.Intake.{IntakeState}
 use Rattle.realm_model.specs.declared.event.Event.{Event}
@@ -176,13 +179,33 @@ events_of_put : (t : PutTask) (settings : SettingsView) (d : DoorView) (outcome 
 events_of_put t settings d outcome ended sound f =
     of_put (own_events d.seen (actor_at d)) (means_it t settings d outcome ended sound f).1
 
+-- they cut what came of the body, whatever follows it
+events_cut : (t : PutTask) (settings : SettingsView) (d : DoorView) (outcome : Outcome) → stage_of t ≡ Ended outcome → fault_of t ≡ None → fits t settings d
+    → CutBody (request_of t).zone settings.stripe (request_of t).bytes (request_of t).end (own_events d.seen (actor_at d))
+events_cut t settings d outcome ended sound f = (means_it t settings d outcome ended sound f).2
+
+-- so they do where a task that had no bytes took these
+cut_after : (zone stripe : ℕ) (before came : List ℕ) (end : Option BodyEnd) (events : List OwnEvent) → before ≡ [] → CutBody zone stripe (before ++ came) end events → CutBody zone stripe came end events
+cut_after zone stripe before came end events none cut = subst (λ l. CutBody zone stripe (l ++ came) end events) none cut
+
 -- ---- the whole task
+
+-- where the outcome was there before the end of the body, the events cut a front of it
+front_cut : (settings : SettingsView) (r : PutRequest) (t : PutTask) (d : DoorView) (front : List ℕ) → IsSteady t → IsOver (stage_of t) → request_of t ≡ fed_request r front → r.bytes ≡ [] → r.end ≡ None → fault_of t ≡ None → fits t settings d
+    → (more : List ℕ) → AreCut r.zone settings.stripe (front ++ more) (own_events d.seen (actor_at d))
+front_cut settings r t d front s over request none unended sound f more =
+    let by = by_event (request_of t) (stage_of t) s over in
+    let events = own_events d.seen (actor_at d) in
+    let at_request = subst (λ (q : PutRequest). CutBody q.zone settings.stripe q.bytes q.end events) request (events_cut t settings d by.0 by.1 sound f) in
+    let going = subst (λ (e : Option BodyEnd). CutBody r.zone settings.stripe (r.bytes ++ front) e events) unended at_request in
+    cut_after r.zone settings.stripe r.bytes front None events none going more tt
 
 -- the outcome was there before the end of the body
 pub ended_before : (tells alone : Type 0) (settings : SettingsView) (r : PutRequest) (t : PutTask) (fate : Fate) (x y : Place) (body front : List ℕ) → HasFate fate x.intake y.intake x.left y.left body
-    → IsSteady t → IsOver (stage_of t) → request_of t ≡ fed_request r front → r.end ≡ None → fault_of t ≡ None → (tells → fits t settings y.door) → AsksAt tells alone settings false x y
+    → IsSteady t → IsOver (stage_of t) → request_of t ≡ fed_request r front → r.end ≡ None → fault_of t ≡ None → (tells → fits t settings y.door)
+    → (tells → IsCutBy settings.stripe r.zone fate body (own_events y.door.seen (actor_at y.door))) → AsksAt tells alone settings false x y
     → HasEnded tells alone settings r t fate x y
-ended_before tells alone settings r t fate x y body front has_fate s over request unended sound up asks =
+ended_before tells alone settings r t fate x y body front has_fate s over request unended sound up cut asks =
     let by = by_event (request_of t) (stage_of t) s over in
     let account = account_of settings y.door.seen (actor_at y.door) in
     let events = own_events y.door.seen (actor_at y.door) in
@@ -198,6 +221,7 @@ ended_before tells alone settings r t fate x y body front has_fate s over reques
           before_end r.zone r.asker r.command (r.bytes ++ front) (body_at fate body) account events by.0 by.2
           (subst (λ e. IsPutOutcome r.zone r.asker r.command (record { bytes = r.bytes ++ front; end = e }) by.0 account events) unended at_request);
       of_put = λ told. events_of_put t settings y.door by.0 by.1 sound (up told);
+      cut = cut;
       asks = subst (λ m. AsksAt tells alone settings m x y) (sym by.2.1) asks;
     }
 
@@ -219,6 +243,10 @@ ended_behind tells alone settings now r t x y d b body same given request none u
           let at_request = subst (λ (q : PutRequest). IsPutOutcome q.zone q.asker q.command (body_of q) ends.outcome account events) request (means_put t settings y.door ends.outcome ends.ended sound (up told)) in
           subst (λ (w : Body). IsPutOutcome r.zone r.asker r.command w ends.outcome account events) (λ i. record { bytes = none i ++ body; end = first_end (unended i) Whole }) at_request;
       of_put = λ told. events_of_put t settings y.door ends.outcome ends.ended sound (up told);
+      cut = λ told.
+          let at_request = subst (λ (q : PutRequest). CutBody q.zone settings.stripe q.bytes q.end events) request (events_cut t settings y.door ends.outcome ends.ended sound (up told)) in
+          let whole = subst (λ (e : Option BodyEnd). CutBody r.zone settings.stripe (r.bytes ++ body) (first_end e Whole) events) unended at_request in
+          subst (λ (l : List ℕ). AreCut r.zone settings.stripe l events) (append-nil body) (cut_after r.zone settings.stripe r.bytes body (Some Whole) events none whole [] refl);
       asks = both_ask tells alone settings now (is_by_end ends.outcome) x.door d y.door x.told b y.told same first ends.asks;
     }
 
@@ -241,6 +269,10 @@ failed_behind tells alone settings now r t x y d b front why same wrong breaks r
           any_bytes r.zone r.asker r.command (r.bytes ++ front) [] account events ends.outcome
           (subst (λ (w : Body). IsPutOutcome r.zone r.asker r.command w ends.outcome account events) (λ i. record { bytes = r.bytes ++ front; end = first_end (unended i) Failed }) at_request);
       of_put = λ told. events_of_put t settings y.door ends.outcome ends.ended sound (up told);
+      cut = λ told.
+          let at_request = subst (λ (q : PutRequest). CutBody q.zone settings.stripe q.bytes q.end events) request (events_cut t settings y.door ends.outcome ends.ended sound (up told)) in
+          let failed = subst (λ (e : Option BodyEnd). CutBody r.zone settings.stripe (r.bytes ++ front) (first_end e Failed) events) unended at_request in
+          ((r.bytes ++ front) ++ [], failed [] refl);
       asks = both_ask tells alone settings now (is_by_end ends.outcome) x.door d y.door x.told b y.told same first ends.asks;
     }
 
@@ -263,17 +295,21 @@ begun_to x y given End.BadChunk not reads = inr (End.BadChunk, tt, reads)
 begun_to x y given End.TooLarge not reads = inr (End.TooLarge, tt, reads)
 
 -- what is left of a body behind the outcome is dropped
-pub drops_behind : (tells alone : Type 0) (settings : SettingsView) (r : PutRequest) (t : PutTask) (x y : Place) (i : IntakeState) (l : Option (List ℕ)) (given front : List ℕ) (end : HttpEnd) → HasGiven x.intake i x.left l given
-    → IsSteady t → IsOver (stage_of t) → request_of t ≡ fed_request r front → r.end ≡ None → fault_of t ≡ None → (tells → fits t settings y.door) → AsksAt tells alone settings false x y
+pub drops_behind : (tells alone : Type 0) (settings : SettingsView) (r : PutRequest) (t : PutTask) (x y : Place) (i : IntakeState) (l : Option (List ℕ)) (given front rest : List ℕ) (end : HttpEnd) → HasGiven x.intake i x.left l given
+    → IsSteady t → IsOver (stage_of t) → given ≡ front ++ rest → request_of t ≡ fed_request r front → r.bytes ≡ [] → r.end ≡ None → fault_of t ≡ None → (tells → fits t settings y.door) → AsksAt tells alone settings false x y
     → DropsBody i y.intake l y.left end → RunsTask tells alone settings r t x y end
-drops_behind tells alone settings r t x y i l given front End.Whole has s over request unended sound up asks (more, all) =
-    ended_before tells alone settings r t read_whole x y (given ++ more) front (give_all x.intake i x.left l y.left given more y.intake has all) s over request unended sound up asks
-drops_behind tells alone settings r t x y i l given front End.Cut has s over request unended sound up asks (more, cut) =
+drops_behind tells alone settings r t x y i l given front rest End.Whole has s over parts request none unended sound up asks (more, all) =
+    let joined : front ++ (rest ++ more) ≡ given ++ more = sym (append_assoc front rest more) ∙ ap (λ l. l ++ more) (sym parts) in
+    ended_before tells alone settings r t read_whole x y (given ++ more) front (give_all x.intake i x.left l y.left given more y.intake has all) s over request unended sound up
+    (λ told. subst (λ (l : List ℕ). AreCut r.zone settings.stripe l (own_events y.door.seen (actor_at y.door))) joined (front_cut settings r t y.door front s over request none unended sound (up told) (rest ++ more))) asks
+drops_behind tells alone settings r t x y i l given front rest End.Cut has s over parts request none unended sound up asks (more, cut) =
     ((break_behind x.intake i x.left l y.left given End.Cut has cut.0, cut.1), asks)
-drops_behind tells alone settings r t x y i l given front End.BadChunk has s over request unended sound up asks (more, breaks) =
-    ended_before tells alone settings r t (broken_off End.BadChunk) x y [] front (tt, break_behind x.intake i x.left l y.left given End.BadChunk has breaks, refl) s over request unended sound up asks
-drops_behind tells alone settings r t x y i l given front End.TooLarge has s over request unended sound up asks (more, breaks) =
-    ended_before tells alone settings r t (broken_off End.TooLarge) x y [] front (tt, break_behind x.intake i x.left l y.left given End.TooLarge has breaks, refl) s over request unended sound up asks
+drops_behind tells alone settings r t x y i l given front rest End.BadChunk has s over parts request none unended sound up asks (more, breaks) =
+    ended_before tells alone settings r t (broken_off End.BadChunk) x y [] front (tt, break_behind x.intake i x.left l y.left given End.BadChunk has breaks, refl) s over request unended sound up
+    (λ told. (front ++ [], front_cut settings r t y.door front s over request none unended sound (up told) [])) asks
+drops_behind tells alone settings r t x y i l given front rest End.TooLarge has s over parts request none unended sound up asks (more, breaks) =
+    ended_before tells alone settings r t (broken_off End.TooLarge) x y [] front (tt, break_behind x.intake i x.left l y.left given End.TooLarge has breaks, refl) s over request unended sound up
+    (λ told. (front ++ [], front_cut settings r t y.door front s over request none unended sound (up told) [])) asks
 
 pub leaves_behind : (tells alone : Type 0) (settings : SettingsView) (found : List Event) (x y : Place) (i : IntakeState) (l : Option (List ℕ)) (given : List ℕ) (fault : ServeFault) → HasGiven x.intake i x.left l given
     → AsksAt tells alone settings false x y → LeavesBody i l y.left fault → StopsBody tells alone settings found x y fault

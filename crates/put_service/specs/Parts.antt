@@ -1,5 +1,5 @@
 -- What each part of the service of a PUT comes to, before its reply is written.
-use Rattle.std.specs.Prelude.{◌≡◌, ℕ, ◌^◌, Bool, true, false, List, [], length, Option, None}
+use Rattle.std.specs.Prelude.{◌≡◌, ℕ, ◌^◌, Bool, true, false, List, [], ◌++◌, length, Option, None}
 use Rattle.realm_model.specs.Settings.{SettingsView}
 use Rattle.realm_model.specs.Doors.{DoorView, actor_at}
 use Rattle.realm_model.specs.Histories.{account_of}
@@ -15,7 +15,7 @@ use Rattle.http_model.specs.declared.reply.ReplyForm.{ReplyForm}
 use Rattle.http_chunks.specs.declared.body.BodyEnd.{BodyEnd}
 use Rattle.http_chunks.specs.declared.body.BodyEnd.TheVariants as Body
 use Rattle.call_words.specs.Bodies.{Fate, read_whole, broken_off}
-use Rattle.call_words.specs.Calls.{body_at}
+use Rattle.call_words.specs.Calls.{body_at, IsCutBy}
 use Rattle.call_words.specs.Texts.{told_reply, text_if}
 use Rattle.call_words.specs.Events.{AreOfPut}
 use Rattle.task_put.specs.declared.stage.PutRequest.{PutRequest}
@@ -56,11 +56,12 @@ place door intake left told = record { door = door; intake = intake; left = left
 abbrev pub AsksAt : Type 0 → Type 0 → SettingsView → Bool → Place → Place → Type 0
 AsksAt tells alone settings more x y = Asks tells alone settings more x.door y.door x.told y.told
 
--- the task took all of these bytes, and wants more; or a front of them, and its outcome was there
+-- the task took all of these bytes, and wants more; or a front of them alone, and its outcome was there
 abbrev pub TakesBytes : PutTask → PutTask → List ℕ → Bool → Type 0
 TakesBytes old new bytes true = IsSteady new × WantsBytes (stage_of new) × (request_of new ≡ fed_request (request_of old) bytes)
 TakesBytes old new bytes false =
-    IsSteady new × IsOver (stage_of new) × (front : List ℕ) × (request_of new ≡ fed_request (request_of old) front)
+    IsSteady new × IsOver (stage_of new) × (front : List ℕ) × (rest : List ℕ) × (bytes ≡ front ++ rest)
+    × (request_of new ≡ fed_request (request_of old) front)
 
 -- the body was read so far, and the task took it so
 abbrev pub TakesBody : PutTask → PutTask → Place → Place → Taken → Type 0
@@ -102,6 +103,7 @@ pub record HasEnded (tells alone : Type 0) (settings : SettingsView) (r : PutReq
   pub right : tells → IsPutOutcome r.zone r.asker r.command (body_at fate body) outcome
       (account_of settings y.door.seen (actor_at y.door)) (own_events y.door.seen (actor_at y.door))
   pub of_put : tells → AreOfPut (own_events y.door.seen (actor_at y.door))
+  pub cut : tells → IsCutBy settings.stripe r.zone fate body (own_events y.door.seen (actor_at y.door))
   pub asks : AsksAt tells alone settings (is_by_end outcome) x y
 
 -- what became of a body that ended so

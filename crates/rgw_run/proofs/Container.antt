@@ -18,8 +18,9 @@ use Rattle.realm_model.specs.States.{State, number_next, at_moment}
 use Rattle.realm_model.specs.Phases.{ActorId}
 use Rattle.realm_model.specs.Doors.{actor_at}
 use Rattle.realm_model.specs.Maps.{Maps, no_maps, mapped, mapped_by, slot_at, whole_slot}
-use Rattle.realm_model.specs.Worlds.{actor_of}
-use Rattle.realm_model.specs.Histories.{world_of, state_of}
+use Rattle.realm_model.specs.Steps.{after}
+use Rattle.realm_model.specs.Worlds.{World, start, actor_of, happens}
+use Rattle.realm_model.specs.Histories.{run, world_of, state_of}
 use Rattle.realm_model.specs.declared.event.Reply.TheVariants.{Done}
 use Rattle.realm_model.specs.declared.event.Event.{Event}
 use Rattle.realm_model.proofs.Runs.{state-next}
@@ -82,6 +83,14 @@ no_slot settings history maps = λ i container name. at_name container name i wh
       let made = (world_of settings history).stripes.made in
       ap (λ (m : Maps). whole_slot made 1 (slot_at (m 1 container) name)) maps ∙ rw at-none refl
 
+-- no event of these takes or gives frames
+abbrev KeepsFrames : SettingsView → Event → Type 0
+KeepsFrames settings e = (st : State) → (after settings st e.op).free ≡ st.free
+
+frames_stay : (settings : SettingsView) (w : World) (es : List Event) → AllByRecursion (KeepsFrames settings) es → (run settings w es).state.free ≡ w.state.free
+frames_stay settings w [] keep = refl
+frames_stay settings w (e ∷ es) keep = frames_stay settings (happens settings w e) es keep.1 ∙ keep.0 (at_moment w.state e.moment)
+
 -- ---- the making of the container
 
 module _ (settings : SettingsView) (bucket : List ℕ) (moment : ℕ) where
@@ -109,6 +118,9 @@ module _ (settings : SettingsView) (bucket : List ℕ) (moment : ℕ) where
 
   no_object : slots_in settings made 1 ≡ no_slots
   no_object = no_slot settings made (maps_stay no_maps made (all_making KeepsMaps (λ m. refl) (λ n m. refl) (λ m. refl)))
+
+  all_free : (state_of settings made).free ≡ (start settings).state.free
+  all_free = frames_stay settings (start settings) made (all_making (KeepsFrames settings) (λ st. refl) (λ n st. refl) (λ st. refl))
 
   no_row : (name : List ℕ) → row_now settings front name ≡ None
   no_row name =
@@ -139,6 +151,7 @@ pub record IsPrepared (settings : SettingsView) (bucket : Option (List ℕ)) (mo
   pub low : (state_of settings before).clock ≤ counted_moment moment
   pub slots : slots_in settings before 1 ≡ no_slots
   pub rows : rows_in settings before 1 ≡ one_row settings bucket
+  pub free : (state_of settings before).free 1 ≡ settings.frames
 
 pub none_prepared : (settings : SettingsView) (moment : ℕ) → IsPrepared settings None moment false []
 none_prepared settings moment = record {
@@ -146,6 +159,7 @@ none_prepared settings moment = record {
   low = omega arith;
   slots = no_slot settings [] refl;
   rows = λ i name. at-none name i;
+  free = refl;
 }
 
 pub one_prepared : (settings : SettingsView) (bucket : List ℕ) (moment : ℕ) → IsPrepared settings (Some bucket) moment true (making settings bucket moment)
@@ -154,4 +168,5 @@ one_prepared settings bucket moment = record {
   low = clock_behind settings [] (making settings bucket moment) moment (omega arith) (made_at settings bucket moment);
   slots = no_object settings bucket moment;
   rows = λ i name. row_at settings bucket moment name i;
+  free = ap (λ (f : ℕ → ℕ). f 1) (all_free settings bucket moment);
 }

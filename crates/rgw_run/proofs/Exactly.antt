@@ -42,6 +42,7 @@ use Rattle.once_law.specs.Maps.{rows_in, slots_in}
 use Rattle.once_law.specs.Folds.{AreFolded}
 use Rattle.once_law.proofs.Folding.{none_of_other, fold}
 use Rattle.once_law.proofs.Full.{full}
+use Rattle.room_law.proofs.Calls.{room_found}
 use Rattle.once_law.proofs.Moments.{clocks_at}
 use Rattle.rgw_run.specs.declared.once_end.OnceEnd.{OnceEnd}
 use Rattle.rgw_run.specs.declared.once_end.OnceEnd.TheVariants.{Unmade, Unbegun, Ended, Stopped}
@@ -108,6 +109,10 @@ module _ (settings : SettingsView) (good : IsSettings settings) (bucket : Option
         folded = subst (λ l. AreFolded (fixed_at settings bucket moment) l calls) prepared.slots
             (subst (λ x. AreFolded x (slots_in settings before 1) calls) x_is of_maps.folded);
         full = full settings good 1 standard_asker 1 moment before c.events next calls last [] legal prepared.unused right c.made tt prepared.low at;
+        found = λ fits.
+            let free = prepared.free in
+            room_found settings 1 standard_asker 1 before c.events next calls last moment good legal
+            (record { unused = prepared.unused; right = right; later = []; made = c.made; by_last = tt }) prepared.low at (omega (arith, fits, free));
       }
 
 -- ---- what was told behind them

@@ -1,6 +1,6 @@
 -- What a run of `once` at one moment replies: the replies of one bucket map, folded over the calls from the empty container, or
 -- from no container.
-use Rattle.std.specs.Prelude.{ℕ, ◌+◌, List, [], bytes_eq, Option, Some, None, Result, Ok, Err, IfSome, refl, if◌then◌else◌}
+use Rattle.std.specs.Prelude.{ℕ, ◌+◌, ◌≤◌, List, [], bytes_eq, Option, Some, None, Result, Ok, Err, IfSome, refl, if◌then◌else◌}
 use Rattle.gw_io.specs.Ends.{EndsState}
 use Rattle.rgw_model.specs.Stamps.{counted_moment}
 use Rattle.realm_core.specs.Realms.{RealmView}
@@ -19,6 +19,7 @@ use Rattle.gateway.specs.Serving.{LeavesAt, ServesConnection}
 use Rattle.gateway.specs.declared.serve.Served.{Served}
 use Rattle.once_law.specs.Maps.{Rows, no_slots}
 use Rattle.once_law.specs.Folds.{Fixed, AreFolded, AreRepliedOrFull}
+use Rattle.room_law.specs.Rooms.{frames_together, AreRepliedInRoom}
 use Rattle.rgw_run.specs.declared.once_end.OnceEnd.{OnceEnd}
 use Rattle.rgw_run.specs.declared.once_end.OnceEnd.TheVariants.{Unmade, Unbegun, Ended, Stopped}
 use Rattle.rgw_words.specs.declared.run_words.RunWords.{RunWords}
@@ -60,10 +61,12 @@ fixed_at settings bucket moment = record {
 }
 
 -- The calls are replied as the map of the one container says, which has no name at first; but where a body broke off, or there
--- is no room, which leaves the map as it was.
+-- is no room, which leaves the map as it was. There is room where the frames that all bodies of PUTs take together are no more
+-- than the zone's, up to a body that broke off.
 pub record AreExact (settings : SettingsView) (bucket : Option (List ℕ)) (moment : ℕ) (calls : List Call) : Type 0 where
   pub folded : AreFolded (fixed_at settings bucket moment) no_slots calls
   pub full : AreRepliedOrFull calls
+  pub found : frames_together settings.frame settings.stripe calls ≤ settings.frames → AreRepliedInRoom calls
 
 -- ---- a run
 

@@ -1,5 +1,5 @@
 -- A PUT at work.
-use Rattle.std.proofs.Common.{◌≡◌, ℕ, ◌+◌, ◌-◌, ◌<◌, ◌≤◌, true, false, List, [], ◌∷◌, ◌++◌, take, length, Option, Some, None, refl, sym, ap, ◌∙◌, subst, length-take, arith}
+use Rattle.std.proofs.Common.{◌≡◌, ℕ, ◌+◌, ◌-◌, ◌<◌, ◌≤◌, true, false, List, [], ◌∷◌, ◌++◌, take, drop, length, Option, Some, None, refl, sym, ap, ◌∙◌, subst, append_assoc, length-take, take-append-drop, arith}
 use Rattle.std.proofs.lemmas.List.{take_all, length-take-le}
 use Rattle.realm_model.specs.Settings.{SettingsView}
 use Rattle.realm_model.specs.Accounts.{Account}
@@ -15,8 +15,10 @@ use Rattle.task_words.specs.declared.outcome.Outcome.{Outcome}
 use Rattle.task_words.specs.declared.outcome.Outcome.TheVariants.{Done, BodyFailed, Busy, MovedOften, LateTag, NoSpace}
 use Rattle.task_words.specs.declared.reply.MapReply.TheVariants.{Stored, Refused}
 use Rattle.task_words.specs.declared.reply.Refusal.TheVariants.{Unauthorized, Denied, NoContainer, NotMet, OtherEtag}
+use Rattle.task_words.specs.Cuts.{AreCut}
 use Rattle.task_words.specs.Outcomes.{IsPutOutcome}
 use Rattle.task_put.specs.Bodies.{most_bytes, no_bytes, first_end}
+use Rattle.task_put.specs.Cuts.{CutBody}
 use Rattle.task_put.specs.Stages.{IsOver, IsReady, settled}
 use Rattle.task_put.specs.Stepped.{stepped}
 use Rattle.task_put.specs.Taking.{WantsBytes, room_at, fed_request, ended_request}
@@ -241,6 +243,15 @@ module _ (zone : ℕ) (asker : Asker) (c : PutCommand) (all : List ℕ) (y : Acc
       subst (λ l. IsPutOutcome zone asker c (record { bytes = l; end = Some Whole }) outcome y events) every m
   whole_end (Some Failed) at outcome ends m = absurd ends
 
+  -- so are its events cut from the whole body
+  whole_cut : (stripe : ℕ) (end : Option BodyEnd) (at : ℕ) → EndsAt end at (length all) → CutBody zone stripe (take at all) end events → CutBody zone stripe all (Some Whole) events
+  whole_cut stripe None at ends cut = λ more none.
+      subst (λ l. AreCut zone stripe l events) (sym (append_assoc (take at all) (drop at all) more) ∙ ap (λ l. l ++ more) (take-append-drop at all)) (cut (drop at all ++ more) tt)
+  whole_cut stripe (Some Whole) at ends cut =
+      let every : take at all ≡ all = take_all at all (omega (arith, ends)) in
+      subst (λ l. CutBody zone stripe l (Some Whole) events) every cut
+  whole_cut stripe (Some Failed) at ends cut = absurd ends
+
 -- what the outcome says, of the whole body
 pub put_means : (x : PutPlay) (settings : SettingsView) (d : DoorView) (outcome : Outcome) → FitsPut x settings d → IsPutEnd (request_of x.task) outcome settings d → MeansRequest (asked_put x).zone (asked_put x).verb outcome [] settings d
 put_means x settings d outcome f m =
@@ -249,6 +260,7 @@ put_means x settings d outcome f m =
       (
         whole_end r.zone standard_asker (plain_put r.command.container r.command.name) (body_bytes x.body) (account_of settings d.seen (actor_at d)) (own_events d.seen (actor_at d)) r.end x.fed outcome f.is_put.ends plain.0,
         plain.1,
+        whole_cut r.zone standard_asker (plain_put r.command.container r.command.name) (body_bytes x.body) (account_of settings d.seen (actor_at d)) (own_events d.seen (actor_at d)) settings.stripe r.end x.fed f.is_put.ends plain.2,
       ),
       refl,
     )

@@ -16,7 +16,7 @@ use Rattle.realm_model.specs.Settings.{SettingsView}
 use Rattle.realm_model.specs.Needs.{has_read, read_showed, names_shard, is_pending, is_over, has_no_tag, is_tag_of, is_change, is_shard_of_tag, is_tried_again, is_new_shard, may_change_head, has_parts}
 use Rattle.realm_model.specs.Phases.{Bundle, OwnTag, RowRead, unused, opened, Stage as TagStage}
 use Rattle.realm_model.specs.Tests.{is_so, same_flag, same_guard, same_row, same_stamp}
-use Rattle.task_put.specs.Bodies.{tail_bytes}
+use Rattle.task_words.specs.Cuts.{tail_bytes}
 use Rattle.task_put.specs.Stages.{shard_for, op_of}
 use Rattle.task_put.specs.Fits.{Known, target_of, IsContent, IsTagFree, tag_for, changed_tag, ReadSince, FitsAt, MayCome}
 use Rattle.task_put.specs.declared.stage.PutRequest.{PutRequest}

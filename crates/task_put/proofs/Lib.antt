@@ -9,6 +9,7 @@ pub mod Looking
 pub mod Tailing
 pub mod Readying
 pub mod Taking
+pub mod Slicing
 pub mod Carrying
 pub mod ChangingAnswers
 pub mod ChangingEnds

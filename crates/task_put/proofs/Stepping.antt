@@ -26,6 +26,7 @@ use Rattle.task_put.proofs.Ordering.{in_order, settled_in_order}
 use Rattle.task_put.proofs.Knowing.{before, front, not_less, more_made, numbered_later, known_is, fits_later}
 use Rattle.task_put.proofs.Looking.{may_look, looking_kept, looking_again_kept}
 use Rattle.task_put.proofs.Tailing.{feeding_may, feeding_kept, settled_fits}
+use Rattle.task_put.proofs.Slicing.{step_sliced, settled_sliced}
 use Rattle.task_put.proofs.Tasking.{lifted}
 use Rattle.task_put.proofs.ChangingNeeds.{may_prepare, may_announce, may_write, may_cancel, may_complete, may_look_for_shard}
 use Rattle.task_put.proofs.ChangingTags.{prepare_kept, announce_kept, cancel_kept}
@@ -84,7 +85,7 @@ module _ (settings : SettingsView) (d e : DoorView) (r : PutRequest) (x : Tried)
       let own : OwnEvent = record { op = op; reply = a.reply; number = a.number; clock = a.clock } in
       let order = in_order (target_of r) tried_now stage (path_of (known_at settings d).events) a.number a.reply going suits f.order in
       let ordered : IsAt stage_now (path_of (was.events ++ own ∷ [])) = subst (IsAt stage_now) (sym (path_more was.events own)) order in
-      subst (Fits settings r tried_now stage_now) (sym (known_is settings d e op moment a step)) (record { low = f.low; high = f.high; order = ordered; stands = stands })
+      subst (Fits settings r tried_now stage_now) (sym (known_is settings d e op moment a step)) (record { low = f.low; high = f.high; order = ordered; stands = stands; sliced = step_sliced settings r x tried_now stage was a.number a.clock a.reply going fits_before suits f.sliced })
 
 -- ---- the task
 
@@ -125,11 +126,15 @@ settled_task settings d t =
         high = s.known.high;
         order = settled_in_order t.stage (path_of (known_at settings d).events) s.known.order;
         stands = settled_fits settings (request_of t) t.tried t.stage (known_at settings d) s.known.stands;
+        sliced = settled_sliced settings (request_of t) t.tried t.stage (known_at settings d) s.known.stands s.known.sliced;
       };
     })
 
 -- what the outcome means
 pub means_it : (t : PutTask) (settings : SettingsView) (d : DoorView) (outcome : Outcome) → t.stage ≡ Ended outcome → t.fault ≡ None → fits t settings d → IsPutEnd (request_of t) outcome settings d
 means_it t settings d outcome ended sound f =
-    let s = stands_of t settings d sound f in
-    (subst (λ g. FitsAt settings (request_of t) t.tried g (known_at settings d)) ended s.known.stands, subst (λ g. IsAt g (path_of (known_at settings d).events)) ended s.known.order)
+    let s = stands_of t settings d sound f in (
+      subst (λ g. FitsAt settings (request_of t) t.tried g (known_at settings d)) ended s.known.stands,
+      subst (λ g. IsAt g (path_of (known_at settings d).events)) ended s.known.order,
+      s.known.sliced.cut,
+    )

@@ -28,7 +28,8 @@ use Rattle.realm_model.specs.declared.event.Reply.{Reply}
 use Rattle.realm_model.specs.declared.event.Reply.TheVariants.{Done, No}
 use Rattle.task_words.specs.Outcomes.{Granted}
 use Rattle.swift_auth.specs.declared.policy.Deed.TheVariants.{ChangeThing}
-use Rattle.task_put.specs.Bodies.{first_bytes, tail_bytes, hand_of, has_tail, without_tail, is_whole}
+use Rattle.task_put.specs.Bodies.{hand_of, has_tail, without_tail, is_whole}
+use Rattle.task_words.specs.Cuts.{first_bytes, tail_bytes}
 use Rattle.task_put.specs.declared.stage.PutRequest.{PutRequest}
 use Rattle.task_put.specs.declared.stage.Draft.{Draft}
 use Rattle.task_put.specs.declared.stage.Tried.{Tried}
@@ -43,7 +44,7 @@ use Rattle.task_put.proofs.Looking.{in_realm}
 -- ---- the tail that waits
 
 -- it has bytes
-some_bytes : (n stripe : ℕ) (whole : Bool) → 16 ≤ stripe → (n == stripe || (whole && not (n == 0))) ≡ true → 1 ≤ n
+pub some_bytes : (n stripe : ℕ) (whole : Bool) → 16 ≤ stripe → (n == stripe || (whole && not (n == 0))) ≡ true → 1 ≤ n
 some_bytes n stripe whole low waits =
     elim (n == 0) as (λ b. (n == 0) ≡ b → 1 ≤ n) [
       | true ↦ λ none. let is_none : n ≡ 0 = grind (arith, nat_tests, none) in absurd (never n stripe whole low is_none waits)
@@ -66,7 +67,7 @@ some_bytes n stripe whole low waits =
         apart (sym at_none ∙ nothing stripe whole (no_stripe stripe low))
 
 -- it is full, where more may come
-full_bytes : (n stripe : ℕ) → (n == stripe || (false && not (n == 0))) ≡ true → n ≡ stripe
+pub full_bytes : (n stripe : ℕ) → (n == stripe || (false && not (n == 0))) ≡ true → n ≡ stripe
 full_bytes n stripe waits = grind (arith, nat_tests, waits)
 
 -- ---- what was made

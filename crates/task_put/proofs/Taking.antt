@@ -15,7 +15,8 @@ use Rattle.task_words.specs.declared.reply.Refusal.TheVariants.{Unauthorized, De
 use Rattle.task_words.specs.declared.outcome.Outcome.{Outcome}
 use Rattle.task_words.specs.declared.outcome.Outcome.TheVariants.{Done, BodyFailed, Busy, MovedOften, LateTag, NoSpace}
 use Rattle.task_words.specs.Outcomes.{IsPutReply, IsPutOutcome}
-use Rattle.task_put.specs.Bodies.{BodyView, tail_bytes, with_bytes, first_end}
+use Rattle.task_put.specs.Bodies.{BodyView, with_bytes, first_end}
+use Rattle.task_words.specs.Cuts.{tail_bytes}
 use Rattle.task_put.specs.declared.stage.PutRequest.{PutRequest}
 use Rattle.task_put.specs.declared.stage.Draft.{Draft}
 use Rattle.task_put.specs.declared.stage.Tried.{Tried}
@@ -30,7 +31,7 @@ use Rattle.task_put.specs.Fits.{body_of, Known, AtRow, bundle_of, InTails, IsCut
 -- ---- more bytes
 
 -- a tail that came whole keeps its bytes
-tail_stays : (s : ℕ) (xs ys : List ℕ) (part : ℕ) → s * (part + 1) ≤ length xs → tail_bytes s (xs ++ ys) part ≡ tail_bytes s xs part
+pub tail_stays : (s : ℕ) (xs ys : List ℕ) (part : ℕ) → s * (part + 1) ≤ length xs → tail_bytes s (xs ++ ys) part ≡ tail_bytes s xs part
 tail_stays s xs ys part whole =
     let further : s * (part + 1) ≡ s * part + s = omega arith in
     let front : s * part ≤ length xs = omega (arith, whole, further) in
@@ -142,7 +143,7 @@ none_fed draft = λ i. record {
   when = draft.when;
 }
 
-stage_same : (stage : Stage) → fed_stage stage [] ≡ stage
+pub stage_same : (stage : Stage) → fed_stage stage [] ≡ stage
 stage_same (Looking draft) = ap (λ d. Looking d) (none_fed draft)
 stage_same (Feeding write key draft) = ap (λ d. Feeding write key d) (none_fed draft)
 stage_same (LookingAgain c) = refl
@@ -154,7 +155,7 @@ stage_same (Completing key change) = refl
 stage_same (LookingForShard change) = refl
 stage_same (Ended outcome) = refl
 
-request_same : (r : PutRequest) → fed_request r [] ≡ r
+pub request_same : (r : PutRequest) → fed_request r [] ≡ r
 request_same r = λ i. record { zone = r.zone; asker = r.asker; command = r.command; bytes = append-nil r.bytes i; end = r.end }
 
 pub fed_fits : (settings : SettingsView) (r : PutRequest) (x : Tried) (more : List ℕ) (stage : Stage) (k : Known) → (more ≡ []) ⊎ IsTaking stage → FitsAt settings r x stage k → FitsAt settings (fed_request r more) x (fed_stage stage more) k

@@ -12,6 +12,7 @@ use Rattle.task_put.specs.Orders.{Path}
 use Rattle.task_put.specs.Fits.{known_at, IsAt}
 use Rattle.task_put.specs.Taking.{room_at, fed_stage, ended_stage, IsTaking}
 use Rattle.task_put.specs.Tasks.{request_of, fed, body_ended, UnlessFaulted, Stands, fits}
+use Rattle.task_put.proofs.Slicing.{fed_sliced, ended_sliced}
 use Rattle.task_put.proofs.Taking.{fed_fits, ended_fits}
 
 none_taken : (n m : ℕ) (bytes : List ℕ) → n ≡ min m 0 → take n bytes ≡ []
@@ -76,6 +77,7 @@ fed_task t n m bytes settings d is =
         high = s.known.high;
         order = fed_at t.stage (take n bytes) _ s.known.order;
         stands = fed_fits settings (request_of t) t.tried (take n bytes) t.stage (known_at settings d) (taking t.stage n m bytes is) s.known.stands;
+        sliced = fed_sliced settings (request_of t) t.tried (take n bytes) t.stage (known_at settings d) (taking t.stage n m bytes is) s.known.stands s.known.sliced;
       };
     })
 
@@ -88,5 +90,6 @@ ended_task t end settings d =
         high = s.known.high;
         order = ended_at t.stage end _ s.known.order;
         stands = ended_fits settings (request_of t) t.tried end (known_at settings d) t.stage s.known.stands;
+        sliced = ended_sliced settings.stripe (request_of t) end t.stage (known_at settings d).events s.known.sliced;
       };
     })

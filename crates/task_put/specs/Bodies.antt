@@ -3,20 +3,13 @@ use Rattle.std.specs.Prelude.{ℕ, ◌+◌, ◌-◌, ◌*◌, ◌==◌, ◌||◌
 use Rattle.md5.specs.Md5.{md5}
 use Rattle.rgw_types.specs.Stripes.{ManifestView}
 use Rattle.manifest.specs.Ranges.{part_numbers}
+use Rattle.task_words.specs.Cuts.{first_bytes, tail_bytes}
 use Rattle.task_words.specs.declared.command.BodyEnd.{BodyEnd}
 use Rattle.task_words.specs.declared.command.BodyEnd.TheVariants.{Whole, Failed}
 
 -- the most bytes of a body
 abbrev pub most_bytes : ℕ
 most_bytes = 5368709120
-
--- the bytes that the head takes
-abbrev pub first_bytes : ℕ → List ℕ → List ℕ
-first_bytes stripe bytes = take stripe bytes
-
--- the bytes that the tail of this number takes
-abbrev pub tail_bytes : ℕ → List ℕ → ℕ → List ℕ
-tail_bytes stripe bytes part = take stripe (drop (stripe * part) bytes)
 
 -- the bytes of the head and those of each tail
 abbrev pub parts_cut : ManifestView → List ℕ → List (List ℕ)

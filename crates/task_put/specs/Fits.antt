@@ -36,8 +36,10 @@ use Rattle.task_words.specs.declared.outcome.Outcome.TheVariants.{Done, LateTag,
 use Rattle.task_words.specs.Answers.{put}
 use Rattle.task_words.specs.Outcomes.{most_moved, most_expired, ByMap, Body, IsTaken, left_count, IsPutOutcome}
 use Rattle.task_words.specs.Rows.{row_refusal}
-use Rattle.task_put.specs.Bodies.{tail_bytes, BodyView}
+use Rattle.task_put.specs.Bodies.{BodyView}
+use Rattle.task_words.specs.Cuts.{tail_bytes}
 use Rattle.task_put.specs.Changes.{IsHeadOf, IsSent}
+use Rattle.task_put.specs.Cuts.{IsSliced}
 use Rattle.task_put.specs.Orders.{Path, begun, feeding, turned, ready, prepared, announced, changed, refused, adrift, path_of, IsOrdered}
 use Rattle.task_put.specs.Stages.{shard_for, op_of, tried_after, step_of}
 use Rattle.task_put.specs.declared.stage.PutRequest.{PutRequest}
@@ -282,12 +284,13 @@ FitsAt settings r x (Completing key change) k =
 FitsAt settings r x (LookingForShard change) k = (stage : TagStage) × HasChanged r x change stage k × WasMoved stage
 FitsAt settings r x (Ended outcome) k = IsPutOutcome r.zone r.asker r.command (body_of r) outcome k.account k.events
 
--- the stage is what the own events came to, and these came in their order
+-- the stage is what the own events came to, these came in their order, and they cut the body
 pub record Fits (settings : SettingsView) (r : PutRequest) (x : Tried) (stage : Stage) (k : Known) : Type 0 where
   pub low : 1 ≤ r.zone
   pub high : r.zone ≤ settings.zones
   pub order : IsAt stage (path_of k.events)
   pub stands : FitsAt settings r x stage k
+  pub sliced : IsSliced settings.stripe r stage k.events
 
 -- ---- one event more
 

@@ -27,7 +27,8 @@ use Rattle.task_words.specs.declared.outcome.Outcome.TheVariants.{Done, BodyFail
 use Rattle.task_words.specs.Answers.{is_other_etag}
 use Rattle.task_words.specs.Outcomes.{most_moved, most_expired}
 use Rattle.task_words.specs.Rows.{row_refusal}
-use Rattle.task_put.specs.Bodies.{first_bytes, tail_bytes, without_tail, has_tail}
+use Rattle.task_put.specs.Bodies.{without_tail, has_tail}
+use Rattle.task_words.specs.Cuts.{first_bytes, tail_bytes}
 use Rattle.task_put.specs.declared.stage.Target.{Target}
 use Rattle.task_put.specs.declared.stage.Draft.{Draft}
 use Rattle.task_put.specs.declared.stage.Content.{Content}

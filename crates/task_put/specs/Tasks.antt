@@ -10,6 +10,7 @@ use Rattle.task_words.specs.Outcomes.{IsPutOutcome}
 use Rattle.task_words.specs.declared.command.BodyEnd.{BodyEnd}
 use Rattle.task_put.specs.Bodies.{first_end}
 use Rattle.task_put.specs.Taking.{fed_stage, ended_stage}
+use Rattle.task_put.specs.Cuts.{CutBody}
 use Rattle.task_put.specs.Orders.{path_of, IsOrdered}
 use Rattle.task_put.specs.Stages.{settled}
 use Rattle.task_put.specs.Fits.{target_of, body_of, known_at, Fits}
@@ -75,8 +76,10 @@ pub record Stands (t : PutTask) (settings : SettingsView) (d : DoorView) : Type 
 abbrev pub fits : PutTask → SettingsView → DoorView → Type 0
 fits t settings d = UnlessFaulted t.fault (Stands t settings d)
 
--- what the outcome rests on, and that the events came in their order
+-- what the outcome rests on, that the events came in their order, and that they cut the body, whatever follows the bytes that
+-- came of it
 abbrev pub IsPutEnd : PutRequest → Outcome → SettingsView → DoorView → Type 0
 IsPutEnd r outcome settings d =
     IsPutOutcome r.zone r.asker r.command (body_of r) outcome (account_of settings d.seen (actor_at d)) (own_events d.seen (actor_at d))
     × IsOrdered (path_of (own_events d.seen (actor_at d)))
+    × CutBody r.zone settings.stripe r.bytes r.end (own_events d.seen (actor_at d))

@@ -20,7 +20,8 @@ ghost use Rattle.task_words.specs.declared.command.PutCommand.{PutCommand as Put
 ghost use Rattle.task_words.specs.declared.reply.MapReply.TheVariants.{Stored, Refused};
 ghost use Rattle.task_words.specs.declared.reply.Refusal.TheVariants.{NotMet};
 ghost use Rattle.task_words.specs.Answers.{answered, put_answer};
-ghost use Rattle.task_put.specs.Bodies.{tail_bytes, parts_cut};
+ghost use Rattle.task_put.specs.Bodies.{parts_cut};
+ghost use Rattle.task_words.specs.Cuts.{tail_bytes};
 ghost use Rattle.task_put.specs.Changes.{IsHeadOf, AreTailsOf, IsSent};
 
 /// The parts into which a body is cut have as many bytes as the manifest of its size says, and one after

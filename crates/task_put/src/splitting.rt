@@ -1,7 +1,8 @@
 // The operation of a stage, taken out of it.
 ghost use Rattle.std.specs.Prelude.{◌≡◌, ◌+◌, true, IfOk};
 ghost use Rattle.realm_model.specs.declared.op.Op.TheVariants.{TailMake};
-ghost use Rattle.task_put.specs.Bodies.{has_tail, tail_bytes};
+ghost use Rattle.task_put.specs.Bodies.{has_tail};
+ghost use Rattle.task_words.specs.Cuts.{tail_bytes};
 ghost use Rattle.task_put.specs.Stages.{IsReady, op_of, rest_of};
 ghost use Rattle.task_put.specs.declared.stage.Stage.TheVariants.{Feeding};
 

@@ -117,8 +117,8 @@ returns-in_default-clause-served g c =
     let wrong = wrong_of c.in_ok-end.end c.in_default.not-Whole c.in_default.not-Cut in
     let first = before.looked c.requires.looks in
     let right : g.D.Door.tells → BearsOut (site_of settings r) (Get r.get) (broken_off c.in_ok-end.end) [] (end_at_first stage) [] d =
-    λ tells. subst (λ (q : GetRequest). IsBorneOut q.zone q.asker (Get q.get) (broken_off c.in_ok-end.end) [] (end_at_first stage) [] (account_at settings d) (events_at d)) before.request
-    (right_at_first (request_of c.act.new.task) c.in_ok-end.end stage (account_at settings d) (phase_at settings d) (events_at d) wrong first (before.up tells).1.stage) in
+    λ tells. subst (λ (q : GetRequest). IsBorneOut settings.stripe q.zone q.asker (Get q.get) (broken_off c.in_ok-end.end) [] (end_at_first stage) [] (account_at settings d) (events_at d)) before.request
+    (right_at_first settings.stripe (request_of c.act.new.task) c.in_ok-end.end stage (account_at settings d) (phase_at settings d) (events_at d) wrong first (before.up tells).1.stage) in
     IfOk-weaker c.end_early.result _ _
     (λ served ended. early_served g.D.Door.tells g.D.Door.alone (site_of settings r) c.args.form r (g.D.Door.found c.act.new.door) x y (g.C.Clock.told c.act.new.clock) before.asks (λ tells. (before.up tells).0)
     c.in_ok-end.end wrong (breaks_so c.args.intake.now c.drop_body.new.intake ends.left later.left c.in_ok-end.end wrong c.in_ok-end.ensures.dropped) stage served first right
@@ -139,8 +139,8 @@ returns-in_default-clause-stopped g c =
     let wrong = wrong_of c.in_ok-end.end c.in_default.not-Whole c.in_default.not-Cut in
     let first = before.looked c.requires.looks in
     let right : g.D.Door.tells → BearsOut (site_of settings r) (Get r.get) (broken_off c.in_ok-end.end) [] (end_at_first stage) [] d =
-    λ tells. subst (λ (q : GetRequest). IsBorneOut q.zone q.asker (Get q.get) (broken_off c.in_ok-end.end) [] (end_at_first stage) [] (account_at settings d) (events_at d)) before.request
-    (right_at_first (request_of c.act.new.task) c.in_ok-end.end stage (account_at settings d) (phase_at settings d) (events_at d) wrong first (before.up tells).1.stage) in
+    λ tells. subst (λ (q : GetRequest). IsBorneOut settings.stripe q.zone q.asker (Get q.get) (broken_off c.in_ok-end.end) [] (end_at_first stage) [] (account_at settings d) (events_at d)) before.request
+    (right_at_first settings.stripe (request_of c.act.new.task) c.in_ok-end.end stage (account_at settings d) (phase_at settings d) (events_at d) wrong first (before.up tells).1.stage) in
     IfErr-weaker c.end_early.result _ _
     (λ fault left. early_stops g.D.Door.tells g.D.Door.alone (site_of settings r) c.args.form r (g.D.Door.found c.act.new.door) x y (g.C.Clock.told c.act.new.clock) before.asks (λ tells. (before.up tells).0)
     c.in_ok-end.end wrong (breaks_so c.args.intake.now c.drop_body.new.intake ends.left later.left c.in_ok-end.end wrong c.in_ok-end.ensures.dropped) stage fault first right

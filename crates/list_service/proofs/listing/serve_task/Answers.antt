@@ -123,8 +123,8 @@ returns-in_default-clause-served g c =
     let past = before.looked c.requires.looks in
     let broken = breaks_so c.args.intake.now c.drop_body.new.intake ends.left later.left c.in_ok-end.end wrong c.in_ok-end.ensures.dropped in
     let right : is_broken stage ≡ false → g.D.Door.tells → BearsOut (site_of settings r) (asked_by r c.args.listing) (broken_off c.in_ok-end.end) [] (end_at_first stage) [] d =
-    λ going tells. subst (λ (q : ListRequest). IsBorneOut q.zone q.asker (asked_by q c.args.listing) (broken_off c.in_ok-end.end) [] (end_at_first stage) [] account events) before.request
-    (right_at_first (request_of c.act.new.task) c.args.listing c.in_ok-end.end wrong _ _ account events stage going past (before.up tells).1.2) in
+    λ going tells. subst (λ (q : ListRequest). IsBorneOut settings.stripe q.zone q.asker (asked_by q c.args.listing) (broken_off c.in_ok-end.end) [] (end_at_first stage) [] account events) before.request
+    (right_at_first settings.stripe (request_of c.act.new.task) c.args.listing c.in_ok-end.end wrong _ _ account events stage going past (before.up tells).1.2) in
     IfOk-weaker c.end_early.result _ _
     (λ served ended. served_early g.D.Door.tells g.D.Door.alone (site_of settings r) c.args.form r c.args.listing (g.D.Door.found c.act.new.door) x y (g.C.Clock.told c.act.new.clock) before.asks (λ tells. (before.up tells).0)
     c.in_ok-end.end wrong broken stage served past right ended)
@@ -147,8 +147,8 @@ returns-in_default-clause-stopped g c =
     let past = before.looked c.requires.looks in
     let broken = breaks_so c.args.intake.now c.drop_body.new.intake ends.left later.left c.in_ok-end.end wrong c.in_ok-end.ensures.dropped in
     let right : is_broken stage ≡ false → g.D.Door.tells → BearsOut (site_of settings r) (asked_by r c.args.listing) (broken_off c.in_ok-end.end) [] (end_at_first stage) [] d =
-    λ going tells. subst (λ (q : ListRequest). IsBorneOut q.zone q.asker (asked_by q c.args.listing) (broken_off c.in_ok-end.end) [] (end_at_first stage) [] account events) before.request
-    (right_at_first (request_of c.act.new.task) c.args.listing c.in_ok-end.end wrong _ _ account events stage going past (before.up tells).1.2) in
+    λ going tells. subst (λ (q : ListRequest). IsBorneOut settings.stripe q.zone q.asker (asked_by q c.args.listing) (broken_off c.in_ok-end.end) [] (end_at_first stage) [] account events) before.request
+    (right_at_first settings.stripe (request_of c.act.new.task) c.args.listing c.in_ok-end.end wrong _ _ account events stage going past (before.up tells).1.2) in
     IfErr-weaker c.end_early.result _ _
     (λ fault left. stops_early g.D.Door.tells g.D.Door.alone (site_of settings r) c.args.form r c.args.listing (g.D.Door.found c.act.new.door) x y (g.C.Clock.told c.act.new.clock) before.asks (λ tells. (before.up tells).0)
     c.in_ok-end.end wrong broken stage fault past right left)

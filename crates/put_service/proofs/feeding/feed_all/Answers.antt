@@ -1,4 +1,4 @@
-use Rattle.std.proofs.Common.{rules, true, false, Bool, [], ◌++◌, take, refl, sym, ◌∙◌, subst}
+use Rattle.std.proofs.Common.{rules, ◌-◌, true, false, Bool, [], ◌++◌, take, drop, length, refl, sym, ◌∙◌, subst}
 use Rattle.realm_model.specs.Settings.{SettingsView}
 use Rattle.task_put.specs.Tasks.{request_of}
 use Rattle.door_moments.specs.Acts.{Asks}
@@ -71,5 +71,7 @@ returns-in-Over-clause-taken g c =
       pauses.0,
       pauses.1,
       i.so_far.0 ++ part,
+      take (length c.parts.rest.now - c.in-Ok.count) (drop c.in-Ok.count c.parts.rest.now),
+      sym (seam i.so_far.0 c.parts.rest.now c.args.bytes.now c.in-Ok.count i.so_far.1),
       fed_behind (request_of c.args.task.now) (request_of c.parts.task) (request_of c.advance.new.task) i.so_far.0 part i.so_far.2 request,
     )

@@ -1,4 +1,4 @@
-use Rattle.std.proofs.Common.{◌≡◌, inl, ◌≤◌, ◌+◌, rules, true, false, ℕ, List, [], ◌++◌, take, length, refl, sym, ◌∙◌, subst, arith, length-append}
+use Rattle.std.proofs.Common.{◌≡◌, inl, ◌≤◌, ◌+◌, rules, true, false, ℕ, List, [], ◌++◌, take, length, refl, sym, ap, ◌∙◌, subst, arith, append_assoc, length-append}
 use Rattle.realm_model.specs.Settings.{SettingsView}
 use Rattle.task_put.specs.declared.stage.PutRequest.{PutRequest}
 use Rattle.task_put.specs.Bodies.{most_bytes}
@@ -28,7 +28,7 @@ returns-in-Over-clause-taken g c =
     let pauses = subst (λ (p : Pause). PausesAt p c.advance.new.task) c.in-Over.is c.in_ok-pause.ensures.pauses in (
       [],
       none_given c.args.intake.now (g.S.Source.left c.args.source.now) c.requires.intake,
-      (pauses.0, pauses.1, [], c.advance.ensures.request ∙ sym (fed_none (request_of c.args.task.now))),
+      (pauses.0, pauses.1, [], [], refl, c.advance.ensures.request ∙ sym (fed_none (request_of c.args.task.now))),
     )
 
 pub pieces-init : goal.pieces-init
@@ -82,7 +82,9 @@ returns-then-not-branch-clause-taken g c =
         taken.0,
         taken.1,
         i.so_far.0 ++ taken.2,
-        fed_behind (request_of c.args.task.now) (request_of c.pieces.task) (request_of c.feed_all.new.task) i.so_far.0 taken.2 i.so_far.2 taken.3,
+        taken.3,
+        ap (λ l. i.so_far.0 ++ l) taken.4 ∙ sym (append_assoc i.so_far.0 taken.2 taken.3),
+        fed_behind (request_of c.args.task.now) (request_of c.pieces.task) (request_of c.feed_all.new.task) i.so_far.0 taken.2 i.so_far.2 taken.5,
       ),
     )
 

@@ -57,8 +57,8 @@ returns-in-Over-clause-ran g c =
     let y = place (g.D.Door.told c.take_body.new.door) c.drop_body.new.intake (g.S.Source.left c.drop_body.new.source) (g.C.Clock.told c.take_body.new.clock) in
     let taken = subst (λ (t : Taken). TakesBody c.args.task.now c.take_body.new.task x m t) c.in-Over.is c.in_ok-take_body.ensures.taken in
     IfOk-weaker c.drop_body.result _ _
-    (λ end. drops_behind g.D.Door.tells g.D.Door.alone (g.D.Door.settings c.args.door.now) (request_of c.args.task.now) c.take_body.new.task x y m.intake m.left taken.0 taken.2.2 end
-    taken.1 taken.2.0 taken.2.1 taken.2.3 c.requires.open c.in_ok-take_body.ensures.sound (λ tells. (c.take_body.ensures.up tells).1) c.in_ok-take_body.ensures.asks)
+    (λ end. drops_behind g.D.Door.tells g.D.Door.alone (g.D.Door.settings c.args.door.now) (request_of c.args.task.now) c.take_body.new.task x y m.intake m.left taken.0 taken.2.2 taken.2.3 end
+    taken.1 taken.2.0 taken.2.1 taken.2.4 taken.2.5 c.requires.none c.requires.open c.in_ok-take_body.ensures.sound (λ tells. (c.take_body.ensures.up tells).1) c.in_ok-take_body.ensures.asks)
     c.drop_body.ensures.dropped
 
 pub returns-in-Over-clause-fault : goal.returns-in-Over-clause-fault
