@@ -7,7 +7,7 @@ ghost use Rattle.door_moments.specs.Acts.{Asks};
 
 use gw_io::Clock;
 use job_words::{Job, JobOutcome};
-use realm_door::{Door, Task};
+use realm_door::{Door, EventTask, Task};
 use std::alloc::Global;
 use task_repair::RepairTask;
 use turn_cell::DoorFault;

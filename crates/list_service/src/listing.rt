@@ -18,7 +18,7 @@ use gw_io::{Clock, Ends, Sink, Source};
 use http_chunks::BodyEnd;
 use http_intake::Intake;
 use http_model::ReplyForm;
-use realm_door::{Door, Task};
+use realm_door::{Door, EventTask, Task};
 use std::alloc::Global;
 use swift_reply::ListingForm;
 use task_list::{ListRequest, ListTask};

@@ -8,7 +8,7 @@ ghost use Rattle.call_service.specs.Replying.{StopsEvent};
 
 use call_service::{ServeFault, fault_of};
 use gw_io::Clock;
-use realm_door::{Door, Task};
+use realm_door::{Door, EventTask, Task};
 use std::alloc::Global;
 use task_put::{Next, PutTask};
 

@@ -4,12 +4,14 @@
 
 mod back;
 mod door;
+mod event_task;
 mod laws;
 mod running;
 mod task;
 
 pub use back::handed_back;
 pub use door::{Answered, Door};
+pub use event_task::EventTask;
 pub use laws::{
     actors_stay_counted, growth_adds_up, others_change_no_doings, own_events_extend_what_is_told,
 };

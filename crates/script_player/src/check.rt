@@ -13,7 +13,7 @@ ghost use Rattle.script_player.specs.Plays.{asked_check, CheckStands, CheckEnded
 
 use job_words::JobOutcome;
 use object_words::BucketName;
-use realm_door::{Door, Task};
+use realm_door::{Door, EventTask, Task};
 use std::alloc::Global;
 use task_repair::RepairTask;
 use turn_cell::DoorFault;

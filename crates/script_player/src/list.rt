@@ -13,7 +13,7 @@ ghost use Rattle.script_player.specs.Plays.{asked_list, ListStands, ListEnded, F
 use crate::asker::standard_asker;
 use list_words::ListCommand;
 use object_words::BucketName;
-use realm_door::{Door, Task};
+use realm_door::{Door, EventTask, Task};
 use rgw_types::Text;
 use std::alloc::{AllocError, Global};
 use task_list::{ListRequest, ListTask};

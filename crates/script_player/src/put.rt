@@ -17,7 +17,7 @@ ghost use Rattle.script_player.specs.Plays.{asked_put, TakesNext, PutStands, Put
 
 use crate::asker::standard_asker;
 use object_words::{BucketName, Conditions, ObjectName};
-use realm_door::{Door, Task};
+use realm_door::{Door, EventTask, Task};
 use realm_model::Settings;
 use rgw_types::Pairs;
 use script_words::ScriptBody;

@@ -12,7 +12,7 @@ ghost use Rattle.script_player.specs.Plays.{asked_stat, StatStands, StatEnded, F
 
 use crate::asker::standard_asker;
 use object_words::BucketName;
-use realm_door::{Door, Task};
+use realm_door::{Door, EventTask, Task};
 use std::alloc::{AllocError, Global};
 use task_container::{ContainerCommand, ContainerRequest, ContainerTask};
 use task_words::Outcome;

@@ -8,7 +8,7 @@ ghost use Rattle.realm_model.specs.Histories.{account_of};
 use crate::counting::Counting;
 use crate::request::ContainerRequest;
 use object_words::{Bucket, ShardStats};
-use realm_door::{Door, Task, TaskTurn};
+use realm_door::{Door, EventTask, Task, TaskTurn};
 use realm_model::{Op, Reply};
 use std::alloc::{AllocError, Global};
 use std::mem::replace;
@@ -86,57 +86,6 @@ impl ContainerTask {
         let (stage, moved) = next_stage(&self.request.asker, stage, self.moved, reply);
         self.stage = stage;
         self.moved = moved;
-    }
-}
-
-impl ContainerTask {
-    ghost use Rattle.std.specs.Prelude.{◌≡◌, ◌<◌, ◌≤◌, ◌^◌, length, Some, None, IfErr, OnOk, OnErr};
-    ghost use Rattle.turn_cell.specs.declared.machine.DoorFault.TheVariants.{Worn};
-    ghost use Rattle.realm_model.specs.Histories.{Legal};
-    ghost use Rattle.realm_door.specs.Turns.{MakesEvent, IsOneMore};
-    ghost use Rattle.task_container.specs.Stages.{IsOpen, stage_of, request_of, fault_of, fits};
-
-    /// Makes the event that comes next.
-    #[tactic(auto, using(crate::proofs::Turning::fits_next, crate::proofs::Turning::may_step))]
-    pub fn event<D: Door>(
-        &mut self,
-        alloc: Global,
-        door: &mut D,
-        moment: u64,
-    ) -> Result<(), DoorFault>
-        requires open { IsOpen (stage_of self.old) }
-        requires sound { fault_of self.old ≡ None }
-        requires fits { D.tells →
-            Legal (D.settings door.old) (D.told door.old).seen
-            × fits self.old (D.settings door.old) (D.told door.old) }
-        ensures kept { D.tells →
-            Legal (D.settings door.old) (D.told door.new).seen
-            × fits self.new (D.settings door.old) (D.told door.new) }
-        ensures made { OnOk result (D.tells → MakesEvent (D.settings door.old) moment (D.told door.old) (D.told door.new)) }
-        ensures alone { OnOk result (D.tells → D.alone → IsOneMore (D.told door.old) (D.told door.new)) }
-        ensures counts { OnOk result ((D.last door.old < D.last door.new) × (D.last door.new ≤ 2 ^ 62)) }
-        ensures request { request_of self.new ≡ request_of self.old }
-        ensures stopped { OnErr result ((D.tells → D.told door.new ≡ D.told door.old) × (D.last door.new ≡ D.last door.old)) }
-        ensures sound { OnOk result (fault_of self.new ≡ None) }
-        ensures faulted { IfErr result (λ f. fault_of self.new ≡ Some f) }
-        ensures worn { IfErr result (λ f. D.tells → f ≡ Worn → length (D.found door.new) ≡ 2 ^ 62) }
-        ensures settings { D.settings door.new ≡ D.settings door.old }
-        ensures home { D.home door.new ≡ D.home door.old }
-    {
-        let Ok(op) = self.next_op() else {
-            self.fault = Some(DoorFault::OutOfMemory);
-            return Err(DoorFault::OutOfMemory);
-        };
-        match door.step(alloc, op, moment) {
-            Ok(answered) => {
-                self.take(answered.reply);
-                Ok(())
-            }
-            Err(stopped) => {
-                self.fault = Some(stopped.fault);
-                Err(stopped.fault)
-            }
-        }
     }
 }
 
@@ -284,6 +233,35 @@ impl Task for ContainerTask {
         match (&self.stage, self.fault) {
             (Stage::Ended(outcome), None) => Some(outcome),
             _ => None,
+        }
+    }
+}
+
+impl EventTask for ContainerTask {
+    ghost use Rattle.task_container.specs.Stages.{IsOpen, stage_of};
+
+    ghost is_ready = { λ t. IsOpen (stage_of t) };
+
+    #[tactic(auto, using(crate::proofs::Turning::fits_next, crate::proofs::Turning::may_step))]
+    fn event<D: Door>(
+        &mut self,
+        alloc: Global,
+        door: &mut D,
+        moment: u64,
+    ) -> Result<(), DoorFault> {
+        let Ok(op) = self.next_op() else {
+            self.fault = Some(DoorFault::OutOfMemory);
+            return Err(DoorFault::OutOfMemory);
+        };
+        match door.step(alloc, op, moment) {
+            Ok(answered) => {
+                self.take(answered.reply);
+                Ok(())
+            }
+            Err(stopped) => {
+                self.fault = Some(stopped.fault);
+                Err(stopped.fault)
+            }
         }
     }
 }

@@ -11,7 +11,7 @@ ghost use Rattle.task_list.specs.Tasks.{IsOver, is_broken, refused_in, IsGoing, 
 use crate::request::ListRequest;
 use crate::stage::{Stage, next_stage};
 use object_words::ShardKey;
-use realm_door::{Door, Task, TaskTurn};
+use realm_door::{Door, EventTask, Task, TaskTurn};
 use realm_model::{Op, Reply};
 use rgw_types::Text;
 use std::alloc::{AllocError, Global};
@@ -123,59 +123,6 @@ impl ListTask {
     }
 }
 
-impl ListTask {
-    ghost use Rattle.std.specs.Prelude.{◌≡◌, ◌<◌, ◌≤◌, ◌^◌, length, Some, None, IfErr, OnOk, OnErr};
-    ghost use Rattle.turn_cell.specs.declared.machine.DoorFault.TheVariants.{Worn};
-    ghost use Rattle.realm_model.specs.Histories.{Legal};
-    ghost use Rattle.realm_door.specs.Turns.{MakesEvent, IsOneMore};
-    ghost use Rattle.task_list.specs.declared.stage.Stage.TheVariants.{Look};
-    ghost use Rattle.task_list.specs.Tasks.{IsOver, IsPast, stage_of, request_of, fault_of, fits};
-
-    /// Makes the event that comes next.
-    #[tactic(auto, using(crate::proofs::Turning::fits_next, crate::proofs::Turning::may_step))]
-    pub fn event<D: Door>(
-        &mut self,
-        alloc: Global,
-        door: &mut D,
-        moment: u64,
-    ) -> Result<(), DoorFault>
-        requires open { IsOver (stage_of self.old) → ⊥ }
-        requires sound { fault_of self.old ≡ None }
-        requires fits { D.tells →
-            Legal (D.settings door.old) (D.told door.old).seen
-            × fits self.old (D.settings door.old) (D.told door.old) }
-        ensures kept { D.tells →
-            Legal (D.settings door.old) (D.told door.new).seen
-            × fits self.new (D.settings door.old) (D.told door.new) }
-        ensures made { OnOk result (D.tells → MakesEvent (D.settings door.old) moment (D.told door.old) (D.told door.new)) }
-        ensures alone { OnOk result (D.tells → D.alone → IsOneMore (D.told door.old) (D.told door.new)) }
-        ensures counts { OnOk result ((D.last door.old < D.last door.new) × (D.last door.new ≤ 2 ^ 62)) }
-        ensures looked { OnOk result (stage_of self.old ≡ Look None → IsPast (stage_of self.new)) }
-        ensures request { request_of self.new ≡ request_of self.old }
-        ensures stopped { OnErr result ((D.tells → D.told door.new ≡ D.told door.old) × (D.last door.new ≡ D.last door.old)) }
-        ensures sound { OnOk result (fault_of self.new ≡ None) }
-        ensures faulted { IfErr result (λ f. fault_of self.new ≡ Some f) }
-        ensures worn { IfErr result (λ f. D.tells → f ≡ Worn → length (D.found door.new) ≡ 2 ^ 62) }
-        ensures settings { D.settings door.new ≡ D.settings door.old }
-        ensures home { D.home door.new ≡ D.home door.old }
-    {
-        let Ok(op) = self.next_op() else {
-            self.fault = Some(DoorFault::OutOfMemory);
-            return Err(DoorFault::OutOfMemory);
-        };
-        match door.step(alloc, op, moment) {
-            Ok(answered) => {
-                self.take(alloc, answered.reply);
-                Ok(())
-            }
-            Err(stopped) => {
-                self.fault = Some(stopped.fault);
-                Err(stopped.fault)
-            }
-        }
-    }
-}
-
 impl Task for ListTask {
     ghost use Rattle.std.specs.Prelude.{[], None};
     ghost use Rattle.task_list.specs.Tasks.{IsOver, stage_of, request_of, fault_of, fits};
@@ -226,6 +173,39 @@ impl Task for ListTask {
         match (&self.stage, self.fault) {
             (Stage::Ended(outcome), None) => Some(outcome),
             _ => None,
+        }
+    }
+}
+
+impl EventTask for ListTask {
+    ghost use Rattle.std.specs.Prelude.{◌≡◌, None};
+    ghost use Rattle.task_list.specs.declared.stage.Stage.TheVariants.{Look};
+    ghost use Rattle.task_list.specs.Tasks.{IsOver, IsPast, stage_of};
+
+    ghost is_ready = { λ t. IsOver (stage_of t) → ⊥ };
+
+    ghost steps = { λ t u. stage_of t ≡ Look None → IsPast (stage_of u) };
+
+    #[tactic(auto, using(crate::proofs::Turning::fits_next, crate::proofs::Turning::may_step))]
+    fn event<D: Door>(
+        &mut self,
+        alloc: Global,
+        door: &mut D,
+        moment: u64,
+    ) -> Result<(), DoorFault> {
+        let Ok(op) = self.next_op() else {
+            self.fault = Some(DoorFault::OutOfMemory);
+            return Err(DoorFault::OutOfMemory);
+        };
+        match door.step(alloc, op, moment) {
+            Ok(answered) => {
+                self.take(alloc, answered.reply);
+                Ok(())
+            }
+            Err(stopped) => {
+                self.fault = Some(stopped.fault);
+                Err(stopped.fault)
+            }
         }
     }
 }

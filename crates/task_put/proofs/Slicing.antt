@@ -19,6 +19,9 @@ use Rattle.task_words.specs.declared.command.BodyEnd.{BodyEnd}
 use Rattle.task_words.specs.declared.command.BodyEnd.TheVariants as ends
 use Rattle.task_words.specs.declared.reply.Refusal.{Refusal}
 use Rattle.task_words.specs.declared.outcome.Outcome.{Outcome}
+use Rattle.task_words.specs.declared.outcome.Outcome.TheVariants.{Done, MovedOften, LateTag}
+use Rattle.task_words.specs.declared.reply.MapReply.TheVariants.{Stored, Refused}
+use Rattle.task_words.specs.declared.reply.Refusal.TheVariants.{OtherEtag}
 use Rattle.task_words.specs.Answers.{is_other_etag}
 use Rattle.task_words.specs.Outcomes.{most_moved, most_expired}
 use Rattle.task_put.specs.Bodies.{hand_of, has_tail, first_end, is_whole}
@@ -127,7 +130,7 @@ op_cut settings r x (Ended outcome) k tails was more going f made follows = tt
 module _ (stripe tails : ℕ) (was : Bool) where
   looked : (x : Tried) (c : Content) → (c.new.manifest.stripe ≡ stripe) × (was ≡ false) → IsMade stripe (look_again x c) tails was
   looked x c made =
-      elim (nat_lt x.moved most_moved) as (λ b. IsMade stripe (cond b (LookingAgain c) (Ended _)) tails was) [ true ↦ made | false ↦ tt ]
+      elim (nat_lt x.moved most_moved) as (λ b. IsMade stripe (cond b (LookingAgain c) (Ended MovedOften)) tails was) [ true ↦ made | false ↦ tt ]
 
   placed : (c : Content) (place : Result Key Refusal) → (c.new.manifest.stripe ≡ stripe) × (was ≡ false) → IsMade stripe (by_place c place) tails was
   placed c (Err refusal) made = tt
@@ -140,7 +143,7 @@ module _ (stripe tails : ℕ) (was : Bool) where
 
   late : (key : Key) (tag : ℕ) (x : Tried) (c : Content) → (c.new.manifest.stripe ≡ stripe) × (was ≡ false) → IsMade stripe (Cancelling key tag (after_late x c)) tails was
   late key tag x c made =
-      elim (nat_lt x.expired most_expired) as (λ b. IsMade stripe (Cancelling key tag (cond b (Again c) (End _))) tails was) [ true ↦ made | false ↦ tt ]
+      elim (nat_lt x.expired most_expired) as (λ b. IsMade stripe (Cancelling key tag (cond b (Again c) (End LateTag))) tails was) [ true ↦ made | false ↦ tt ]
 
   refused : (key : Key) (tag : ℕ) (x : Tried) (why : Why) (zone container : ℕ) (name : List ℕ) (guard : Guard) (c : Content) → (c.new.manifest.stripe ≡ stripe) × (was ≡ false)
       → IsMade stripe (Cancelling key tag (by_refusal x why (Some (ops.HeadWrite zone container name guard c.new c.when)))) tails was
@@ -155,7 +158,7 @@ module _ (stripe tails : ℕ) (was : Bool) where
 moved : (stripe tails : ℕ) (was : Bool) (x : Tried) (u : Unfinished) (row : Option RowView) → IsMade stripe (by_move x u row) tails was
 moved stripe tails was x u None = tt
 moved stripe tails was x u (Some row) =
-    elim (nat_lt x.moved most_moved) as (λ b. IsMade stripe (cond b (LookingForShard (change_of u row)) (Ended _)) tails was) [ true ↦ tt | false ↦ tt ]
+    elim (nat_lt x.moved most_moved) as (λ b. IsMade stripe (cond b (LookingForShard (change_of u row)) (Ended (Done (Stored u.etag u.stamp)))) tails was) [ true ↦ tt | false ↦ tt ]
 
 completed : (stripe tails : ℕ) (was : Bool) (x : Tried) (u : Unfinished) (reply : Reply) (back : Option Op) → IsMade stripe (by_completion x u reply back) tails was
 completed stripe tails was x u (replies.No (whys.Moved instance)) back = moved stripe tails was x u (row_back back)
@@ -181,7 +184,7 @@ step_made : (settings : SettingsView) (r : PutRequest) (x now : Tried) (stage : 
     → IsMade settings.stripe (step_of (target_of r) now stage number reply) (tails_after tails (op_of (target_of r) stage) reply) (is_changed_after was (op_of (target_of r) stage) reply)
 step_made settings r x now (Looking draft) k tails was number reply f suits made = first_placed settings.stripe tails number was draft (place_of (target_of r) (row_shown reply)) (made.0 ∙ sym f.1) made.1
 step_made settings r x now (Feeding write key draft) k tails was number reply f suits made =
-    tailed settings.stripe tails write (draft.body.tails + 1) was key r.zone _ (record { body = _; kind = draft.kind; meta = draft.meta; etag = draft.etag; when = draft.when }) reply suits (ap (λ n. n + 1) made.0) made.1
+    tailed settings.stripe tails write (draft.body.tails + 1) was key r.zone (tail_bytes draft.body.stripe draft.body.bytes (draft.body.tails + 1)) (record { body = _; kind = draft.kind; meta = draft.meta; etag = draft.etag; when = draft.when }) reply suits (ap (λ n. n + 1) made.0) made.1
 step_made settings r x now (LookingAgain c) k tails was number reply f suits made = placed settings.stripe tails was c (place_of (target_of r) (row_shown reply)) made
 step_made settings r x now (Preparing key c) k tails was number reply f suits made = tagged settings.stripe tails was now key c reply made
 step_made settings r x now (Announcing key guard c) k tails was number reply f suits made = made
@@ -209,7 +212,7 @@ step_sliced settings r x now stage k number clock reply going f suits s =
 
 taken_made : (settings : SettingsView) (r : PutRequest) (write : ℕ) (key : Key) (draft : Draft) (tails : ℕ) (was : Bool) → IsDraft settings r draft → was ≡ false → IsMade settings.stripe (taken write key draft) tails was
 taken_made settings r write key draft tails was d unchanged =
-    elim (is_other_etag draft.etag draft.body.bytes) as (λ b. IsMade settings.stripe (cond b (Ended _) (Preparing key (content_of write draft))) tails was) [ true ↦ tt | false ↦ (d.stripe, unchanged) ]
+    elim (is_other_etag draft.etag draft.body.bytes) as (λ b. IsMade settings.stripe (cond b (Ended (Done (Refused OtherEtag))) (Preparing key (content_of write draft))) tails was) [ true ↦ tt | false ↦ (d.stripe, unchanged) ]
 
 closed_made : (settings : SettingsView) (r : PutRequest) (write : ℕ) (key : Key) (draft : Draft) (end : Option BodyEnd) (tails : ℕ) (was : Bool) → IsDraft settings r draft → tails ≡ draft.body.tails → was ≡ false → IsMade settings.stripe (closed write key draft end) tails was
 closed_made settings r write key draft None tails was d counted unchanged = (counted, unchanged)

@@ -19,7 +19,7 @@ use crate::closing::{Next, Standing, settled};
 use crate::splitting::split;
 use crate::stage::{Draft, PutRequest, Rest, Split, Stage, Target, Tried};
 use object_words::MediaType;
-use realm_door::{Answered, Door, Task, TaskTurn};
+use realm_door::{Answered, Door, EventTask, Task, TaskTurn};
 use realm_model::{Reply, Settings};
 use rgw_types::{Text, Trace};
 use std::alloc::{AllocError, Global};
@@ -177,22 +177,14 @@ fn default_kind(alloc: Global) -> Result<MediaType, AllocError>
 }
 
 impl PutTask {
-    ghost use Rattle.std.specs.Prelude.{◌≡◌, ◌<◌, ◌≤◌, ◌^◌, ℕ, length, Some, None, IfOk, IfErr, OnOk, OnErr, true};
-    ghost use Rattle.object_words.specs.declared.bucket.Bucket.{Bucket};
-    ghost use Rattle.realm_model.specs.Histories.{Legal};
-    ghost use Rattle.realm_model.specs.Suits.{Suits};
-    ghost use Rattle.realm_door.specs.Steps.{back_of};
-    ghost use Rattle.realm_door.specs.Turns.{MakesEvent, IsOneMore};
-    ghost use Rattle.turn_cell.specs.declared.machine.DoorFault.TheVariants.{Worn};
+    ghost use Rattle.std.specs.Prelude.{◌≡◌, IfOk};
     ghost use Rattle.task_words.specs.declared.outcome.Outcome.TheVariants.{MovedOften};
     ghost use Rattle.task_put.specs.declared.closing.Next.TheVariants as nexts;
     ghost use Rattle.task_put.specs.declared.stage.Stage.TheVariants.{Ended};
     ghost use Rattle.task_put.specs.Stages.{IsOver, IsReady, op_of, rest_of, settled, tried_after, resumed};
     ghost use Rattle.task_put.specs.Taking.{WantsBytes};
     ghost use Rattle.task_put.specs.Fits.{HasShards};
-    ghost use Rattle.task_put.specs.Tasks.{request_of, stage_of, fault_of, fits, at_stage, decided};
-    ghost use Rattle.task_put.specs.Stepped.{stepped};
-    ghost use Rattle.realm_model.specs.declared.event.Reply.{Reply};
+    ghost use Rattle.task_put.specs.Tasks.{stage_of, at_stage, decided};
 
     /// Lets the body's end decide, once no tail waits, and says what comes next. It makes no event, so that a
     /// caller may ask its clock only where one comes.
@@ -229,52 +221,6 @@ impl PutTask {
         has_shards(&answered.reply);
         self.tried = tried_after(self.tried, &answered.reply);
         self.stage = resumed(&self.target, self.tried, rest, answered);
-    }
-
-    /// Makes the event that comes next.
-    #[tactic(auto, using(crate::proofs::Stepping::fits_next, crate::proofs::Stepping::may_step))]
-    pub fn event<D: Door>(
-        &mut self,
-        alloc: Global,
-        door: &mut D,
-        moment: u64,
-    ) -> Result<(), DoorFault>
-        requires ready { IsReady (stage_of self.old) }
-        requires sound { fault_of self.old ≡ None }
-        requires fits { D.tells →
-            Legal (D.settings door.old) (D.told door.old).seen
-            × fits self.old (D.settings door.old) (D.told door.old) }
-        ensures kept { D.tells →
-            Legal (D.settings door.old) (D.told door.new).seen
-            × fits self.new (D.settings door.old) (D.told door.new) }
-        ensures made { IfOk result (λ made.
-            D.tells → MakesEvent (D.settings door.old) moment (D.told door.old) (D.told door.new)) }
-        ensures alone { IfOk result (λ made. D.tells → D.alone → IsOneMore (D.told door.old) (D.told door.new)) }
-        ensures counts { IfOk result (λ made.
-            (D.last door.old < D.last door.new) × (D.last door.new ≤ 2 ^ 62)) }
-        ensures steps { IfOk result (λ made. (number : ℕ) × (reply : Reply) × (self.new ≡ stepped self.old number reply)) }
-        ensures command { request_of self.new ≡ request_of self.old }
-        ensures stopped { OnErr result ((D.tells → D.told door.new ≡ D.told door.old) × (D.last door.new ≡ D.last door.old)) }
-        ensures sound { OnOk result (fault_of self.new ≡ None) }
-        ensures faulted { IfErr result (λ f. fault_of self.new ≡ Some f) }
-        ensures worn { IfErr result (λ f. D.tells → f ≡ Worn → length (D.found door.new) ≡ 2 ^ 62) }
-        ensures settings { D.settings door.new ≡ D.settings door.old }
-        ensures home { D.home door.new ≡ D.home door.old }
-    {
-        let Ok(Split { op, rest }) = self.split(alloc) else {
-            self.fault = Some(DoorFault::OutOfMemory);
-            return Err(DoorFault::OutOfMemory);
-        };
-        match door.step(alloc, op, moment) {
-            Ok(answered) => {
-                self.take(rest, answered);
-                Ok(())
-            }
-            Err(stopped) => {
-                self.fault = Some(stopped.fault);
-                Err(stopped.fault)
-            }
-        }
     }
 }
 
@@ -348,6 +294,41 @@ impl Task for PutTask {
         match (&self.stage, self.fault) {
             (Stage::Ended(outcome), None) => Some(outcome),
             _ => None,
+        }
+    }
+}
+
+impl EventTask for PutTask {
+    ghost use Rattle.std.specs.Prelude.{◌≡◌, ℕ};
+    ghost use Rattle.realm_model.specs.declared.event.Reply.{Reply};
+    ghost use Rattle.task_put.specs.Stages.{IsReady};
+    ghost use Rattle.task_put.specs.Stepped.{stepped};
+    ghost use Rattle.task_put.specs.Tasks.{stage_of};
+
+    ghost is_ready = { λ t. IsReady (stage_of t) };
+
+    ghost steps = { λ t u. (number : ℕ) × (reply : Reply) × (u ≡ stepped t number reply) };
+
+    #[tactic(auto, using(crate::proofs::Stepping::fits_next, crate::proofs::Stepping::may_step))]
+    fn event<D: Door>(
+        &mut self,
+        alloc: Global,
+        door: &mut D,
+        moment: u64,
+    ) -> Result<(), DoorFault> {
+        let Ok(Split { op, rest }) = self.split(alloc) else {
+            self.fault = Some(DoorFault::OutOfMemory);
+            return Err(DoorFault::OutOfMemory);
+        };
+        match door.step(alloc, op, moment) {
+            Ok(answered) => {
+                self.take(rest, answered);
+                Ok(())
+            }
+            Err(stopped) => {
+                self.fault = Some(stopped.fault);
+                Err(stopped.fault)
+            }
         }
     }
 }

@@ -11,7 +11,7 @@ use crate::request::RepairRequest;
 use crate::stage::{Stage, next_stage};
 use job_words::JobOutcome;
 use object_words::{BucketName, EntryRow, ShardKey};
-use realm_door::{Door, Task, TaskTurn};
+use realm_door::{Door, EventTask, Task, TaskTurn};
 use realm_model::{Op, Reply};
 use std::alloc::{AllocError, Global};
 use std::mem::replace;
@@ -112,57 +112,6 @@ fn copy_of(row: &EntryRow) -> Result<EntryRow, AllocError>
     })
 }
 
-impl RepairTask {
-    ghost use Rattle.std.specs.Prelude.{◌≡◌, ◌<◌, ◌≤◌, ◌^◌, length, Some, None, IfErr, OnOk, OnErr};
-    ghost use Rattle.turn_cell.specs.declared.machine.DoorFault.TheVariants.{Worn};
-    ghost use Rattle.realm_model.specs.Histories.{Legal};
-    ghost use Rattle.realm_door.specs.Turns.{MakesEvent, IsOneMore};
-    ghost use Rattle.task_repair.specs.Stages.{IsOpen};
-    ghost use Rattle.task_repair.specs.Tasks.{stage_of, request_of, fault_of, fits};
-
-    /// Makes the event that comes next.
-    pub fn event<D: Door>(
-        &mut self,
-        alloc: Global,
-        door: &mut D,
-        moment: u64,
-    ) -> Result<(), DoorFault>
-        requires open { IsOpen (stage_of self.old) }
-        requires sound { fault_of self.old ≡ None }
-        requires fits { D.tells →
-            Legal (D.settings door.old) (D.told door.old).seen
-            × fits self.old (D.settings door.old) (D.told door.old) }
-        ensures kept { D.tells →
-            Legal (D.settings door.old) (D.told door.new).seen
-            × fits self.new (D.settings door.old) (D.told door.new) }
-        ensures made { OnOk result (D.tells → MakesEvent (D.settings door.old) moment (D.told door.old) (D.told door.new)) }
-        ensures alone { OnOk result (D.tells → D.alone → IsOneMore (D.told door.old) (D.told door.new)) }
-        ensures counts { OnOk result ((D.last door.old < D.last door.new) × (D.last door.new ≤ 2 ^ 62)) }
-        ensures request { request_of self.new ≡ request_of self.old }
-        ensures stopped { OnErr result ((D.tells → D.told door.new ≡ D.told door.old) × (D.last door.new ≡ D.last door.old)) }
-        ensures sound { OnOk result (fault_of self.new ≡ None) }
-        ensures faulted { IfErr result (λ f. fault_of self.new ≡ Some f) }
-        ensures worn { IfErr result (λ f. D.tells → f ≡ Worn → length (D.found door.new) ≡ 2 ^ 62) }
-        ensures settings { D.settings door.new ≡ D.settings door.old }
-        ensures home { D.home door.new ≡ D.home door.old }
-    {
-        let Ok(op) = self.next_op() else {
-            self.fault = Some(DoorFault::OutOfMemory);
-            return Err(DoorFault::OutOfMemory);
-        };
-        match door.step(alloc, op, moment) {
-            Ok(answered) => {
-                self.take(alloc, answered.reply);
-                Ok(())
-            }
-            Err(stopped) => {
-                self.fault = Some(stopped.fault);
-                Err(stopped.fault)
-            }
-        }
-    }
-}
-
 impl Task for RepairTask {
     ghost use Rattle.std.specs.Prelude.{[], None};
     ghost use Rattle.task_repair.specs.Stages.{IsOver};
@@ -214,6 +163,35 @@ impl Task for RepairTask {
         match (&self.stage, self.fault) {
             (Stage::Ended(outcome), None) => Some(outcome),
             _ => None,
+        }
+    }
+}
+
+impl EventTask for RepairTask {
+    ghost use Rattle.task_repair.specs.Stages.{IsOpen};
+    ghost use Rattle.task_repair.specs.Tasks.{stage_of};
+
+    ghost is_ready = { λ t. IsOpen (stage_of t) };
+
+    fn event<D: Door>(
+        &mut self,
+        alloc: Global,
+        door: &mut D,
+        moment: u64,
+    ) -> Result<(), DoorFault> {
+        let Ok(op) = self.next_op() else {
+            self.fault = Some(DoorFault::OutOfMemory);
+            return Err(DoorFault::OutOfMemory);
+        };
+        match door.step(alloc, op, moment) {
+            Ok(answered) => {
+                self.take(alloc, answered.reply);
+                Ok(())
+            }
+            Err(stopped) => {
+                self.fault = Some(stopped.fault);
+                Err(stopped.fault)
+            }
         }
     }
 }

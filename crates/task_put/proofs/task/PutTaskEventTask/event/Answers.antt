@@ -8,7 +8,7 @@ use Rattle.task_put.specs.Tasks.{request_of, fault_of, at_stage, fits}
 use Rattle.realm_door.specs.Steps.{event_at, back_of}
 use Rattle.realm_door.proofs.Steps.{one_more}
 use Rattle.task_put.proofs.Stepping.{fits_next}
-use Rattle.task_put.proofs.task.PutTask.event.Goals as goal
+use Rattle.task_put.proofs.task.PutTaskEventTask.event.Goals as goal
 
 pub returns-in-Ok-step : goal.returns-in-Ok-step
 returns-in-Ok-step g c =

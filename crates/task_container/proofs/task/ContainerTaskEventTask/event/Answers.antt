@@ -5,7 +5,7 @@ use Rattle.realm_door.specs.Steps.{event_at}
 use Rattle.realm_door.proofs.Steps.{one_more}
 use Rattle.task_container.specs.Stages.{fits}
 use Rattle.task_container.proofs.Turning.{fits_next}
-use Rattle.task_container.proofs.task.ContainerTask.event.Goals as goal
+use Rattle.task_container.proofs.task.ContainerTaskEventTask.event.Goals as goal
 
 pub returns-in-Ok-step : goal.returns-in-Ok-step
 returns-in-Ok-step g c =
@@ -13,11 +13,12 @@ returns-in-Ok-step g c =
     let n = c.in-Ok-step.ensures.number in
     let suits = subst (λ o. Suits o c.in-Ok-step.answered.reply) c.in-Ok.ensures c.in-Ok-step.ensures.suits in
     record {
-      kept = λ tells. ((made tells).legal, fits_next (g.D.Door.settings c.args.door.now) (g.D.Door.told c.args.door.now) (g.D.Door.told c.step.new.self) c.args.self.now c.take.new.self c.in-Ok.op c.args.moment c.in-Ok-step.answered c.requires.open c.in-Ok.ensures suits c.take.ensures.request c.take.ensures.stage c.take.ensures.moved (c.requires.fits tells).1 (made tells));
+      kept = λ tells. ((made tells).legal, fits_next (g.D.Door.settings c.args.door.now) (g.D.Door.told c.args.door.now) (g.D.Door.told c.step.new.self) c.args.self.now c.take.new.self c.in-Ok.op c.args.moment c.in-Ok-step.answered c.requires.ready c.in-Ok.ensures suits c.take.ensures.request c.take.ensures.stage c.take.ensures.moved (c.requires.fits tells).1 (made tells));
       made = λ tells. record { op = c.in-Ok.op; answered = c.in-Ok-step.answered; extends = made tells };
       alone = λ tells alone. one_more (g.D.Door.told c.args.door.now) (g.D.Door.told c.step.new.self) (event_at (g.D.Door.told c.args.door.now) c.in-Ok.op c.args.moment c.in-Ok-step.answered.reply) (c.in-Ok-step.ensures.alone tells alone);
       counts = (subst (λ k. g.D.Door.last c.args.door.now < k) (sym n.2) n.0, subst (λ k. k ≤ 2 ^ 62) (sym n.2) n.1);
-      request = c.take.ensures.request;
+      steps = tt;
+      command = c.take.ensures.request;
       stopped = search rules;
       sound = search rules;
       faulted = search rules;
@@ -33,7 +34,8 @@ returns-in-Err g c =
       made = tt;
       alone = tt;
       counts = tt;
-      request = search rules;
+      steps = tt;
+      command = search rules;
       stopped = (c.in-Err.ensures.stopped, c.in-Err.ensures.unnumbered);
       sound = tt;
       faulted = search rules;

@@ -5,7 +5,7 @@ use Rattle.realm_door.specs.Steps.{event_at}
 use Rattle.realm_door.proofs.Steps.{one_more}
 use Rattle.task_repair.specs.Tasks.{known_at, fits}
 use Rattle.task_repair.proofs.Turning.{fits_next, may_step}
-use Rattle.task_repair.proofs.task.RepairTask.event.Goals as goal
+use Rattle.task_repair.proofs.task.RepairTaskEventTask.event.Goals as goal
 
 pub step-requires : goal.step-requires
 step-requires g c = λ tells.
@@ -23,12 +23,13 @@ returns-in-Ok-step g c =
     record {
       kept = λ tells. (
         (made tells).legal,
-        fits_next (g.D.Door.settings c.args.door.now) (g.D.Door.told c.args.door.now) (g.D.Door.told c.step.new.self) c.args.self.now c.take.new.self c.in-Ok.op c.args.moment c.in-Ok-step.answered c.requires.open c.in-Ok.ensures suits c.take.ensures.some n.1 c.take.ensures.request c.take.ensures.stage c.take.ensures.applied (c.requires.fits tells).1 (made tells),
+        fits_next (g.D.Door.settings c.args.door.now) (g.D.Door.told c.args.door.now) (g.D.Door.told c.step.new.self) c.args.self.now c.take.new.self c.in-Ok.op c.args.moment c.in-Ok-step.answered c.requires.ready c.in-Ok.ensures suits c.take.ensures.some n.1 c.take.ensures.request c.take.ensures.stage c.take.ensures.applied (c.requires.fits tells).1 (made tells),
       );
       made = λ tells. record { op = c.in-Ok.op; answered = c.in-Ok-step.answered; extends = made tells };
       alone = λ tells alone. one_more (g.D.Door.told c.args.door.now) (g.D.Door.told c.step.new.self) (event_at (g.D.Door.told c.args.door.now) c.in-Ok.op c.args.moment c.in-Ok-step.answered.reply) (c.in-Ok-step.ensures.alone tells alone);
       counts = (subst (λ k. g.D.Door.last c.args.door.now < k) (sym n.2) n.0, subst (λ k. k ≤ 2 ^ 62) (sym n.2) n.1);
-      request = c.take.ensures.request;
+      steps = tt;
+      command = c.take.ensures.request;
       stopped = search rules;
       sound = search rules;
       faulted = search rules;
@@ -44,7 +45,8 @@ returns-in-Err g c =
       made = tt;
       alone = tt;
       counts = tt;
-      request = search rules;
+      steps = tt;
+      command = search rules;
       stopped = (c.in-Err.ensures.stopped, c.in-Err.ensures.unnumbered);
       sound = tt;
       faulted = search rules;
