@@ -165,18 +165,6 @@ counted_grown settings d e g counted =
 
 -- ---- turns
 
-pub turned_grows : (settings : SettingsView) (turn : TaskTurn) (moment : ℕ) (d e : DoorView) → Turned settings turn moment d e → Grows settings d e
-turned_grows settings More moment d e made = made.extends.grows
-turned_grows settings Gives moment d e made = made.extends.grows
-turned_grows settings Wants moment d e same = subst (λ x. Grows settings d x) (sym same) (grows_none settings d)
-turned_grows settings Done moment d e same = subst (λ x. Grows settings d x) (sym same) (grows_none settings d)
-
--- a turn more, at settings that are the same
-pub grows_by_turn : (settings now : SettingsView) (turn : TaskTurn) (moment : ℕ) (d e f : DoorView) → now ≡ settings → Grows settings d e → Turned now turn moment e f → Grows settings d f
-grows_by_turn settings now turn moment d e f same grown turned =
-    let last : Turned settings turn moment e f = subst (λ s. Turned s turn moment e f) same turned in
-    grows_both settings d e f grown (turned_grows settings turn moment e f last)
-
 -- ---- one event more
 
 pub one_more : (d e : DoorView) (event : Event) → e.seen ≡ d.seen ++ event ∷ [] → IsOneMore d e

@@ -6,7 +6,6 @@ mod back;
 mod door;
 mod event_task;
 mod laws;
-mod running;
 mod task;
 
 pub use back::handed_back;
@@ -15,7 +14,6 @@ pub use event_task::EventTask;
 pub use laws::{
     actors_stay_counted, growth_adds_up, others_change_no_doings, own_events_extend_what_is_told,
 };
-pub use running::run;
 pub use task::{Task, TaskTurn};
 
 #[cfg(test)]

@@ -166,11 +166,12 @@ fn a_task_ends_over_a_door_that_tells_nothing(rt: HostRuntime) -> Result<(), Fai
     let mut task = count_task();
     door.begin();
     assert!(rt; task.outcome().is_none());
-    assert_eq!(rt; run(rt.alloc(), &mut door, &mut task, 7)?, TaskTurn::Done);
+    assert_eq!(rt; task.turn(rt.alloc(), &mut door, 7)?, TaskTurn::More);
+    assert_eq!(rt; task.turn(rt.alloc(), &mut door, 7)?, TaskTurn::Done);
     assert_eq!(rt; task.outcome().copied(), Some(0));
     assert_eq!(rt; door.number, 1);
     let mut next = count_task();
-    let stopped = run(rt.alloc(), &mut door, &mut next, 7);
+    let stopped = next.turn(rt.alloc(), &mut door, 7);
     assert_eq!(rt; stopped, Err(DoorFault::Worn));
     assert!(rt; next.outcome().is_none());
     Ok(())
