@@ -1,6 +1,7 @@
 -- Where the task of a PUT stands, and where it pauses.
-use Rattle.std.specs.Prelude.{◌≡◌, Bool, true, false, Option, Some, None}
+use Rattle.std.specs.Prelude.{◌≡◌, ◌≤◌, Bool, true, false, [], Option, Some, None}
 use Rattle.call_words.specs.Bodies.{Fate, broken_off, IsWrong}
+use Rattle.http_intake.specs.Intake.{IntakeState}
 use Rattle.realm_model.specs.Settings.{SettingsView}
 use Rattle.realm_model.specs.Doors.{DoorView}
 use Rattle.realm_model.specs.Histories.{Legal}
@@ -16,9 +17,11 @@ use Rattle.task_put.specs.declared.stage.After.TheVariants.{Again, End}
 use Rattle.task_put.specs.declared.stage.Stage.{Stage}
 use Rattle.task_put.specs.declared.stage.Stage.TheVariants.{Looking, Feeding, Cancelling, Ended}
 use Rattle.task_put.specs.declared.task.PutTask.{PutTask}
+use Rattle.task_put.specs.Bodies.{most_bytes}
 use Rattle.task_put.specs.Stages.{IsOver}
 use Rattle.task_put.specs.Taking.{WantsBytes}
-use Rattle.task_put.specs.Tasks.{request_of, stage_of, fits}
+use Rattle.task_put.specs.Tasks.{request_of, stage_of, fault_of, fits}
+use Rattle.call_service.specs.Bodies.{most_due}
 use Rattle.call_service.specs.Serving.{is_by_end}
 use Rattle.put_service.specs.declared.stepping.Pause.{Pause}
 use Rattle.put_service.specs.declared.stepping.Pause.TheVariants as pauses
@@ -77,6 +80,14 @@ IsSteadyAt r stage = Unit {0}
 
 abbrev pub IsSteady : PutTask → Type 0
 IsSteady task = IsSteadyAt (request_of task) (stage_of task)
+
+-- the task met no fault, took no byte of its body, and did not see its end
+abbrev pub IsFresh : PutTask → Type 0
+IsFresh task = (fault_of task ≡ None) × IsSteady task × ((request_of task).bytes ≡ []) × ((request_of task).end ≡ None)
+
+-- the intake met no fault, and no more of the body is due than a PUT may have
+abbrev pub IsReadable : IntakeState → Type 0
+IsReadable intake = (intake.failed ≡ None) × (most_due intake ≤ most_bytes)
 
 -- ---- pauses
 

@@ -13,7 +13,7 @@ ghost use Rattle.task_put.specs.Tasks.{request_of, stage_of, fault_of};
 ghost use Rattle.call_service.specs.Bodies.{ReadsAtFault, most_due};
 ghost use Rattle.call_service.specs.Serving.{WritesAtFault, IsNew, IsServed, IsStopped, HasServeCause, form_at, side, LeavesText};
 ghost use Rattle.door_moments.specs.Acts.{Asks};
-ghost use Rattle.put_service.specs.Standing.{IsUp, IsSteady, IsEndAt};
+ghost use Rattle.put_service.specs.Standing.{IsUp, IsSteady, IsEndAt, IsFresh, IsReadable};
 ghost use Rattle.call_service.specs.Replying.{StopsEvent};
 ghost use Rattle.put_service.specs.Parts.{StopsBody, EndsSo, RunsTask, fate_of, task_end, text_of, served_so, site_at, place};
 
@@ -185,12 +185,8 @@ fn serve_body<D: Door, C: Clock, S: Source, K: Sink>(
     out: &mut Vec<u8>,
 ) -> Result<Served, ServeFault>
     requires room { 0 < length buffer.old }
-    requires sound { fault_of task.old ≡ None }
-    requires steady { IsSteady task.old }
-    requires none { (request_of task.old).bytes ≡ [] }
-    requires open { (request_of task.old).end ≡ None }
-    requires intake { intake.old.failed ≡ None }
-    requires few { most_due intake.old ≤ most_bytes }
+    requires fresh { IsFresh task.old }
+    requires intake { IsReadable intake.old }
     requires form { form.bodiless ≡ false }
     requires up { IsUp D.tells (D.settings door.old) task.old (D.told door.old) }
     ensures served { IfOk result (IsServed D.tells D.alone (site_at (D.settings door.old) (request_of task.old)) form (Put (request_of task.old).command) Fed
@@ -268,12 +264,8 @@ fn serve_waiting<D: Door, C: Clock, S: Source, K: Sink>(
     out: &mut Vec<u8>,
 ) -> Result<Served, ServeFault>
     requires room { 0 < length buffer.old }
-    requires sound { fault_of task.old ≡ None }
-    requires steady { IsSteady task.old }
-    requires none { (request_of task.old).bytes ≡ [] }
-    requires open { (request_of task.old).end ≡ None }
-    requires intake { intake.old.failed ≡ None }
-    requires few { most_due intake.old ≤ most_bytes }
+    requires fresh { IsFresh task.old }
+    requires intake { IsReadable intake.old }
     requires form { form.bodiless ≡ false }
     requires up { IsUp D.tells (D.settings door.old) task.old (D.told door.old) }
     requires legal { D.tells → Legal (D.settings door.old) (D.told door.old).seen }
@@ -319,12 +311,8 @@ fn serve_new<D: Door, C: Clock, S: Source, K: Sink>(
     out: &mut Vec<u8>,
 ) -> Result<Served, ServeFault>
     requires room { 0 < length buffer.old }
-    requires sound { fault_of task.old ≡ None }
-    requires steady { IsSteady task.old }
-    requires none { (request_of task.old).bytes ≡ [] }
-    requires open { (request_of task.old).end ≡ None }
-    requires intake { intake.old.failed ≡ None }
-    requires few { most_due intake.old ≤ most_bytes }
+    requires fresh { IsFresh task.old }
+    requires intake { IsReadable intake.old }
     requires form { form.bodiless ≡ false }
     requires up { IsUp D.tells (D.settings door.old) task.old (D.told door.old) }
     requires legal { D.tells → Legal (D.settings door.old) (D.told door.old).seen }

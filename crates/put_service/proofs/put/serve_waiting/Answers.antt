@@ -30,7 +30,7 @@ returns-in_err-pause-clause-stopped g c =
     let p = err_from_is_err_and c.from_residual.result c.from_residual.ensures.1 in
     rw (p.1, p.2)
     (inl (row_stops g.D.Door.tells g.D.Door.alone site c.args.form (Put r.command) Unread (g.D.Door.found c.advance.new.door) (side (g.D.Door.told c.args.door.now) c.args.intake.now old) (side (g.D.Door.told c.advance.new.door) c.args.intake.now new)
-    c.in_err-pause.field-0.0 c.in_err-pause.ensures.fault (none_begun Unread c.args.intake.now old.left c.requires.intake) (record { unwritten = Appends-nil old.taken; asks = c.in_err-pause.ensures.stopped })))
+    c.in_err-pause.field-0.0 c.in_err-pause.ensures.fault (none_begun Unread c.args.intake.now old.left c.requires.intake.0) (record { unwritten = Appends-nil old.taken; asks = c.in_err-pause.ensures.stopped })))
 
 pub returns-in-Over-clause-served : goal.returns-in-Over-clause-served
 returns-in-Over-clause-served g c =
@@ -38,7 +38,7 @@ returns-in-Over-clause-served g c =
     let r = request_of c.args.task.now in
     let old = ends_with (g.S.Source.left c.args.source.now) (g.K.Sink.taken c.args.sink.now) (g.C.Clock.told c.args.clock.now) (g.C.Clock.plan c.args.clock.now) (g.S.Source.faults c.args.source.now) (g.K.Sink.faults c.args.sink.now) in
     let x = side (g.D.Door.told c.args.door.now) c.args.intake.now old in
-    let first = first_is r c.requires.none c.requires.open in
+    let first = first_is r c.requires.fresh.2 c.requires.fresh.3 in
     let new = ends_with (g.S.Source.left c.args.source.now) (g.K.Sink.taken c.leave_body.new.sink) (g.C.Clock.told c.advance.new.clock) (g.C.Clock.plan c.advance.new.clock) (g.S.Source.faults c.args.source.now) (g.K.Sink.faults c.leave_body.new.sink) in
     let y = side (g.D.Door.told c.advance.new.door) c.args.intake.now new in
     let at : PausesAt Pauses.Over c.advance.new.task = subst (λ (p : Pause). PausesAt p c.advance.new.task) c.in-Over.is c.in_ok-pause.ensures.pauses in
@@ -53,7 +53,7 @@ returns-in-Over-clause-stopped g c =
     let r = request_of c.args.task.now in
     let old = ends_with (g.S.Source.left c.args.source.now) (g.K.Sink.taken c.args.sink.now) (g.C.Clock.told c.args.clock.now) (g.C.Clock.plan c.args.clock.now) (g.S.Source.faults c.args.source.now) (g.K.Sink.faults c.args.sink.now) in
     let x = side (g.D.Door.told c.args.door.now) c.args.intake.now old in
-    let first = first_is r c.requires.none c.requires.open in
+    let first = first_is r c.requires.fresh.2 c.requires.fresh.3 in
     let new = ends_with (g.S.Source.left c.args.source.now) (g.K.Sink.taken c.leave_body.new.sink) (g.C.Clock.told c.advance.new.clock) (g.C.Clock.plan c.advance.new.clock) (g.S.Source.faults c.args.source.now) (g.K.Sink.faults c.leave_body.new.sink) in
     let y = side (g.D.Door.told c.advance.new.door) c.args.intake.now new in
     let at : PausesAt Pauses.Over c.advance.new.task = subst (λ (p : Pause). PausesAt p c.advance.new.task) c.in-Over.is c.in_ok-pause.ensures.pauses in
@@ -68,7 +68,7 @@ returns-in_err-send-in-Wants-clause-stopped g c =
     let r = request_of c.args.task.now in
     let old = ends_with (g.S.Source.left c.args.source.now) (g.K.Sink.taken c.args.sink.now) (g.C.Clock.told c.args.clock.now) (g.C.Clock.plan c.args.clock.now) (g.S.Source.faults c.args.source.now) (g.K.Sink.faults c.args.sink.now) in
     let x = side (g.D.Door.told c.args.door.now) c.args.intake.now old in
-    let first = first_is r c.requires.none c.requires.open in
+    let first = first_is r c.requires.fresh.2 c.requires.fresh.3 in
     let new = ends_with (g.S.Source.left c.args.source.now) (g.K.Sink.taken c.send.new.sink) (g.C.Clock.told c.advance.new.clock) (g.C.Clock.plan c.advance.new.clock) (g.S.Source.faults c.args.source.now) (g.K.Sink.faults c.send.new.sink) in
     let y = side (g.D.Door.told c.advance.new.door) c.args.intake.now new in
     let at : PausesAt Pauses.Wants c.advance.new.task = subst (λ (p : Pause). PausesAt p c.advance.new.task) c.in-Wants.is c.in_ok-pause.ensures.pauses in
@@ -84,7 +84,7 @@ returns-in_ok-send-in-Wants-clause-served g c =
     let r = request_of c.args.task.now in
     let old = ends_with (g.S.Source.left c.args.source.now) (g.K.Sink.taken c.args.sink.now) (g.C.Clock.told c.args.clock.now) (g.C.Clock.plan c.args.clock.now) (g.S.Source.faults c.args.source.now) (g.K.Sink.faults c.args.sink.now) in
     let x = side (g.D.Door.told c.args.door.now) c.args.intake.now old in
-    let first = first_is r c.requires.none c.requires.open in
+    let first = first_is r c.requires.fresh.2 c.requires.fresh.3 in
     let mid = ends_with (g.S.Source.left c.args.source.now) (g.K.Sink.taken c.send.new.sink) (g.C.Clock.told c.advance.new.clock) (g.C.Clock.plan c.advance.new.clock) (g.S.Source.faults c.args.source.now) (g.K.Sink.faults c.send.new.sink) in
     let y = side (g.D.Door.told c.advance.new.door) c.args.intake.now mid in
     let new = ends_with (g.S.Source.left c.serve_body.new.source) (g.K.Sink.taken c.serve_body.new.sink) (g.C.Clock.told c.serve_body.new.clock) (g.C.Clock.plan c.serve_body.new.clock) (g.S.Source.faults c.serve_body.new.source) (g.K.Sink.faults c.serve_body.new.sink) in
@@ -102,7 +102,7 @@ returns-in_ok-send-in-Wants-clause-stopped g c =
     let r = request_of c.args.task.now in
     let old = ends_with (g.S.Source.left c.args.source.now) (g.K.Sink.taken c.args.sink.now) (g.C.Clock.told c.args.clock.now) (g.C.Clock.plan c.args.clock.now) (g.S.Source.faults c.args.source.now) (g.K.Sink.faults c.args.sink.now) in
     let x = side (g.D.Door.told c.args.door.now) c.args.intake.now old in
-    let first = first_is r c.requires.none c.requires.open in
+    let first = first_is r c.requires.fresh.2 c.requires.fresh.3 in
     let mid = ends_with (g.S.Source.left c.args.source.now) (g.K.Sink.taken c.send.new.sink) (g.C.Clock.told c.advance.new.clock) (g.C.Clock.plan c.advance.new.clock) (g.S.Source.faults c.args.source.now) (g.K.Sink.faults c.send.new.sink) in
     let y = side (g.D.Door.told c.advance.new.door) c.args.intake.now mid in
     let new = ends_with (g.S.Source.left c.serve_body.new.source) (g.K.Sink.taken c.serve_body.new.sink) (g.C.Clock.told c.serve_body.new.clock) (g.C.Clock.plan c.serve_body.new.clock) (g.S.Source.faults c.serve_body.new.source) (g.K.Sink.faults c.serve_body.new.sink) in
