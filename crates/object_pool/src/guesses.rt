@@ -3,19 +3,19 @@
 use rgw_types::Key;
 use std::alloc::Global;
 
-// So many guesses stand side by side: with 16 bytes each they fill one line of a processor's cache.
+// So many guesses stand side by side: with 8 bytes each they fill half a line of a processor's cache.
 const SIDE_BY_SIDE: usize = 4;
 
 #[derive(Clone, Copy, Debug)]
 struct Guess {
-    sum: u64,
-    number: usize,
+    sum: u32,
+    number: u32,
 }
 
-// No object has such a number.
+// No object is guessed to have such a number.
 const NO_GUESS: Guess = Guess {
     sum: 0,
-    number: usize::MAX,
+    number: u32::MAX,
 };
 
 // The newest guess of a group stands first, and the oldest gives way.
@@ -35,11 +35,11 @@ impl Guesses {
     pub(crate) fn number_of(&self, key: &Key) -> usize {
         let sum = sum_of(key);
         let Some(group) = self.groups.get(place_of(sum, self.groups.len())) else {
-            return NO_GUESS.number;
+            return NO_GUESS.number as usize;
         };
         match group.iter().find(|guess| guess.sum == sum) {
-            Some(guess) => guess.number,
-            None => NO_GUESS.number,
+            Some(guess) => guess.number as usize,
+            None => NO_GUESS.number as usize,
         }
     }
 
@@ -49,8 +49,10 @@ impl Guesses {
         if objects / 2 >= self.groups.len() {
             self.grow(alloc);
         }
-        let sum = sum_of(key);
-        put_first(&mut self.groups, Guess { sum, number });
+        if let Ok(number) = u32::try_from(number) {
+            let sum = sum_of(key);
+            put_first(&mut self.groups, Guess { sum, number });
+        }
     }
 
     // Twice as many groups, with the same guesses.
@@ -78,12 +80,12 @@ fn put_first(groups: &mut Vec<[Guess; SIDE_BY_SIDE]>, guess: Guess) {
 }
 
 // The group of a sum among so many.
-fn place_of(sum: u64, groups: usize) -> usize {
-    (sum % (groups as u64).max(1)) as usize
+fn place_of(sum: u32, groups: usize) -> usize {
+    sum as usize % groups.max(1)
 }
 
 // What a key comes to.
-fn sum_of(key: &Key) -> u64 {
+fn sum_of(key: &Key) -> u32 {
     let sum = match key {
         Key::Root => 1,
         Key::Shard {
@@ -97,7 +99,7 @@ fn sum_of(key: &Key) -> u64 {
         Key::Changes => 6,
         Key::Sync { peer } => mixed(7, u64::from(*peer)),
     };
-    sum ^ (sum >> 32)
+    ((sum ^ (sum >> 32)) & 0xFFFF_FFFF) as u32
 }
 
 fn sum_of_bytes(start: u64, bytes: &[u8]) -> u64 {
