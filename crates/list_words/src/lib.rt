@@ -11,6 +11,3 @@ pub use command::ListCommand;
 pub use key::Key;
 pub use laws::{keys_rise_with_names, other_names_change_nothing};
 pub use row::{ListedRow, ListedRows, ListedThing};
-
-#[cfg(test)]
-mod tests;

@@ -12,6 +12,3 @@ pub use once_end::OnceEnd;
 pub use running::run;
 pub use status::Status;
 pub use system::run_on_system;
-
-#[cfg(test)]
-mod tests;

@@ -13,6 +13,3 @@ mod script;
 
 pub use fault::ScriptFault;
 pub use running::{ScriptPlan, run_script};
-
-#[cfg(test)]
-mod tests;

@@ -8,6 +8,3 @@ mod values;
 
 pub use fault::WordsFault;
 pub use run_words::{RunWords, read_once, read_script};
-
-#[cfg(test)]
-mod tests;

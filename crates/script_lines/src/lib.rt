@@ -10,6 +10,3 @@ mod reader;
 pub use fault::LineFault;
 pub use laws::{first_lines_go_first, last_lines_end};
 pub use reader::{INPUT_LIMIT, LINE_LIMIT, LineReader, Next};
-
-#[cfg(test)]
-mod tests;

@@ -13,6 +13,3 @@ mod stat;
 
 pub use laws::{lines_have_few_bytes, others_keep_a_player, others_keep_what_an_end_means};
 pub use player::{Gone, Player};
-
-#[cfg(test)]
-mod tests;

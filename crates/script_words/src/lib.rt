@@ -20,6 +20,3 @@ pub use replies::{
     push_bad_line, push_count_line, push_job_outcome, push_named_line, push_outcome,
     push_reply_line, push_request_outcome,
 };
-
-#[cfg(test)]
-mod tests;

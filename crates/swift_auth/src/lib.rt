@@ -17,6 +17,3 @@ pub use laws::{
 pub use policy::{Deed, Rule, Verdict, judge};
 pub use user::User;
 pub use users::Users;
-
-#[cfg(test)]
-mod tests;

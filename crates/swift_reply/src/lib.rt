@@ -35,6 +35,3 @@ pub use reply::{
 };
 pub use row::{AccountRow, AccountRows};
 pub use std::alloc::AllocError as OutOfMemory;
-
-#[cfg(test)]
-mod tests;

@@ -19,6 +19,3 @@ pub use known::{
     listings_ask_so, metadata_is_read_so, objects_are_named_so, puts_ask_so, ranges_are_read_so,
 };
 pub use laws::lists_are_those_of_the_standard;
-
-#[cfg(test)]
-mod tests;

@@ -13,6 +13,3 @@ pub use fault::WordFault;
 pub use place::read_place;
 pub use query::Query;
 pub use target::{Target, read_target};
-
-#[cfg(test)]
-mod tests;

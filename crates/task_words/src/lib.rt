@@ -20,6 +20,3 @@ pub use laws::outcomes_stay;
 pub use outcome::Outcome;
 pub use reply::{MapReply, Refusal};
 pub use span::{ByteRange, Span, bytes_taken};
-
-#[cfg(test)]
-mod tests;

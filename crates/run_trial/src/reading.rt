@@ -1,5 +1,5 @@
-use super::*;
 use gw_io::{SliceSource, WholeSource};
+use script_lines::{LINE_LIMIT, LineFault, LineReader, Next};
 use std::test::Fail;
 
 #[test]

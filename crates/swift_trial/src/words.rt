@@ -5,10 +5,10 @@ mod names;
 mod places;
 mod queries;
 
-use super::*;
 use rgw_types::Text;
 use std::alloc::{AllocError, Global};
 use std::test::Fail;
+use swift_words::{Target, WordFault, read_place, read_target};
 
 /// The target in words, one blank between them.
 fn shown(alloc: Global, target: &Target) -> Result<String, AllocError> {

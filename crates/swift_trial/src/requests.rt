@@ -1,9 +1,9 @@
 // What no clause says: that the calls come to a good end.
-use super::*;
 use http_model::{Head, read_head};
 use object_words::EtagRule;
 use std::alloc::Global;
 use std::test::Fail;
+use swift_requests::{Asked, BodyUse, body_use, closes, read_asked};
 use task_words::{GetCommand, PutCommand, Span};
 
 const LARGEST: u64 = 5_368_709_120;

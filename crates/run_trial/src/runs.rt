@@ -1,8 +1,8 @@
 // Words and runs whose answers come from the manual and from examples worked by hand.
 ghost use Rattle.std.specs.Prelude.{◌≤◌};
 
-use crate::running::run;
 use gw_io::{SliceSource, StepClock, VecSink};
+use rgw_run::run;
 use std::alloc::{AllocError, Global};
 use std::test::Fail;
 

@@ -1,13 +1,13 @@
-use super::{
-    AccountRow, AccountRows, SwiftRefusal, TargetKind, json_accounts, json_rows, plain_accounts,
-    plain_rows, push_bad_request, push_refusal, push_shown_head, push_stored, write_head,
-};
 use http_model::{BadRequest, Field, Fields, ReplyForm, ReplyHead};
 use list_words::{ListedRow, ListedRows, ListedThing};
 use object_words::{MediaType, ObjectName};
 use rgw_types::{Bytes, Pairs, Stamp, Text};
 use std::alloc::{AllocError, Global};
 use std::test::Fail;
+use swift_reply::{
+    AccountRow, AccountRows, SwiftRefusal, TargetKind, json_accounts, json_rows, plain_accounts,
+    plain_rows, push_bad_request, push_refusal, push_shown_head, push_stored, write_head,
+};
 
 // All texts here were written by hand or by another program.
 

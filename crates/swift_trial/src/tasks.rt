@@ -1,8 +1,8 @@
 // What no clause says: that the calls run.
-use super::*;
 use rgw_types::Text;
 use std::test::Fail;
 use swift_auth::{Deed, Users};
+use task_words::{Asker, ByteRange, Refusal, Span, bytes_taken};
 
 #[test]
 fn ranges_are_taken(rt: HostRuntime) -> Result<(), Fail> {

@@ -1,5 +1,5 @@
 //! Keys of names, and texts below them.
-use crate::*;
+use list_words::{Key, ListCommand};
 use object_words::{BucketName, ObjectName};
 use rgw_types::Text;
 use std::alloc::Global;

@@ -2,12 +2,12 @@
 ghost use Rattle.std.specs.Prelude.{◌≡◌, IfOk};
 ghost use Rattle.script_player.specs.Requests.{HasFewBytes};
 
-use super::*;
 use container_preset::preset_bucket;
 use object_words::{BucketName, ObjectName};
 use realm_model::Settings;
 use realm_stage::RealmStage;
 use rgw_types::{Bytes, Text};
+use script_player::{Gone, Player};
 use script_words::{ActorOutcome, ScriptBody, Verb};
 use std::alloc::Global;
 use std::test::Fail;

@@ -1,5 +1,8 @@
-use super::*;
 use job_words::JobOutcome;
+use script_words::{
+    ActorOutcome, Line, ScriptBody, Verb, push_bad_line, push_count_line, push_job_outcome,
+    push_named_line, push_reply_line, push_request_outcome, read_line,
+};
 use std::test::Fail;
 use task_words::{MapReply, Outcome, Refusal};
 

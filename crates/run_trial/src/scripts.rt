@@ -1,9 +1,9 @@
 //! Known scripts. What they print was counted by hand, from the rules of the language and the events of each request.
-use super::*;
 use gw_io::{SliceSource, VecSink};
 use object_words::BucketName;
 use realm_core::Realm;
 use realm_model::Settings;
+use rgw_script::{ScriptFault, ScriptPlan, run_script};
 use rgw_types::Text;
 use std::alloc::Global;
 use std::test::Fail;

@@ -1,5 +1,5 @@
 // Words whose meaning comes from the manual of the program and from examples worked by hand.
-use crate::{WordsFault, read_once, read_script};
+use rgw_words::{WordsFault, read_once, read_script};
 use std::alloc::{AllocError, Global};
 use std::test::Fail;
 

@@ -3,9 +3,9 @@ mod callers;
 mod texts;
 mod verdicts;
 
-use super::*;
 use std::alloc::Global;
 use std::test::Fail;
+use swift_auth::{Deed, Rule, User, Users, UsersFault, Verdict, judge};
 
 /// Three users of three accounts.
 const THREE: &str = "[{\"user\":\"acme:ann\",\"key\":\"secret\",\"token\":\"AUTH_tk1\"},

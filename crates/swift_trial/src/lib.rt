@@ -1,0 +1,16 @@
+//! Targets, users, requests, listings and replies beside tables that were written by hand, through the public calls of
+//! their crates.
+#![tactic(auto)]
+
+#[cfg(test)]
+mod listings;
+#[cfg(test)]
+mod replies;
+#[cfg(test)]
+mod requests;
+#[cfg(test)]
+mod tasks;
+#[cfg(test)]
+mod users;
+#[cfg(test)]
+mod words;
