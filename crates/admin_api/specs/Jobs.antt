@@ -29,12 +29,6 @@ abbrev pub JobMeans : ℕ → Job → JobOutcome → SettingsView → DoorView �
 JobMeans zone (Check container) outcome settings d =
     IsRepairOutcome (repair_of zone container) outcome (account_of settings d.seen (actor_at d)) (own_events d.seen (actor_at d))
 
--- ---- the task of a check
-
--- the task stands where the events of the door's actor bring it
-abbrev pub IsUpTo : Type 0 → SettingsView → RepairTask → DoorView → Type 0
-IsUpTo tells settings t d = tells → Legal settings d.seen × fits t settings d
-
 -- ---- events
 
 -- the present actor made no event

@@ -1,9 +1,11 @@
 -- The first event, the body and the reply together, where the reply rests on no body.
-use Rattle.std.proofs.Common.{◌≡◌, ◌⊎◌, inl, inr, ℕ, Bool, true, false, List, [], Option, None, refl, sym, ap, ◌∙◌, subst}
+use Rattle.std.proofs.Common.{◌≡◌, ◌⊎◌, inl, inr, ℕ, ◌^◌, length, Bool, true, false, List, [], Option, None, refl, sym, ap, ◌∙◌, subst}
 use Rattle.std.specs.Io.KnownBytes.{Appends}
 use Rattle.http_chunks.specs.declared.body.BodyEnd.{BodyEnd}
 use Rattle.http_model.specs.declared.reply.ReplyForm.{ReplyForm}
 use Rattle.realm_model.specs.Accounts.{Account}
+use Rattle.turn_cell.specs.declared.machine.DoorFault.{DoorFault}
+use Rattle.turn_cell.specs.declared.machine.DoorFault.TheVariants as doors
 use Rattle.realm_model.specs.Doors.{DoorView, actor_at}
 use Rattle.realm_model.specs.Histories.{account_of}
 use Rattle.realm_model.specs.Owns.{OwnEvent, own_events}
@@ -30,6 +32,12 @@ use Rattle.call_service.specs.declared.served.Served.TheVariants as services
 use Rattle.call_service.specs.Replying.{StopsEvent, IsUnwanted, Replies, IsPartly, stand, StopsReply}
 use Rattle.door_moments.proofs.Asking.{both_ask}
 use Rattle.call_service.proofs.Passing.{fate_begun, broken_begun}
+use Rattle.call_service.specs.Faults.{fault_by_door}
+
+-- an event that a door refused was refused for its cause
+pub event_stopped : (tells : Type 0) (found : List Event) (fault : DoorFault) → (tells → fault ≡ doors.Worn → length found ≡ 2 ^ 62) → StopsEvent tells found (fault_by_door fault)
+event_stopped tells found doors.OutOfMemory worn = tt
+event_stopped tells found doors.Worn worn = λ is. worn is refl
 
 -- the text of a reply does not say whose task it was
 pub any_actor : (form : ReplyForm) (asked : Asked) (fate : Fate) (outcome : Outcome) (shown : List ℕ) (a b : ℕ) → text_by form asked fate (task a outcome) shown ≡ text_by form asked fate (task b outcome) shown

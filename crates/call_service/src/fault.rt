@@ -1,6 +1,6 @@
 //! Faults of a connection.
 ghost use Rattle.std.specs.Prelude.{◌≡◌};
-ghost use Rattle.turn_cell.specs.declared.machine.DoorFault.TheVariants as door_faults;
+ghost use Rattle.call_service.specs.Faults.{fault_by_door};
 
 use gw_io::Failed;
 use std::alloc::{AllocError, AllocFailed};
@@ -64,10 +64,20 @@ impl From<Failed> for ServeFault {
     }
 }
 
+impl From<DoorFault> for ServeFault {
+    ghost use Rattle.std.specs.Prelude.{◌≡◌};
+    ghost use Rattle.call_service.specs.Faults.{fault_by_door};
+
+    ghost from_gives = { λ cause fault. fault ≡ fault_by_door cause };
+
+    fn from(fault: DoorFault) -> ServeFault {
+        fault_of(fault)
+    }
+}
+
 /// The fault of a connection that a door's fault is.
 pub fn fault_of(fault: DoorFault) -> ServeFault
-    ensures memory { fault ≡ door_faults.OutOfMemory → result ≡ ServeFault.OutOfMemory }
-    ensures worn { fault ≡ door_faults.Worn → result ≡ ServeFault.Worn }
+    ensures { result ≡ fault_by_door fault }
 {
     match fault {
         DoorFault::OutOfMemory => ServeFault::OutOfMemory,

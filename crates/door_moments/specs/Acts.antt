@@ -10,6 +10,10 @@ use Rattle.realm_model.specs.Worlds.{actor_of, same_actor}
 use Rattle.realm_model.specs.declared.event.Event.{Event}
 use Rattle.realm_door.specs.Steps.{Grows}
 
+-- a task stands where the events of the door's actor bring it
+abbrev pub IsUpTo : {A : Type 0} → (A → SettingsView → DoorView → Type 0) → Type 0 → SettingsView → A → DoorView → Type 0
+IsUpTo fits tells settings task d = tells → Legal settings d.seen × fits task settings d
+
 -- the moments of an actor's events
 abbrev pub own_moments : List Event → ActorId → List ℕ
 own_moments history actor = map (λ e. e.moment) (filter (λ e. same_actor actor (actor_of e)) history)

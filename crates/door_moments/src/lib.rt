@@ -2,6 +2,8 @@
 //! and one more or not.
 #![tactic(auto)]
 
+mod acting;
 mod laws;
 
+pub use acting::{act, act_to_end};
 pub use laws::asking_adds_up;

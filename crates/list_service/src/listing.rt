@@ -1,85 +1,28 @@
-ghost use Rattle.std.specs.Prelude.{◌≡◌, ◌≤◌, ◌<◌, ◌^◌, true, false, OnOk, OnErr, IfOk, IfErr, length, None};
+ghost use Rattle.std.specs.Prelude.{◌≡◌, ◌≤◌, ◌<◌, true, false, OnOk, IfOk, IfErr, length, None};
 ghost use Rattle.std.specs.Io.KnownBytes.{Appends};
 ghost use Rattle.swift_requests.specs.declared.asked.Asked.TheVariants.{Listing};
 ghost use Rattle.swift_requests.specs.declared.body.BodyUse.TheVariants.{Dropped};
 ghost use Rattle.call_service.specs.Bodies.{dropped_if};
 ghost use Rattle.task_list.specs.declared.stage.Stage.TheVariants.{Look};
-ghost use Rattle.task_list.specs.Tasks.{IsOver, IsPast, request_of, stage_of, fault_of, fits};
+ghost use Rattle.task_list.specs.Tasks.{IsOver, request_of, stage_of, fault_of, fits};
 ghost use Rattle.call_words.specs.Bodies.{IsWrong};
 ghost use Rattle.call_service.specs.Serving.{IsNew, IsServed, IsStopped, HasServeCause, WritesAtFault, side};
-ghost use Rattle.door_moments.specs.Acts.{Asks};
-ghost use Rattle.call_service.specs.Replying.{StopsEvent, Replies, StopsReply, stand};
+ghost use Rattle.door_moments.specs.Acts.{Asks, IsUpTo};
+ghost use Rattle.call_service.specs.Replying.{Replies, StopsReply, stand};
 ghost use Rattle.list_service.specs.Early.{EndsEarly, LeavesEarly};
-ghost use Rattle.list_service.specs.Listing.{IsUpTo, site_of, asked_by};
+ghost use Rattle.list_service.specs.Listing.{site_of, asked_by};
 
 use crate::write::{send_end, send_outcome};
-use call_service::{ServeFault, Served, closing, drop_body, fault_of, send_broken_body};
+use call_service::{ServeFault, Served, closing, drop_body, send_broken_body};
+use door_moments::{act, act_to_end};
 use gw_io::{Clock, Ends, Sink, Source};
 use http_chunks::BodyEnd;
 use http_intake::Intake;
 use http_model::ReplyForm;
-use realm_door::{Door, EventTask, Task};
+use realm_door::{Door, Task};
 use std::alloc::Global;
 use swift_reply::ListingForm;
 use task_list::{ListRequest, ListTask};
-
-/// Makes the event that comes next, at the moment now.
-fn act<D: Door, C: Clock>(
-    alloc: Global,
-    task: &mut ListTask,
-    door: &mut D,
-    clock: &mut C,
-) -> Result<(), ServeFault>
-    requires open { IsOver (stage_of task.old) → ⊥ }
-    requires sound { fault_of task.old ≡ None }
-    requires up { IsUpTo D.tells (D.settings door.old) task.old (D.told door.old) }
-    ensures up { IsUpTo D.tells (D.settings door.old) task.new (D.told door.new) }
-    ensures sound { OnOk result (fault_of task.new ≡ None) }
-    ensures asks { OnOk result (Asks D.tells D.alone (D.settings door.old) false
-        (D.told door.old) (D.told door.new) (C.told clock.old) (C.told clock.new)) }
-    ensures unasked { OnErr result (Asks D.tells D.alone (D.settings door.old) true
-        (D.told door.old) (D.told door.new) (C.told clock.old) (C.told clock.new)) }
-    ensures looked { OnOk result (stage_of task.old ≡ Look None → IsPast (stage_of task.new)) }
-    ensures request { request_of task.new ≡ request_of task.old }
-    ensures counts { OnOk result ((D.last door.old < D.last door.new) × (D.last door.new ≤ 2 ^ 62)) }
-    ensures fault { IfErr result (StopsEvent D.tells (D.found door.new)) }
-    ensures settings { D.settings door.new ≡ D.settings door.old }
-    ensures home { D.home door.new ≡ D.home door.old }
-    ensures plan { C.plan clock.new ≡ C.plan clock.old }
-{
-    let moment = clock.now();
-    match task.event(alloc, door, moment) {
-        Ok(()) => Ok(()),
-        Err(fault) => Err(fault_of(fault)),
-    }
-}
-
-/// Goes on to the outcome.
-fn run<D: Door, C: Clock>(
-    alloc: Global,
-    task: &mut ListTask,
-    door: &mut D,
-    clock: &mut C,
-) -> Result<(), ServeFault>
-    requires sound { fault_of task.old ≡ None }
-    requires up { IsUpTo D.tells (D.settings door.old) task.old (D.told door.old) }
-    ensures up { IsUpTo D.tells (D.settings door.old) task.new (D.told door.new) }
-    ensures over { OnOk result (IsOver (stage_of task.new) × (fault_of task.new ≡ None)) }
-    ensures asks { OnOk result (Asks D.tells D.alone (D.settings door.old) false
-        (D.told door.old) (D.told door.new) (C.told clock.old) (C.told clock.new)) }
-    ensures unasked { OnErr result (Asks D.tells D.alone (D.settings door.old) true
-        (D.told door.old) (D.told door.new) (C.told clock.old) (C.told clock.new)) }
-    ensures fault { IfErr result (StopsEvent D.tells (D.found door.new)) }
-    ensures request { request_of task.new ≡ request_of task.old }
-    ensures settings { D.settings door.new ≡ D.settings door.old }
-    ensures home { D.home door.new ≡ D.home door.old }
-    ensures plan { C.plan clock.new ≡ C.plan clock.old }
-{
-    'events: while task.outcome().is_none() {
-        act(alloc, task, door, clock)?;
-    }
-    Ok(())
-}
 
 /// Makes the events up to the outcome, and writes the reply.
 fn send_reply<D: Door, C: Clock, K: Sink>(
@@ -93,7 +36,7 @@ fn send_reply<D: Door, C: Clock, K: Sink>(
     out: &mut Vec<u8>,
 ) -> Result<(), ServeFault>
     requires sound { fault_of task.old ≡ None }
-    requires up { IsUpTo D.tells (D.settings door.old) task.old (D.told door.old) }
+    requires up { IsUpTo fits D.tells (D.settings door.old) task.old (D.told door.old) }
     ensures written { OnOk result (Replies D.tells (site_of (D.settings door.old) (request_of task.old)) form
         (asked_by (request_of task.old) listing) (D.told door.new) (Appends (K.taken sink.old) (K.taken sink.new))) }
     ensures asks { OnOk result (Asks D.tells D.alone (D.settings door.old) false
@@ -106,7 +49,7 @@ fn send_reply<D: Door, C: Clock, K: Sink>(
     ensures home { D.home door.new ≡ D.home door.old }
     ensures plan { C.plan clock.new ≡ C.plan clock.old }
 {
-    run(alloc, task, door, clock)?;
+    act_to_end(alloc, task, door, clock)?;
     match task.outcome() {
         Some(outcome) => send_end(alloc, sink, out, outcome, listing, form),
         None => unreachable!(),

@@ -1,14 +1,14 @@
 // The task of a PUT, step by step: the clock is asked once for each event, and once where the end of the body decides.
-ghost use Rattle.std.specs.Prelude.{◌≡◌, ◌<◌, ◌≤◌, ◌^◌, Ok, None, true, false, IfOk, OnOk, IfErr, OnErr};
-ghost use Rattle.task_put.specs.Tasks.{request_of, stage_of, fault_of};
-ghost use Rattle.task_put.specs.Stages.{IsReady};
+ghost use Rattle.std.specs.Prelude.{◌≡◌, ◌<◌, ◌≤◌, ◌^◌, Ok, None, true, IfOk, OnOk, IfErr, OnErr};
+ghost use Rattle.task_put.specs.Tasks.{request_of, fault_of};
 ghost use Rattle.door_moments.specs.Acts.{Asks};
 ghost use Rattle.put_service.specs.Standing.{IsUp, IsSteady, PausesAt, StandsAfter, is_untold, is_untold_at};
 ghost use Rattle.call_service.specs.Replying.{StopsEvent};
 
-use call_service::{ServeFault, fault_of};
+use call_service::ServeFault;
+use door_moments::act;
 use gw_io::Clock;
-use realm_door::{Door, EventTask, Task};
+use realm_door::{Door, Task};
 use std::alloc::Global;
 use task_put::{Next, PutTask};
 
@@ -21,36 +21,6 @@ pub(crate) enum Pause {
     Over,
     /// The end of the body decided.
     ByEnd,
-}
-
-/// Makes the event that comes next, at the moment now.
-fn make_event<D: Door, C: Clock>(
-    alloc: Global,
-    task: &mut PutTask,
-    door: &mut D,
-    clock: &mut C,
-) -> Result<(), ServeFault>
-    requires sound { fault_of task.old ≡ None }
-    requires ready { IsReady (stage_of task.old) }
-    requires steady { IsSteady task.old }
-    requires up { IsUp D.tells (D.settings door.old) task.old (D.told door.old) }
-    ensures up { IsUp D.tells (D.settings door.old) task.new (D.told door.new) }
-    ensures asks { OnOk result (Asks D.tells D.alone (D.settings door.old) false (D.told door.old) (D.told door.new) (C.told clock.old) (C.told clock.new)) }
-    ensures stopped { OnErr result (Asks D.tells D.alone (D.settings door.old) true (D.told door.old) (D.told door.new) (C.told clock.old) (C.told clock.new)) }
-    ensures counts { OnOk result ((D.last door.old < D.last door.new) × (D.last door.new ≤ 2 ^ 62)) }
-    ensures steady { OnOk result (IsSteady task.new) }
-    ensures request { request_of task.new ≡ request_of task.old }
-    ensures sound { OnOk result (fault_of task.new ≡ None) }
-    ensures fault { IfErr result (StopsEvent D.tells (D.found door.new)) }
-    ensures settings { D.settings door.new ≡ D.settings door.old }
-    ensures home { D.home door.new ≡ D.home door.old }
-    ensures plan { C.plan clock.new ≡ C.plan clock.old }
-{
-    let moment = clock.now();
-    match task.event(alloc, door, moment) {
-        Ok(()) => Ok(()),
-        Err(fault) => Err(fault_of(fault)),
-    }
 }
 
 /// Makes the event that comes next, or says why none comes.
@@ -86,7 +56,7 @@ fn take_step<D: Door, C: Clock>(
             Ok(Some(Pause::ByEnd))
         }
         Next::Event => {
-            make_event(alloc, task, door, clock)?;
+            act(alloc, task, door, clock)?;
             Ok(None)
         }
     }

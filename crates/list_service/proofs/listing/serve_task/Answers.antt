@@ -21,7 +21,8 @@ use Rattle.call_service.specs.Replying.{Replies, stand, StopsReply}
 use Rattle.list_service.specs.Early.{end_at_first}
 use Rattle.list_service.specs.Listing.{site_of, asked_by}
 use Rattle.list_service.proofs.Early.{right_at_first, served_early, stops_early}
-use Rattle.call_service.proofs.Replying.{row_stops, body_stops, reply_stops, replied}
+use Rattle.call_service.specs.Faults.{fault_by_door}
+use Rattle.call_service.proofs.Replying.{event_stopped, row_stops, body_stops, reply_stops, replied}
 use Rattle.list_service.proofs.listing.serve_task.Goals as goal
 
 pub act-requires-clause-up : goal.act-requires-clause-up
@@ -37,7 +38,7 @@ returns-in_err-act-clause-stopped g c =
     let p = err_from_is_err_and c.from_residual.result c.from_residual.ensures.1 in
     rw (p.1, p.2)
     (row_stops g.D.Door.tells g.D.Door.alone (site_of (g.D.Door.settings c.args.door.now) (request_of c.args.task.now)) c.args.form (asked_by (request_of c.args.task.now) c.args.listing) Dropped (g.D.Door.found c.act.new.door)
-    (side (g.D.Door.told c.args.door.now) c.args.intake.now ends) (side (g.D.Door.told c.act.new.door) c.args.intake.now later) c.in_err-act.field-0.0 now.fault
+    (side (g.D.Door.told c.args.door.now) c.args.intake.now ends) (side (g.D.Door.told c.act.new.door) c.args.intake.now later) (fault_by_door c.in_err-act.field-0.0) (event_stopped g.D.Door.tells (g.D.Door.found c.act.new.door) c.in_err-act.field-0.0 now.worn)
     (none_begun Dropped c.args.intake.now left c.requires.intake)
     (record { unwritten = Appends-nil taken; asks = now.unasked }))
 
@@ -74,7 +75,7 @@ returns-in_err-send_reply-in-Whole-clause-stopped g c =
     let found = g.D.Door.found c.send_reply.new.door in
     let fault = c.in_err-send_reply-in-Whole.field-0.0 in
     let stops = subst (λ s. StopsReply tells alone (site_of s r) c.args.form (asked_by r c.args.listing) found (stand d taken mid) (stand e now told) fault) before.settings
-    (subst (λ q. StopsReply tells alone (site_of (g.D.Door.settings c.act.new.door) q) c.args.form (asked_by q c.args.listing) found (stand d taken mid) (stand e now told) fault) before.request c.in_err-send_reply-in-Whole.ensures.stopped) in
+    (subst (λ q. StopsReply tells alone (site_of (g.D.Door.settings c.act.new.door) q) c.args.form (asked_by q c.args.listing) found (stand d taken mid) (stand e now told) fault) before.command c.in_err-send_reply-in-Whole.ensures.stopped) in
     let p = err_from_is_err_and c.from_residual-in_err-send_reply-in-Whole.result c.from_residual-in_err-send_reply-in-Whole.ensures.1 in
     rw (p.1, p.2)
     (reply_stops tells alone (site_of settings r) c.args.form (asked_by r c.args.listing) Dropped found x y read_whole tt refl c.requires.intake body.0 body.1 refl tt d mid before.asks fault stops)
@@ -99,7 +100,7 @@ returns-in_ok-send_reply-in-Whole-clause-served g c =
     let whole : c.in_ok-end.end ≡ Body.Whole = c.in-Whole.is in
     let body = subst (DropsBody c.args.intake.now c.drop_body.new.intake ends.left later.left) whole c.in_ok-end.ensures.dropped in
     let reply = subst (λ s. Replies tells (site_of s r) c.args.form (asked_by r c.args.listing) e (Appends taken now)) before.settings
-    (subst (λ q. Replies tells (site_of (g.D.Door.settings c.act.new.door) q) c.args.form (asked_by q c.args.listing) e (Appends taken now)) before.request c.in_ok-send_reply-in-Whole.ensures.written) in
+    (subst (λ q. Replies tells (site_of (g.D.Door.settings c.act.new.door) q) c.args.form (asked_by q c.args.listing) e (Appends taken now)) before.command c.in_ok-send_reply-in-Whole.ensures.written) in
     let asks = subst (λ s. Asks tells alone s false d e mid told) before.settings c.in_ok-send_reply-in-Whole.ensures.asks in
     replied tells alone (site_of settings r) c.args.form (asked_by r c.args.listing) Dropped (g.D.Door.found c.send_reply.new.door) x y read_whole tt refl c.requires.intake body.0 body.1 refl tt d mid before.asks asks reply
 
@@ -120,10 +121,10 @@ returns-in_default-clause-served g c =
     let y = side d c.drop_body.new.intake later in
     let stage = stage_of c.act.new.task in
     let wrong = wrong_of c.in_ok-end.end c.in_default.not-Whole c.in_default.not-Cut in
-    let past = before.looked c.requires.looks in
+    let past = before.steps c.requires.looks in
     let broken = breaks_so c.args.intake.now c.drop_body.new.intake ends.left later.left c.in_ok-end.end wrong c.in_ok-end.ensures.dropped in
     let right : is_broken stage ≡ false → g.D.Door.tells → BearsOut (site_of settings r) (asked_by r c.args.listing) (broken_off c.in_ok-end.end) [] (end_at_first stage) [] d =
-    λ going tells. subst (λ (q : ListRequest). IsBorneOut settings.stripe q.zone q.asker (asked_by q c.args.listing) (broken_off c.in_ok-end.end) [] (end_at_first stage) [] account events) before.request
+    λ going tells. subst (λ (q : ListRequest). IsBorneOut settings.stripe q.zone q.asker (asked_by q c.args.listing) (broken_off c.in_ok-end.end) [] (end_at_first stage) [] account events) before.command
     (right_at_first settings.stripe (request_of c.act.new.task) c.args.listing c.in_ok-end.end wrong _ _ account events stage going past (before.up tells).1.2) in
     IfOk-weaker c.end_early.result _ _
     (λ served ended. served_early g.D.Door.tells g.D.Door.alone (site_of settings r) c.args.form r c.args.listing (g.D.Door.found c.act.new.door) x y (g.C.Clock.told c.act.new.clock) before.asks (λ tells. (before.up tells).0)
@@ -144,10 +145,10 @@ returns-in_default-clause-stopped g c =
     let y = side d c.drop_body.new.intake later in
     let stage = stage_of c.act.new.task in
     let wrong = wrong_of c.in_ok-end.end c.in_default.not-Whole c.in_default.not-Cut in
-    let past = before.looked c.requires.looks in
+    let past = before.steps c.requires.looks in
     let broken = breaks_so c.args.intake.now c.drop_body.new.intake ends.left later.left c.in_ok-end.end wrong c.in_ok-end.ensures.dropped in
     let right : is_broken stage ≡ false → g.D.Door.tells → BearsOut (site_of settings r) (asked_by r c.args.listing) (broken_off c.in_ok-end.end) [] (end_at_first stage) [] d =
-    λ going tells. subst (λ (q : ListRequest). IsBorneOut settings.stripe q.zone q.asker (asked_by q c.args.listing) (broken_off c.in_ok-end.end) [] (end_at_first stage) [] account events) before.request
+    λ going tells. subst (λ (q : ListRequest). IsBorneOut settings.stripe q.zone q.asker (asked_by q c.args.listing) (broken_off c.in_ok-end.end) [] (end_at_first stage) [] account events) before.command
     (right_at_first settings.stripe (request_of c.act.new.task) c.args.listing c.in_ok-end.end wrong _ _ account events stage going past (before.up tells).1.2) in
     IfErr-weaker c.end_early.result _ _
     (λ fault left. stops_early g.D.Door.tells g.D.Door.alone (site_of settings r) c.args.form r c.args.listing (g.D.Door.found c.act.new.door) x y (g.C.Clock.told c.act.new.clock) before.asks (λ tells. (before.up tells).0)

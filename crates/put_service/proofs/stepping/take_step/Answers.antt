@@ -1,5 +1,6 @@
 use Rattle.std.proofs.Common.{refl}
 use Rattle.door_moments.proofs.Asking.{none_asks, untold_asks}
+use Rattle.put_service.proofs.Steps.{steady_after}
 use Rattle.put_service.proofs.Pausing.{up_decided, steady_ready}
 use Rattle.put_service.proofs.stepping.take_step.Goals as goal
 
@@ -24,10 +25,12 @@ pub returns-in-Done-clause-up : goal.returns-in-Done-clause-up
 returns-in-Done-clause-up g c =
     up_decided g.D.Door.tells (g.D.Door.settings c.args.door.now) c.args.task.now c.settle.new.self (g.D.Door.told c.args.door.now) c.settle.ensures.task c.requires.up
 
-pub make_event-requires-clause-up : goal.make_event-requires-clause-up
-make_event-requires-clause-up g c κs within =
+pub act-requires-clause-up : goal.act-requires-clause-up
+act-requires-clause-up g c κs within =
     up_decided g.D.Door.tells (g.D.Door.settings c.args.door.now) c.args.task.now c.settle.new.self (g.D.Door.told c.args.door.now) c.settle.ensures.task c.requires.up
 
-pub make_event-requires-clause-steady : goal.make_event-requires-clause-steady
-make_event-requires-clause-steady g c κs within =
-    steady_ready c.args.task.now c.settle.new.self c.settle.ensures.task c.requires.steady (c.in-Event.ensures.ready refl)
+pub returns-in-Event-clause-stands : goal.returns-in-Event-clause-stands
+returns-in-Event-clause-stands g c =
+    steady_after c.settle.new.self c.act.new.task (c.in-Event.ensures.ready refl)
+    (steady_ready c.args.task.now c.settle.new.self c.settle.ensures.task c.requires.steady (c.in-Event.ensures.ready refl))
+    c.in_ok-act-in-Event.ensures.steps

@@ -1,37 +1,35 @@
 use Rattle.std.proofs.Common.{rules, true, false, refl, sym, ◌∙◌, subst, arith}
 use Rattle.std.proofs.lemmas.Result.{err_from_is_err_and}
 use Rattle.realm_model.specs.Settings.{SettingsView}
-use Rattle.task_repair.specs.Tasks.{stage_of}
-use Rattle.task_repair.proofs.Turning.{still_open}
-use Rattle.admin_api.specs.Jobs.{IsUpTo}
+use Rattle.door_moments.specs.Acts.{IsUpTo}
 use Rattle.door_moments.proofs.Asking.{none_asks, both_ask}
-use Rattle.admin_api.proofs.jobs.act_to_end.Goals as goal
+use Rattle.door_moments.proofs.acting.act_to_end.Goals as goal
 
 pub events-init : goal.events-init
 events-init g c = record {
   sound = c.requires.sound;
   up = c.requires.up;
-  request = refl;
+  command = refl;
   settings = refl;
   home = refl;
   plan = refl;
   asks = none_asks g.D.Door.tells g.D.Door.alone (g.D.Door.settings c.args.door.now) (g.D.Door.told c.args.door.now) (g.C.Clock.told c.args.clock.now) (λ is. (c.requires.up is).0);
 }
 
-pub act-requires-clause-open : goal.act-requires-clause-open
-act-requires-clause-open g c κs within =
-    still_open (stage_of c.events.task) (λ over. search (rules, c.outcome.ensures.there.1 (over, c.events.invariant.sound)))
+pub act-requires-clause-ready : goal.act-requires-clause-ready
+act-requires-clause-ready g c κs within =
+    c.requires.onward c.events.task c.events.invariant.sound (λ over. search (rules, c.outcome.ensures.there.1 over))
 
 pub act-requires-clause-sound : goal.act-requires-clause-sound
 act-requires-clause-sound g c κs within = c.events.invariant.sound
 
 pub act-requires-clause-up : goal.act-requires-clause-up
 act-requires-clause-up g c κs within =
-    subst (λ (s : SettingsView). IsUpTo g.D.Door.tells s c.events.task (g.D.Door.told c.events.door)) (sym c.events.invariant.settings) c.events.invariant.up
+    subst (λ (s : SettingsView). IsUpTo g.T.Task.fits g.D.Door.tells s c.events.task (g.D.Door.told c.events.door)) (sym c.events.invariant.settings) c.events.invariant.up
 
 pub returns-in_err-act-clause-up : goal.returns-in_err-act-clause-up
 returns-in_err-act-clause-up g c =
-    subst (λ (s : SettingsView). IsUpTo g.D.Door.tells s c.act.new.task (g.D.Door.told c.act.new.door)) c.events.invariant.settings c.in_err-act.ensures.up
+    subst (λ (s : SettingsView). IsUpTo g.T.Task.fits g.D.Door.tells s c.act.new.task (g.D.Door.told c.act.new.door)) c.events.invariant.settings c.in_err-act.ensures.up
 
 pub returns-in_err-act-clause-unasked : goal.returns-in_err-act-clause-unasked
 returns-in_err-act-clause-unasked g c =
@@ -49,8 +47,8 @@ events-preserved g c =
     let now = c.in_ok-act.ensures in
     record {
       sound = now.sound;
-      up = subst (λ (s : SettingsView). IsUpTo g.D.Door.tells s c.act.new.task (g.D.Door.told c.act.new.door)) so_far.settings now.up;
-      request = now.request ∙ so_far.request;
+      up = subst (λ (s : SettingsView). IsUpTo g.T.Task.fits g.D.Door.tells s c.act.new.task (g.D.Door.told c.act.new.door)) so_far.settings now.up;
+      command = now.command ∙ so_far.command;
       settings = now.settings ∙ so_far.settings;
       home = now.home ∙ so_far.home;
       plan = now.plan ∙ so_far.plan;

@@ -1,5 +1,5 @@
 use Rattle.door_moments.proofs.Asking.{untold_asks_if, event_asks_if}
-use Rattle.admin_api.proofs.jobs.act.Goals as goal
+use Rattle.door_moments.proofs.acting.act.Goals as goal
 
 pub returns-clause-asks : goal.returns-clause-asks
 returns-clause-asks g c =

@@ -1,14 +1,12 @@
-use Rattle.std.proofs.Common.{◌≡◌, ◌^◌, false, None, ◌-◌}
-use Rattle.task_list.specs.Tasks.{request_of, fault_of}
-use Rattle.door_moments.specs.Acts.{Asks}
-use Rattle.list_service.specs.Listing.{IsUpTo}
-use Rattle.list_service.proofs.listing.run.Given as goal
+use Rattle.std.proofs.Common.{◌≡◌, ◌-◌, ◌^◌, false, None}
+use Rattle.door_moments.specs.Acts.{Asks, IsUpTo}
+use Rattle.door_moments.proofs.acting.act_to_end.Given as goal
 
 abbrev pub invariant-events : goal.invariant-events
 invariant-events g l = record {
-  sound : fault_of l.task ≡ None;
-  up : IsUpTo g.D.Door.tells (g.D.Door.settings l.fn.door) l.task (g.D.Door.told l.door);
-  request : request_of l.task ≡ request_of l.fn.task;
+  sound : g.T.Task.fault l.task ≡ None;
+  up : IsUpTo g.T.Task.fits g.D.Door.tells (g.D.Door.settings l.fn.door) l.task (g.D.Door.told l.door);
+  command : g.T.Task.command l.task ≡ g.T.Task.command l.fn.task;
   settings : g.D.Door.settings l.door ≡ g.D.Door.settings l.fn.door;
   home : g.D.Door.home l.door ≡ g.D.Door.home l.fn.door;
   plan : g.C.Clock.plan l.clock ≡ g.C.Clock.plan l.fn.clock;
