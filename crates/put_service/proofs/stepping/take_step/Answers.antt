@@ -29,8 +29,8 @@ pub act-requires-clause-up : goal.act-requires-clause-up
 act-requires-clause-up g c κs within =
     up_decided g.D.Door.tells (g.D.Door.settings c.args.door.now) c.args.task.now c.settle.new.self (g.D.Door.told c.args.door.now) c.settle.ensures.task c.requires.up
 
-pub returns-in-Event-clause-stands : goal.returns-in-Event-clause-stands
-returns-in-Event-clause-stands g c =
+pub returns-in_ok-act-in-Event-clause-stands : goal.returns-in_ok-act-in-Event-clause-stands
+returns-in_ok-act-in-Event-clause-stands g c =
     steady_after c.settle.new.self c.act.new.task (c.in-Event.ensures.ready refl)
     (steady_ready c.args.task.now c.settle.new.self c.settle.ensures.task c.requires.steady (c.in-Event.ensures.ready refl))
     c.in_ok-act-in-Event.ensures.steps
