@@ -1,5 +1,5 @@
 -- A body, piece by piece.
-use Rattle.std.proofs.Common.{◌≡◌, ℕ, ◌+◌, ◌-◌, ◌<◌, ◌≤◌, min, List, [], ◌++◌, take, drop, length, replicate, refl, sym, ap, ◌∙◌, subst, append_assoc, length-append, length-take, length-drop, take-append-drop, arith, Result, Ok, Err, IfOk}
+use Rattle.std.proofs.Common.{◌≡◌, ℕ, ◌+◌, ◌-◌, ◌<◌, ◌≤◌, min, List, ◌++◌, take, drop, length, replicate, sym, ap, ◌∙◌, append_assoc, length-append, length-take, length-drop, take-append-drop, arith, Result, Ok, Err, IfOk}
 use Rattle.std.proofs.lemmas.List.{take_at, take-take, drop-replicate, take-replicate, length-take-le}
 use Rattle.task_put.specs.Taking.{room_at}
 use Rattle.task_put.specs.Tasks.{stage_of, fed}

@@ -1,11 +1,10 @@
 -- A GET at work.
-use Rattle.std.proofs.Common.{◌≡◌, ℕ, Bool, true, false, cond, List, [], ◌∷◌, ◌++◌, length, Option, Some, None, refl, sym, ap, ◌∙◌, subst}
+use Rattle.std.proofs.Common.{◌≡◌, ℕ, true, false, cond, List, [], ◌++◌, length, Option, Some, None, refl, sym, ap, ◌∙◌, subst}
 use Rattle.rgw_types.specs.declared.stamp.Stamp.{Stamp}
 use Rattle.rgw_model.specs.declared.slot.Content.{Content}
 use Rattle.rgw_model.specs.declared.slot.Slot.{Slot}
 use Rattle.rgw_model.specs.declared.slot.Slot.TheVariants as Slots
 use Rattle.realm_model.specs.Settings.{SettingsView}
-use Rattle.realm_model.specs.Accounts.{Account}
 use Rattle.realm_model.specs.Doors.{DoorView}
 use Rattle.realm_model.specs.Owns.{OwnEvent}
 use Rattle.realm_door.specs.Turns.{MakesEvent, Turned, IsActing}
@@ -16,7 +15,6 @@ use Rattle.task_words.specs.declared.outcome.Outcome.{Outcome}
 use Rattle.task_words.specs.declared.outcome.Outcome.TheVariants.{Done, LateRead}
 use Rattle.task_words.specs.declared.reply.MapReply.{MapReply}
 use Rattle.task_words.specs.declared.reply.MapReply.TheVariants.{Stored, Shown, Same, Counted, Listed, Refused}
-use Rattle.task_words.specs.declared.reply.Refusal.{Refusal}
 use Rattle.task_words.specs.declared.reply.Refusal.TheVariants.{Unauthorized, Denied, NoContainer, NoObject, NotMet, NoRange, OtherEtag}
 use Rattle.task_words.specs.declared.span.ByteRange.{ByteRange}
 use Rattle.task_words.specs.Answers.{is_unmet, is_had, span_of, get_answer, shown_range, answered}
@@ -25,7 +23,7 @@ use Rattle.task_get.specs.declared.request.GetRequest.{GetRequest}
 use Rattle.task_get.specs.declared.stage.Stage.{Stage}
 use Rattle.task_get.specs.declared.stage.Stage.TheVariants.{Ended, Late}
 use Rattle.task_get.specs.declared.task.GetTask.{GetTask}
-use Rattle.task_get.specs.Gets.{Means as GetMeans, ReadsRow, shown_at}
+use Rattle.task_get.specs.Gets.{Means as GetMeans, ReadsRow}
 use Rattle.task_get.specs.Pieces.{brought}
 use Rattle.task_get.specs.Stages.{IsOpen, IsOver}
 use Rattle.task_get.specs.Tasks.{account_at, phase_at, events_at, request_of, stage_of, bytes_of, where_shown, means, Fits}

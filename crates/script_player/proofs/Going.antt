@@ -1,5 +1,5 @@
 -- An actor goes on, event by event.
-use Rattle.std.proofs.Common.{◌≡◌, ⊎_elim, inl, inr, ℕ, ◌+◌, ◌≤◌, List, [], ◌∷◌, ◌++◌, length, replicate, refl, sym, ap, ◌∙◌, subst, append_assoc, length-append, arith}
+use Rattle.std.proofs.Common.{◌≡◌, ⊎_elim, ℕ, ◌+◌, ◌≤◌, List, [], ◌∷◌, ◌++◌, length, replicate, refl, sym, ap, ◌∙◌, subst, append_assoc, length-append, arith}
 use Rattle.std.proofs.lemmas.List.{append-nil, nil_from_length, replicate-append-replicate}
 use Rattle.std.specs.List.{AllByRecursion}
 use Rattle.realm_model.specs.Settings.{SettingsView}
@@ -13,8 +13,7 @@ use Rattle.realm_door.specs.Turns.{MakesEvent, IsOneMore}
 use Rattle.realm_door.proofs.Steps.{grows_none, grows_both}
 use Rattle.door_moments.specs.Acts.{own_moments}
 use Rattle.door_moments.proofs.Moments.{moments_next}
-use Rattle.script_player.specs.Going.{ActsAlone, Goes, GoesUpTo, Steps, HasGone}
-use Rattle.script_player.specs.declared.player.Gone.{Gone}
+use Rattle.script_player.specs.Going.{ActsAlone, Goes, GoesUpTo, Steps}
 
 -- ---- alone
 

@@ -1,5 +1,5 @@
 -- The listing of a container at work.
-use Rattle.std.proofs.Common.{◌≡◌, inl, ℕ, List, [], refl, sym, ap, ◌∙◌, subst, Result, Ok, Err, OnOk}
+use Rattle.std.proofs.Common.{◌≡◌, inl, ℕ, [], refl, sym, ap, ◌∙◌, subst, Result, Ok, Err, OnOk}
 use Rattle.realm_model.specs.Settings.{SettingsView}
 use Rattle.realm_model.specs.Doors.{DoorView, actor_at}
 use Rattle.realm_model.specs.Histories.{account_of}

@@ -1,5 +1,5 @@
 -- A PUT at work.
-use Rattle.std.proofs.Common.{◌≡◌, ℕ, ◌+◌, ◌-◌, ◌<◌, ◌≤◌, true, false, List, [], ◌∷◌, ◌++◌, take, drop, length, Option, Some, None, refl, sym, ap, ◌∙◌, subst, append_assoc, length-take, take-append-drop, arith}
+use Rattle.std.proofs.Common.{◌≡◌, ℕ, ◌+◌, ◌<◌, ◌≤◌, List, [], ◌++◌, take, drop, length, Option, Some, None, refl, sym, ap, ◌∙◌, subst, append_assoc, take-append-drop, arith}
 use Rattle.std.proofs.lemmas.List.{take_all, length-take-le}
 use Rattle.realm_model.specs.Settings.{SettingsView}
 use Rattle.realm_model.specs.Accounts.{Account}
@@ -29,7 +29,7 @@ use Rattle.task_put.specs.declared.stage.Stage.{Stage}
 use Rattle.task_put.specs.declared.stage.Stage.TheVariants.{Looking, Feeding, LookingAgain, Preparing, Announcing, Writing, Cancelling, Completing, LookingForShard, Ended}
 use Rattle.task_put.specs.declared.task.PutTask.{PutTask}
 use Rattle.task_put.proofs.Stepping.{settled_task}
-use Rattle.put_service.specs.Standing.{IsSteady, IsSteadyAt}
+use Rattle.put_service.specs.Standing.{IsSteady}
 use Rattle.put_service.proofs.Pausing.{wants_open, ready_open, steady_fed, steady_ended, steady_wanting, steady_ready, wants_room, wants_unended}
 use Rattle.put_service.proofs.Serving.{steady_new}
 use Rattle.put_service.proofs.Steps.{steady_after}

@@ -12,6 +12,7 @@ use Rattle.job_words.specs.declared.job.Job.TheVariants.{Check}
 use Rattle.job_words.specs.declared.outcome.JobOutcome.{JobOutcome}
 use Rattle.task_words.specs.declared.outcome.Outcome.{Outcome}
 use Rattle.task_words.specs.Outcomes.{IsPutOutcome}
+use Rattle.task_put.specs.Cuts.{CutBody}
 use Rattle.task_put.specs.Orders.{path_of, IsOrdered}
 use Rattle.task_put.specs.Fits.{body_of, known_at, known_later, Fits as PutFits}
 use Rattle.task_put.specs.Tasks as put
@@ -69,7 +70,7 @@ module _ (settings : SettingsView) (d e : DoorView) (pass : e.pass ≡ d.pass) (
   request_stays : (zone : ℕ) (verb : Verb) (outcome : Outcome) (shown : List ℕ) → MeansRequest zone verb outcome shown settings d → MeansRequest zone verb outcome shown settings e
   request_stays zone (Put container name body) outcome shown m =
       let r = put_request zone container name (body_bytes body) (Some Whole) in
-      (at_both (λ y es. IsPutOutcome r.zone r.asker r.command (body_of r) outcome y es × IsOrdered (path_of es)) m.0, m.1)
+      (at_both (λ y es. IsPutOutcome r.zone r.asker r.command (body_of r) outcome y es × IsOrdered (path_of es) × CutBody r.zone settings.stripe r.bytes r.end es) m.0, m.1)
   request_stays zone (Get container name) outcome shown m =
       let r = get_request zone container name in
       (at_both (GetMeans r outcome) m.0, subst (AreBytesOf r outcome shown) (sym account_same) m.1)
@@ -115,6 +116,7 @@ module _ (settings : SettingsView) (d e : DoorView) (pass : e.pass ≡ d.pass) (
             high = s.known.high;
             order = s.known.order;
             stands = fits_later settings (put.request_of t) t.tried (known_at settings d) (length e.seen) (world_of settings e.seen).stripes.made longer made_now t.stage s.known.stands;
+            sliced = s.known.sliced;
           });
         })
 

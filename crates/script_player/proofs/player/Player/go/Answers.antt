@@ -1,5 +1,4 @@
-use Rattle.std.proofs.Common.{rules, ◌+◌, ◌≤◌, refl, ◌∙◌, subst, arith}
-use Rattle.realm_model.specs.Settings.{SettingsView}
+use Rattle.std.proofs.Common.{rules, ◌+◌, ◌≤◌, ◌∙◌, subst, arith}
 use Rattle.script_player.specs.Going.{Steps, GoesUpTo}
 use Rattle.script_player.specs.Plays.{IsEnded, fits}
 use Rattle.script_player.proofs.Going.{goes_both, steps_up_to, steps_on, up_to_more}

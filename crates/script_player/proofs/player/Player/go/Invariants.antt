@@ -1,5 +1,4 @@
 use Rattle.std.proofs.Common.{◌≡◌, ◌≤◌, ◌-◌}
-use Rattle.realm_model.specs.Histories.{Legal}
 use Rattle.script_player.specs.Going.{Goes}
 use Rattle.script_player.specs.Plays.{asked, IsPlaying, fits}
 use Rattle.script_player.proofs.player.Player.go.Given as goal

@@ -1,5 +1,5 @@
 use Rattle.std.proofs.Common.{refl}
-use Rattle.script_player.proofs.Putting.{over_stands, ready_stands, decided_fits}
+use Rattle.script_player.proofs.Putting.{over_stands, decided_fits}
 use Rattle.script_player.proofs.put.PutPlay.make_ready.Goals as goal
 
 pub returns-in-Event-clause-fits : goal.returns-in-Event-clause-fits
