@@ -40,9 +40,12 @@ pub fn run_job<D: Door, C: Clock>(
         return Err(DoorFault::OutOfMemory);
     };
     let mut task = RepairTask::new(zone, bucket);
-    act_to_end(alloc, &mut task, door, clock)?;
-    match task.outcome() {
-        Some(outcome) => Ok(*outcome),
+    let acted = act_to_end(alloc, &mut task, door, clock);
+    let outcome = task.outcome().copied();
+    drop(task);
+    acted?;
+    match outcome {
+        Some(outcome) => Ok(outcome),
         None => unreachable!(),
     }
 }

@@ -1,4 +1,4 @@
-ghost use Rattle.std.specs.Prelude.{◌+◌, ◌^◌, ◌<◌, ◌≤◌};
+ghost use Rattle.std.specs.Prelude.{◌≡◌, ◌+◌, ◌^◌, ◌<◌, ◌≤◌, []};
 ghost use Rattle.object_pool.specs.Places.{object_of};
 ghost use Rattle.object_words.specs.Roots.{Root as RootOf};
 ghost use Rattle.cls_record.specs.RootObjects.{IsRoot};
@@ -29,38 +29,59 @@ const SMALL: [u8; 91] = [
     0, 0, 0, 0, 0, 0, 0, 0, 0, 0, 0, 0, 0, 0, 0, 0, 0, 0, 0, 0, 0, 0, 0, 0, 0, 0, 0, 0, 0,
 ];
 
+fn is_row(row: &Bucket) -> bool {
+    let work = Busy {
+        number: 3,
+        closing: false,
+    };
+    (row.id, row.version, row.shared, row.number) == (7, 9, 8, 3)
+        && row.busy == Some(work)
+        && (row.instance, row.shards.get(), row.meta.len()) == (7, 11, 2)
+        && row.owner.is("acct")
+        && row.readers.is(".r:*")
+        && row.writers.is_empty()
+        && row.meta.get("size").is_some_and(|value| value.is("XL"))
+}
+
+fn is_small(row: &Bucket) -> bool {
+    (row.busy, row.shards.get(), row.meta.len()) == (None, 1999, 0)
+}
+
 #[test]
-fn rows_come_back(rt: HostRuntime) -> Result<(), Fail> {
+fn a_row_comes_back(rt: HostRuntime) -> Result<(), Fail> {
     let alloc = rt.alloc();
-    let found = decode_bucket(alloc, &ROW)?.ok_or("no row")?;
-    assert_eq!(rt;
-        (found.id, found.version, found.shared, found.number),
-        (7, 9, 8, 3)
-    );
-    assert_eq!(rt;
-        found.busy,
-        Some(Busy {
-            number: 3,
-            closing: false
-        })
-    );
-    assert_eq!(rt; (found.instance, found.shards.get()), (7, 11));
-    assert!(rt; found.owner.is("acct") && found.readers.is(".r:*") && found.writers.is_empty());
-    assert_eq!(rt; found.meta.len(), 2);
-    assert!(rt; found.meta.get("size").is_some_and(|value| value.is("XL")));
-    assert!(rt; encode_bucket(alloc, &found)?.as_slice() == ROW.as_slice());
-    let small = decode_bucket(alloc, &SMALL)?.ok_or("no row")?;
-    assert_eq!(rt;
-        (small.busy, small.shards.get(), small.meta.len()),
-        (None, 1999, 0)
-    );
-    assert!(rt; encode_bucket(alloc, &small)?.as_slice() == SMALL.as_slice());
+    let row = decode_bucket(alloc, &ROW)?.ok_or("no row")?;
+    let right = is_row(&row);
+    let again = encode_bucket(alloc, &row);
+    drop(row);
+    assert!(rt; right);
+    assert!(rt; again?.as_slice() == ROW.as_slice());
+    Ok(())
+}
+
+#[test]
+fn a_row_with_nothing_else_comes_back(rt: HostRuntime) -> Result<(), Fail> {
+    let alloc = rt.alloc();
+    let row = decode_bucket(alloc, &SMALL)?.ok_or("no row")?;
+    let right = is_small(&row);
+    let again = encode_bucket(alloc, &row);
+    drop(row);
+    assert!(rt; right);
+    assert!(rt; again?.as_slice() == SMALL.as_slice());
     Ok(())
 }
 
 /// One byte of `SMALL` changed: another kind, another layout, work of kind 3, no work with a number, 2000
 /// shards, and an owner of one byte that leaves too few bytes for the rest.
 const OTHERS: [(usize, u8); 6] = [(0, 234), (1, 2), (26, 3), (34, 1), (50, 208), (66, 1)];
+
+/// Whether these bytes are no row.
+fn is_none(alloc: Global, bytes: &[u8]) -> Result<bool, OutOfMemory> {
+    let found = decode_bucket(alloc, bytes)?;
+    let none = found.is_none();
+    drop(found);
+    Ok(none)
+}
 
 #[test]
 fn other_bytes_are_no_rows(rt: HostRuntime) -> Result<(), Fail> {
@@ -70,12 +91,12 @@ fn other_bytes_are_no_rows(rt: HostRuntime) -> Result<(), Fail> {
         if let Some(changed) = bytes.get_mut(place) {
             *changed = byte;
         }
-        assert!(rt; decode_bucket(alloc, &bytes)?.is_none(), "at {place}");
+        assert!(rt; is_none(alloc, &bytes)?, "at {place}");
     }
     let mut longer = [0; 92];
     longer[..91].copy_from_slice(&SMALL);
-    assert!(rt; decode_bucket(alloc, &longer)?.is_none());
-    assert!(rt; decode_bucket(alloc, &SMALL[..90])?.is_none());
+    assert!(rt; is_none(alloc, &longer)?);
+    assert!(rt; is_none(alloc, &SMALL[..90])?);
     Ok(())
 }
 
@@ -129,76 +150,148 @@ fn numbers(
     name: &BucketName,
 ) -> Result<Option<(u64, u64, u64)>, OutOfMemory> {
     let found = read(alloc, root, name)?;
-    Ok(found.map(|row| (row.version, row.shared, row.instance)))
+    let numbers = found
+        .as_ref()
+        .map(|row| (row.version, row.shared, row.instance));
+    drop(found);
+    Ok(numbers)
 }
 
 /// The row of the log that names the container `dog`.
 const LOGGED: [u8; 6] = [236, 1, 2, 100, 111, 103];
 
-#[test]
-fn the_master_zone_logs_what_zones_share(rt: HostRuntime) -> Result<(), Fail> {
-    let alloc = rt.alloc();
-    let name = BucketName::new(Text::from_str(alloc, "dog")?)
-        .ok()
-        .ok_or("no name")?;
-    let key = Key::Root;
-    let mut pool = Pool::new(alloc, 1, 16)?;
-    let mut root = pool.place(alloc, &key)?;
+fn dog(alloc: Global) -> Result<BucketName, Fail> {
+    Ok(
+        BucketName::new(Text::from_str(alloc, "dog")?)
+            .ok()
+            .ok_or("no name")?,
+    )
+}
+
+/// The row is put where none is, and its instance changes, which is the zone's own matter.
+fn swaps_instances(
+    alloc: Global,
+    root: &mut Place<'_>,
+    name: &BucketName,
+    first: &Bucket,
+    moved: &Bucket,
+) -> Result<bool, OutOfMemory>
+    requires root { (r : RootOf) × IsRoot (object_of root.old) r × (r.log.last ≤ 0) }
+    ensures { (r : RootOf) × IsRoot (object_of root.new) r × (r.log.last ≤ 3) }
+{
+    let made = step(alloc, root, 0, name, 0, Some(first), true, 7);
+    let one = numbers(alloc, root, name);
+    let logged = root.row(&log_key(1)) == Some(LOGGED.as_slice())
+        && root.attrs() == [0, 0, 0, 0, 0, 0, 0, 1].as_slice();
+    // The version is not the expected one.
+    let raced = step(alloc, root, 1, name, 0, Some(moved), true, 8);
+    let still = numbers(alloc, root, name);
+    let changed = step(alloc, root, 2, name, 7, Some(moved), true, 9);
+    let two = numbers(alloc, root, name);
+    let unlogged = root.row(&log_key(2)).is_none();
+    Ok(
+        made?.is_none()
+            && one? == Some((7, 7, 7))
+            && logged
+            && raced? == Some(7)
+            && still? == Some((7, 7, 7))
+            && changed?.is_none()
+            && two? == Some((9, 7, 8))
+            && unlogged,
+    )
+}
+
+/// What zones share changes, and the row is taken away. Where there is none, nothing is.
+fn swaps_shared(
+    alloc: Global,
+    root: &mut Place<'_>,
+    name: &BucketName,
+    public: &Bucket,
+) -> Result<bool, OutOfMemory>
+    requires root { (r : RootOf) × IsRoot (object_of root.old) r × (r.log.last ≤ 3) }
+{
+    let changed = step(alloc, root, 3, name, 9, Some(public), true, 12)?;
+    let three = numbers(alloc, root, name)?;
+    let logged = root.row(&log_key(2)) == Some(LOGGED.as_slice());
+    let taken = step(alloc, root, 4, name, 12, None, true, 13)?;
+    let none = numbers(alloc, root, name)?;
+    let logged = logged && root.row(&log_key(3)) == Some(LOGGED.as_slice());
+    let nothing = step(alloc, root, 5, name, 0, None, true, 14)?;
+    let unlogged = root.row(&log_key(4)).is_none();
+    Ok(
+        changed.is_none()
+            && three == Some((12, 12, 8))
+            && logged
+            && taken.is_none()
+            && none.is_none()
+            && nothing.is_none()
+            && unlogged
+            && root.attrs() == [0, 0, 0, 0, 0, 0, 0, 3].as_slice(),
+    )
+}
+
+/// Both, in a pool without objects.
+fn master_logs(
+    alloc: Global,
+    pool: &mut Pool,
+    name: &BucketName,
+    rows: &[Bucket; 3],
+) -> Result<bool, Fail>
+    requires empty { pool.old ≡ record { frame = 16; frames = 1; free = 1; slots = [] } }
+{
+    let [first, moved, public] = rows;
+    let mut root = pool.place(alloc, &Key::Root)?;
+    Ok(
+        swaps_instances(alloc, &mut root, name, first, moved)?
+            && swaps_shared(alloc, &mut root, name, public)?,
+    )
+}
+
+fn rows(alloc: Global) -> Result<[Bucket; 3], OutOfMemory> {
     let first = bucket(alloc, 4, 7, "")?;
     let moved = bucket(alloc, 4, 8, "")?;
     let public = bucket(alloc, 4, 8, ".r:*")?;
-    assert_eq!(rt;
-        step(alloc, &mut root, 0, &name, 0, Some(&first), true, 7)?,
-        None
-    );
-    assert_eq!(rt; numbers(alloc, &root, &name)?, Some((7, 7, 7)));
-    assert_eq!(rt; root.row(&log_key(1)), Some(LOGGED.as_slice()));
-    assert_eq!(rt; root.attrs(), [0, 0, 0, 0, 0, 0, 0, 1].as_slice());
-    // The version is not the expected one.
-    assert_eq!(rt;
-        step(alloc, &mut root, 1, &name, 0, Some(&moved), true, 8)?,
-        Some(7)
-    );
-    assert_eq!(rt; numbers(alloc, &root, &name)?, Some((7, 7, 7)));
-    // Another instance is the zone's own matter.
-    assert_eq!(rt;
-        step(alloc, &mut root, 2, &name, 7, Some(&moved), true, 9)?,
-        None
-    );
-    assert_eq!(rt; numbers(alloc, &root, &name)?, Some((9, 7, 8)));
-    assert_eq!(rt; root.row(&log_key(2)), None);
-    assert_eq!(rt;
-        step(alloc, &mut root, 3, &name, 9, Some(&public), true, 12)?,
-        None
-    );
-    assert_eq!(rt; numbers(alloc, &root, &name)?, Some((12, 12, 8)));
-    assert_eq!(rt; root.row(&log_key(2)), Some(LOGGED.as_slice()));
-    assert_eq!(rt; step(alloc, &mut root, 4, &name, 12, None, true, 13)?, None);
-    assert_eq!(rt; numbers(alloc, &root, &name)?, None);
-    assert_eq!(rt; root.row(&log_key(3)), Some(LOGGED.as_slice()));
-    // Where there is no row, nothing is taken away.
-    assert_eq!(rt; step(alloc, &mut root, 5, &name, 0, None, true, 14)?, None);
-    assert_eq!(rt; root.row(&log_key(4)), None);
-    assert_eq!(rt; root.attrs(), [0, 0, 0, 0, 0, 0, 0, 3].as_slice());
+    Ok([first, moved, public])
+}
+
+#[test]
+fn the_master_zone_logs_what_zones_share(rt: HostRuntime) -> Result<(), Fail> {
+    let alloc = rt.alloc();
+    let mut pool = Pool::new(alloc, 1, 16)?;
+    let name = dog(alloc)?;
+    let rows = rows(alloc)?;
+    let right = master_logs(alloc, &mut pool, &name, &rows);
+    drop(rows);
+    drop(pool);
+    assert!(rt; right?);
     Ok(())
+}
+
+/// A row is put and taken away in a pool without objects, outside the master zone.
+fn another_zone_logs_nothing(
+    alloc: Global,
+    pool: &mut Pool,
+    name: &BucketName,
+    new: &Bucket,
+) -> Result<bool, Fail>
+    requires empty { pool.old ≡ record { frame = 16; frames = 1; free = 1; slots = [] } }
+{
+    let mut root = pool.place(alloc, &Key::Root)?;
+    let made = step(alloc, &mut root, 0, name, 0, Some(new), false, 9)?;
+    let kept = numbers(alloc, &root, name)?;
+    let taken = step(alloc, &mut root, 1, name, 9, None, false, 10)?;
+    Ok(made.is_none() && kept == Some((9, 4, 7)) && taken.is_none() && !root.exists())
 }
 
 #[test]
 fn other_zones_log_nothing(rt: HostRuntime) -> Result<(), Fail> {
     let alloc = rt.alloc();
-    let name = BucketName::new(Text::from_str(alloc, "dog")?)
-        .ok()
-        .ok_or("no name")?;
-    let key = Key::Root;
     let mut pool = Pool::new(alloc, 1, 16)?;
-    let mut root = pool.place(alloc, &key)?;
+    let name = dog(alloc)?;
     let new = bucket(alloc, 4, 7, "")?;
-    assert_eq!(rt;
-        step(alloc, &mut root, 0, &name, 0, Some(&new), false, 9)?,
-        None
-    );
-    assert_eq!(rt; numbers(alloc, &root, &name)?, Some((9, 4, 7)));
-    assert_eq!(rt; step(alloc, &mut root, 1, &name, 9, None, false, 10)?, None);
-    assert!(rt; !root.exists());
+    let right = another_zone_logs_nothing(alloc, &mut pool, &name, &new);
+    drop(new);
+    drop(pool);
+    assert!(rt; right?);
     Ok(())
 }

@@ -88,7 +88,7 @@ fn find_row<D: Door>(
     match door.step(alloc, Op::BucketRead { zone: 1, name }, moment) {
         Ok(answered) => {
             let id = number_if_absent(&answered);
-            let_go(answered);
+            drop(answered);
             Ok(id)
         }
         Err(stopped) => Err(fault_of(stopped)),
@@ -108,7 +108,9 @@ fn number_if_absent(answered: &Answered) -> Option<u64>
 fn fault_of(stopped: Stopped<Op>) -> DoorFault
     ensures { result ≡ stopped.fault }
 {
-    stopped.fault
+    let fault = stopped.fault;
+    drop(stopped);
+    fault
 }
 
 // Makes a container of which no row was found, by the event of this number.
@@ -198,14 +200,12 @@ fn make_event<D: Door>(alloc: Global, door: &mut D, op: Op, moment: u64) -> Resu
 {
     match door.step(alloc, op, moment) {
         Ok(answered) => {
-            let_go(answered);
+            drop(answered);
             Ok(())
         }
         Err(stopped) => Err(fault_of(stopped)),
     }
 }
-
-fn let_go(_answered: Answered) {}
 
 // The row of a new container.
 fn new_row(alloc: Global, settings: &Settings, owner: &Text, id: u64) -> Result<Bucket, AllocError>

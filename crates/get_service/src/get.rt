@@ -307,7 +307,9 @@ pub fn serve_get<D: Door, C: Clock, S: Source, K: Sink>(
 {
     let span = span_in(&request);
     let mut task = GetTask::new(request);
-    serve_new(
+    let served = serve_new(
         alloc, &mut task, span, form, read, door, clock, intake, source, sink, buffer, out,
-    )
+    );
+    drop(task);
+    served
 }

@@ -231,7 +231,9 @@ pub fn serve_listing<D: Door, C: Clock, S: Source, K: Sink>(
     ensures kept { length buffer.new ≡ length buffer.old }
 {
     let mut task = ListTask::new(request);
-    serve_new(
+    let served = serve_new(
         alloc, &mut task, listing, form, read, door, clock, intake, source, sink, buffer, out,
-    )
+    );
+    drop(task);
+    served
 }

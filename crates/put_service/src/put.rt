@@ -393,7 +393,9 @@ pub fn serve_put<D: Door, C: Clock, S: Source, K: Sink>(
     let Ok(mut task) = PutTask::new(alloc, settings, zone, asker, put) else {
         return Err(ServeFault::OutOfMemory);
     };
-    serve_new(
+    let served = serve_new(
         alloc, &mut task, form, waits, door, clock, intake, source, sink, buffer, out,
-    )
+    );
+    drop(task);
+    served
 }

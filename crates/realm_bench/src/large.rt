@@ -35,13 +35,17 @@ impl Bench {
         size: usize,
     ) -> anyhow::Result<Duration> {
         let mut task = self.put(alloc, 0)?;
-        time_put(rt, alloc, &mut self.stage, &mut task, size)
+        let time = time_put(rt, alloc, &mut self.stage, &mut task, size);
+        drop(task);
+        time
     }
 
     /// Reads that object, and says how many bytes it gave and how long that took.
     pub fn get_large<R: Clock>(&mut self, rt: &R, alloc: Global) -> anyhow::Result<Given> {
         let mut task = get(alloc, 0)?;
-        time_get(rt, alloc, &mut self.stage, &mut task)
+        let given = time_get(rt, alloc, &mut self.stage, &mut task);
+        drop(task);
+        given
     }
 }
 

@@ -35,12 +35,16 @@ fn show<R: Clock + Print>(rt: &R, alloc: Global) -> anyhow::Result<()> {
 
 fn show_small<R: Clock + Print>(rt: &R, alloc: Global) -> anyhow::Result<()> {
     let mut bench = Bench::new(alloc, 10, 16, 64)?;
-    show_rounds(rt, alloc, &mut bench)
+    let shown = show_rounds(rt, alloc, &mut bench);
+    drop(bench);
+    shown
 }
 
 fn show_large<R: Clock + Print>(rt: &R, alloc: Global) -> anyhow::Result<()> {
     let mut bench = Bench::new(alloc, 1, 4096, 64)?;
-    show_object(rt, alloc, &mut bench)
+    let shown = show_object(rt, alloc, &mut bench);
+    drop(bench);
+    shown
 }
 
 fn show_rounds<R: Clock + Print>(rt: &R, alloc: Global, bench: &mut Bench) -> anyhow::Result<()> {
@@ -65,7 +69,9 @@ fn show_object<R: Clock + Print>(rt: &R, alloc: Global, bench: &mut Bench) -> an
 fn measure<R: Clock + Print>(rt: &R, alloc: Global, heads: u32) -> anyhow::Result<()> {
     let heads = heads.clamp(1, 4_000_000);
     let mut bench = Bench::new(alloc, heads, 16, heads.saturating_add(64))?;
-    measure_rounds(rt, alloc, &mut bench)
+    let measured = measure_rounds(rt, alloc, &mut bench);
+    drop(bench);
+    measured
 }
 
 fn measure_rounds<R: Clock + Print>(
@@ -101,7 +107,9 @@ fn tell<R: Print>(rt: &R, name: &str, round: &Round) -> anyhow::Result<()> {
 
 fn measure_large<R: Clock + Print>(rt: &R, alloc: Global) -> anyhow::Result<()> {
     let mut bench = Bench::new(alloc, 1, 4096, 98_304)?;
-    measure_objects(rt, alloc, &mut bench)
+    let measured = measure_objects(rt, alloc, &mut bench);
+    drop(bench);
+    measured
 }
 
 // Each of the objects is stored under one name, and its tails stay.

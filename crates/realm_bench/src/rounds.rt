@@ -55,35 +55,18 @@ impl Bench {
             prepared: 0,
             written: 0,
         };
-        bench.make_container(alloc)?;
-        Ok(bench)
+        match bench.make_container(alloc) {
+            Ok(()) => Ok(bench),
+            Err(error) => {
+                drop(bench);
+                Err(error)
+            }
+        }
     }
 
     fn make_container(&mut self, alloc: Global) -> anyhow::Result<()> {
-        let row = Bucket {
-            id: 1,
-            owner: Text::from_str(alloc, "acme")?,
-            version: 0,
-            shared: 0,
-            number: 0,
-            busy: None,
-            instance: 1,
-            shards: ShardCount::new(1).context("one shard is allowed")?,
-            meta: Pairs::new(alloc),
-            readers: Text::new(alloc),
-            writers: Text::new(alloc),
-        };
-        let make = Op::ShardMake {
-            zone: 1,
-            key: SHARD,
-        };
-        let swap = Op::BucketSwap {
-            zone: 1,
-            name: bucket_name(alloc)?,
-            expected: 0,
-            new: Some(row),
-        };
-        self.make_event(alloc, make)?;
+        self.make_event(alloc, shard_make())?;
+        let swap = bucket_swap(alloc)?;
         self.make_event(alloc, swap)?;
         Ok(())
     }
@@ -152,8 +135,49 @@ impl Bench {
     // Makes one event. Was it refused?
     fn make_event(&mut self, alloc: Global, op: Op) -> anyhow::Result<bool> {
         match self.stage.step(alloc, op, 0) {
-            Ok(answered) => Ok(matches!(answered.reply, Reply::No(_))),
-            Err(stopped) => Err(stopped.fault.into()),
+            Ok(answered) => {
+                let refused = matches!(&answered.reply, Reply::No(_));
+                drop(answered);
+                Ok(refused)
+            }
+            Err(stopped) => {
+                let fault = stopped.fault;
+                drop(stopped);
+                Err(fault.into())
+            }
         }
     }
+}
+
+fn shard_make() -> Op {
+    Op::ShardMake {
+        zone: 1,
+        key: SHARD,
+    }
+}
+
+// The row of the container is put where none is.
+fn bucket_swap(alloc: Global) -> anyhow::Result<Op> {
+    Ok(Op::BucketSwap {
+        zone: 1,
+        name: bucket_name(alloc)?,
+        expected: 0,
+        new: Some(bucket(alloc)?),
+    })
+}
+
+fn bucket(alloc: Global) -> anyhow::Result<Bucket> {
+    Ok(Bucket {
+        id: 1,
+        owner: Text::from_str(alloc, "acme")?,
+        version: 0,
+        shared: 0,
+        number: 0,
+        busy: None,
+        instance: 1,
+        shards: ShardCount::new(1).context("one shard is allowed")?,
+        meta: Pairs::new(alloc),
+        readers: Text::new(alloc),
+        writers: Text::new(alloc),
+    })
 }

@@ -55,19 +55,28 @@ impl Bench {
 
     fn time_puts<R: Clock>(&mut self, rt: &R, alloc: Global, from: u32) -> anyhow::Result<Timed> {
         let mut tasks = self.puts(alloc, from)?;
-        time_all_puts(rt, alloc, &mut self.stage, &mut tasks)
+        let timed = time_all_puts(rt, alloc, &mut self.stage, &mut tasks);
+        drop(tasks);
+        timed
     }
 
     fn time_gets<R: Clock>(&mut self, rt: &R, alloc: Global, from: u32) -> anyhow::Result<Timed> {
         let mut tasks = self.gets(alloc, from)?;
-        time_all_gets(rt, alloc, &mut self.stage, &mut tasks)
+        let timed = time_all_gets(rt, alloc, &mut self.stage, &mut tasks);
+        drop(tasks);
+        timed
     }
 
     // A chunk of PUTs from this number on.
     fn puts(&self, alloc: Global, from: u32) -> anyhow::Result<Vec<PutTask>> {
         let mut tasks = Vec::new(alloc);
-        self.add_puts(alloc, from, &mut tasks)?;
-        Ok(tasks)
+        match self.add_puts(alloc, from, &mut tasks) {
+            Ok(()) => Ok(tasks),
+            Err(error) => {
+                drop(tasks);
+                Err(error)
+            }
+        }
     }
 
     fn add_puts(&self, alloc: Global, from: u32, tasks: &mut Vec<PutTask>) -> anyhow::Result<()> {
@@ -82,16 +91,21 @@ impl Bench {
     // A PUT of the name of this number.
     pub(crate) fn put(&self, alloc: Global, name: u64) -> anyhow::Result<PutTask> {
         self.settings.has_zone_one();
+        let asker = asker(alloc)?;
         let put = put_of(alloc, name)?;
-        let task = PutTask::new(alloc, &self.settings, 1, asker(alloc)?, put)?;
-        Ok(task)
+        Ok(PutTask::new(alloc, &self.settings, 1, asker, put)?)
     }
 
     // A chunk of GETs from this number on.
     fn gets(&self, alloc: Global, from: u32) -> anyhow::Result<Vec<GetTask>> {
         let mut tasks = Vec::new(alloc);
-        self.add_gets(alloc, from, &mut tasks)?;
-        Ok(tasks)
+        match self.add_gets(alloc, from, &mut tasks) {
+            Ok(()) => Ok(tasks),
+            Err(error) => {
+                drop(tasks);
+                Err(error)
+            }
+        }
     }
 
     fn add_gets(&self, alloc: Global, from: u32, tasks: &mut Vec<GetTask>) -> anyhow::Result<()> {

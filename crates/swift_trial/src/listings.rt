@@ -35,8 +35,28 @@ fn key_is(
     text: &str,
     key: Option<Key>,
 ) -> Result<bool, Fail> {
+    let name = name(alloc, text)?;
     let command = command(alloc, marker, "", prefix, delimiter)?;
-    Ok(command.key(&name(alloc, text)?) == key)
+    let right = command.key(&name) == key;
+    drop(command);
+    Ok(right)
+}
+
+// Below `a/`, up to `a/c`: whether the name is past that, and how many rows there are at most.
+fn is_past(alloc: Global, text: &str) -> Result<(bool, usize), Fail> {
+    let name = name(alloc, text)?;
+    let command = command(alloc, "", "a/c", "a/", "/")?;
+    let past = command.is_past(&name);
+    let most = command.most_rows();
+    drop(command);
+    Ok((past, most))
+}
+
+fn starts_at(alloc: Global, marker: &str, prefix: &str, start: &str) -> Result<bool, Fail> {
+    let command = command(alloc, marker, "", prefix, "/")?;
+    let found = command.start(alloc);
+    drop(command);
+    Ok(found?.is(start))
 }
 
 #[test]
@@ -59,10 +79,9 @@ fn keys_of_names(rt: HostRuntime) -> Result<(), Fail> {
 #[test]
 fn names_past_the_scope(rt: HostRuntime) -> Result<(), Fail> {
     for (text, past) in [("a", false), ("a/b", false), ("a/c", true), ("b", true)] {
-        let command = command(rt.alloc(), "", "a/c", "a/", "/")?;
-        let found = command.is_past(&name(rt.alloc(), text)?);
+        let (found, most) = is_past(rt.alloc(), text)?;
         assert_eq!(rt; found, past, "at {text}");
-        assert_eq!(rt; command.most_rows(), 10000);
+        assert_eq!(rt; most, 10000);
     }
     Ok(())
 }
@@ -79,8 +98,8 @@ fn starts_of_listings(rt: HostRuntime) -> Result<(), Fail> {
         ("c", "b", "c"),
         ("", "a\u{E000}", "a"),
     ] {
-        let found = command(alloc, marker, "", prefix, "/")?.start(alloc)?;
-        assert!(rt; found.is(start), "at {marker} and {prefix}");
+        let right = starts_at(alloc, marker, prefix, start)?;
+        assert!(rt; right, "at {marker} and {prefix}");
     }
     Ok(())
 }

@@ -12,14 +12,14 @@ fn head_of(alloc: Global, text: &[u8]) -> Result<Head, Fail> {
     Ok(read_head(alloc, text).ok().ok_or("no head")?)
 }
 
-fn put_of(asked: Asked) -> Option<PutCommand> {
+fn put_in(asked: &Asked) -> Option<&PutCommand> {
     match asked {
         Asked::Put(put) => Some(put),
         _other => None,
     }
 }
 
-fn get_of(asked: Asked) -> Option<GetCommand> {
+fn get_in(asked: &Asked) -> Option<&GetCommand> {
     match asked {
         Asked::Get(get) => Some(get),
         _other => None,
@@ -33,6 +33,36 @@ fn count_of(rule: &Option<EtagRule>) -> usize {
     }
 }
 
+fn is_text_put(put: &PutCommand) -> bool {
+    put.container.as_text().is("box")
+        && put.name.as_text().is("k.txt")
+        && put
+            .kind
+            .as_ref()
+            .is_some_and(|kind| kind.as_text().is("text/plain"))
+        && put
+            .etag
+            .as_ref()
+            .is_some_and(|etag| etag.is("5d41402abc4b2a76b9719d911017c592"))
+        && matches!(put.when.matches, Some(EtagRule::Any))
+        && count_of(&put.when.none) == 2
+}
+
+fn has_metadata(put: &PutCommand) -> bool {
+    put.container.as_text().is("c d")
+        && put.name.as_text().is("a/é")
+        && put.meta.len() == 2
+        && put.meta.get("color").is_some_and(|color| color.is("red"))
+        && put.meta.get("z").is_some_and(|last| last.is("é"))
+}
+
+fn is_span_get(get: &GetCommand) -> bool {
+    get.when.modified == Some(784_111_777)
+        && get.when.unmodified.is_none()
+        && get.span == Some(Span::Between(500, 999))
+        && get.body
+}
+
 #[test]
 fn a_put_is_read(rt: HostRuntime) -> Result<(), Fail> {
     let head = head_of(
@@ -40,17 +70,14 @@ fn a_put_is_read(rt: HostRuntime) -> Result<(), Fail> {
         b"PUT /swift/v1/AUTH_acme/box/k.txt HTTP/1.1\r\nHost: h\r\nX-Auth-Token: AUTH_tk1\r\nContent-Type: text/plain\r\nETag: \"5d41402abc4b2a76b9719d911017c592\"\r\nIf-Match: *\r\nIf-None-Match: \"r2d2xxxx\", c3piozzzz\r\nContent-Length: 5\r\n\r\n",
     )?;
     let asked = read_asked(rt.alloc(), LARGEST, &head)?;
-    assert_eq!(rt; body_use(LARGEST, &head, &asked), BodyUse::Fed);
-    assert!(rt; !closes(1, &head, false));
-    let put = put_of(asked).ok_or("no PUT")?;
-    assert!(rt; put.container.as_text().is("box"));
-    assert!(rt; put.name.as_text().is("k.txt"));
-    let kind = put.kind.ok_or("no type")?;
-    assert!(rt; kind.as_text().is("text/plain"));
-    let etag = put.etag.ok_or("no ETag")?;
-    assert!(rt; etag.is("5d41402abc4b2a76b9719d911017c592"));
-    assert!(rt; matches!(put.when.matches, Some(EtagRule::Any)));
-    assert_eq!(rt; count_of(&put.when.none), 2);
+    let right = put_in(&asked).is_some_and(|put| is_text_put(put));
+    let plan = body_use(LARGEST, &head, &asked);
+    drop(asked);
+    let closes = closes(1, &head, false);
+    drop(head);
+    assert!(rt; right);
+    assert_eq!(rt; plan, BodyUse::Fed);
+    assert!(rt; !closes);
     Ok(())
 }
 
@@ -61,13 +88,14 @@ fn a_get_is_read(rt: HostRuntime) -> Result<(), Fail> {
         b"GET /swift/v1/AUTH_acme/box/k HTTP/1.1\r\nHost: h\r\nX-Auth-Token: AUTH_tk1\r\nIf-Modified-Since: Sunday, 06-Nov-94 08:49:37 GMT\r\nRange: bytes=500-999\r\nConnection: close\r\n\r\n",
     )?;
     let asked = read_asked(rt.alloc(), LARGEST, &head)?;
-    assert_eq!(rt; body_use(LARGEST, &head, &asked), BodyUse::Dropped);
-    assert!(rt; closes(1, &head, false));
-    let get = get_of(asked).ok_or("no GET")?;
-    assert_eq!(rt; get.when.modified, Some(784_111_777));
-    assert_eq!(rt; get.when.unmodified, None);
-    assert_eq!(rt; get.span, Some(Span::Between(500, 999)));
-    assert!(rt; get.body);
+    let right = get_in(&asked).is_some_and(|get| is_span_get(get));
+    let plan = body_use(LARGEST, &head, &asked);
+    drop(asked);
+    let closes = closes(1, &head, false);
+    drop(head);
+    assert!(rt; right);
+    assert_eq!(rt; plan, BodyUse::Dropped);
+    assert!(rt; closes);
     Ok(())
 }
 
@@ -77,13 +105,10 @@ fn an_object_with_metadata(rt: HostRuntime) -> Result<(), Fail> {
         rt.alloc(),
         b"PUT /swift/v1/AUTH_acme/c%20d/a/%C3%A9?x=1 HTTP/1.0\r\nX-Auth-Token: AUTH_tk1\r\nX-Object-Meta-Z: 1\r\nx-object-meta-Color: red\r\nX-Object-Meta-z: \xC3\xA9\r\nContent-Length: 0\r\n\r\n",
     )?;
-    let put = put_of(read_asked(rt.alloc(), LARGEST, &head)?).ok_or("no PUT")?;
-    assert!(rt; put.container.as_text().is("c d"));
-    assert!(rt; put.name.as_text().is("a/é"));
-    assert_eq!(rt; put.meta.len(), 2);
-    let color = put.meta.get("color").ok_or("no color")?;
-    assert!(rt; color.is("red"));
-    let last = put.meta.get("z").ok_or("no z")?;
-    assert!(rt; last.is("é"));
+    let asked = read_asked(rt.alloc(), LARGEST, &head)?;
+    let right = put_in(&asked).is_some_and(|put| has_metadata(put));
+    drop(asked);
+    drop(head);
+    assert!(rt; right);
     Ok(())
 }

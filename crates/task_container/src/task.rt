@@ -84,7 +84,7 @@ impl ContainerTask {
     {
         let stage = replace(&mut self.stage, Stage::Look);
         let (stage, moved) = next_stage(&self.request.asker, stage, self.moved, reply);
-        self.stage = stage;
+        drop(replace(&mut self.stage, stage));
         self.moved = moved;
     }
 }
@@ -96,7 +96,10 @@ fn next_stage(asker: &Asker, stage: Stage, moved: u32, reply: Reply) -> (Stage, 
     match stage {
         Stage::Look => (stage_by_row(asker, row_in(reply)), moved),
         Stage::Count(counting) => stage_by_header(counting, moved, header_in(reply)),
-        Stage::Ended(outcome) => (Stage::Ended(outcome), moved),
+        Stage::Ended(outcome) => {
+            drop(reply);
+            (Stage::Ended(outcome), moved)
+        }
     }
 }
 
@@ -106,7 +109,10 @@ fn row_in(reply: Reply) -> Option<Bucket>
 {
     match reply {
         Reply::Row(row) => Some(row),
-        _ => None,
+        other => {
+            drop(other);
+            None
+        }
     }
 }
 
@@ -116,7 +122,10 @@ fn header_in(reply: Reply) -> Option<ShardStats>
 {
     match reply {
         Reply::Stats(stats) => Some(stats),
-        _ => None,
+        other => {
+            drop(other);
+            None
+        }
     }
 }
 
@@ -255,12 +264,15 @@ impl EventTask for ContainerTask {
         };
         match door.step(alloc, op, moment) {
             Ok(answered) => {
+                drop(answered.back);
                 self.take(answered.reply);
                 Ok(())
             }
             Err(stopped) => {
-                self.fault = Some(stopped.fault);
-                Err(stopped.fault)
+                let fault = stopped.fault;
+                drop(stopped);
+                self.fault = Some(fault);
+                Err(fault)
             }
         }
     }

@@ -51,7 +51,10 @@ pub fn row_in(reply: Reply) -> Option<Bucket>
 {
     match reply {
         Reply::Row(row) => Some(row),
-        _ => None,
+        other => {
+            drop(other);
+            None
+        }
     }
 }
 
@@ -86,9 +89,16 @@ pub fn after_row(asker: &Asker, row: Option<Bucket>) -> Stage
     ensures { result ≡ after_row asker.now row }
 {
     match asker.refusal(row.as_ref(), Deed::ReadThing) {
-        Some(refusal) => ended(MapReply::Refused(refusal)),
+        Some(refusal) => {
+            drop(row);
+            ended(MapReply::Refused(refusal))
+        }
         None => match row {
-            Some(row) => Stage::Open { container: row.id },
+            Some(row) => {
+                let container = row.id;
+                drop(row);
+                Stage::Open { container }
+            }
             None => unreachable!(),
         },
     }

@@ -124,8 +124,8 @@ impl GetTask {
     {
         let stage = replace(&mut self.stage, Stage::Look);
         let Step { stage, piece } = next_step(&self.request, stage, reply, clock);
-        self.stage = stage;
-        self.piece = piece;
+        drop(replace(&mut self.stage, stage));
+        drop(replace(&mut self.piece, piece));
     }
 
     /// Makes the event that comes next.
@@ -166,12 +166,15 @@ impl GetTask {
         };
         match door.step(alloc, op, moment) {
             Ok(answered) => {
+                drop(answered.back);
                 self.take(answered.reply, answered.clock);
                 Ok(turn_giving(self.piece()))
             }
             Err(stopped) => {
-                self.fault = Some(stopped.fault);
-                Err(stopped.fault)
+                let fault = stopped.fault;
+                drop(stopped);
+                self.fault = Some(fault);
+                Err(fault)
             }
         }
     }
@@ -203,10 +206,13 @@ fn next_step(request: &GetRequest, stage: Stage, reply: Reply, clock: u64) -> St
         },
         Stage::Open { .. } => after_head(&request.get, slot_in(reply), clock),
         Stage::Tails(reading) => after_tail(reading, tail_in(reply)),
-        over => Step {
-            stage: over,
-            piece: None,
-        },
+        over => {
+            drop(reply);
+            Step {
+                stage: over,
+                piece: None,
+            }
+        }
     }
 }
 

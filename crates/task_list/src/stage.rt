@@ -118,11 +118,16 @@ pub fn next_stage(
             let stage = stage_by_head(alloc, &request.command, merging, wanted, head_in(reply))?;
             Ok((stage, moved))
         }
-        Stage::Suggest(merging, _) => {
+        Stage::Suggest(merging, suggestion) => {
+            drop(suggestion);
+            drop(reply);
             let stage = went_on(alloc, &request.command, merging)?;
             Ok((stage, moved))
         }
-        stage => Ok((stage, moved)),
+        stage => {
+            drop(reply);
+            Ok((stage, moved))
+        }
     }
 }
 
@@ -132,7 +137,10 @@ fn row_in(reply: Reply) -> Option<Bucket>
 {
     match reply {
         Reply::Row(row) => Some(row),
-        _ => None,
+        other => {
+            drop(other);
+            None
+        }
     }
 }
 
@@ -142,7 +150,10 @@ fn page_in(reply: Reply) -> Option<EntryPage>
 {
     match reply {
         Reply::Entries(page) => Some(page),
-        _ => None,
+        other => {
+            drop(other);
+            None
+        }
     }
 }
 
@@ -152,10 +163,13 @@ fn head_in(reply: Reply) -> HeadSeen
 {
     match reply {
         Reply::Head(seen, _) => seen,
-        _ => HeadSeen {
-            version: 0,
-            slot: SeenSlot::Nothing,
-        },
+        other => {
+            drop(other);
+            HeadSeen {
+                version: 0,
+                slot: SeenSlot::Nothing,
+            }
+        }
     }
 }
 
@@ -171,7 +185,11 @@ fn stage_by_row(
     ensures told { IfOk result (λ stage. RowTold row stage) }
 {
     match request.asker.refusal(row.as_ref(), Deed::ListContainer) {
-        Some(refusal) => Ok(Stage::Ended(Outcome::Done(MapReply::Refused(refusal)))),
+        Some(refusal) => {
+            drop(known);
+            drop(row);
+            Ok(Stage::Ended(Outcome::Done(MapReply::Refused(refusal))))
+        }
         None => match row {
             Some(row) => stage_in(alloc, &request.command, known, row),
             None => unreachable!(),
@@ -245,6 +263,7 @@ fn stage_when_moved(merging: Merging, moved: u32) -> Stage
             progress,
         }))
     } else {
+        drop(merging);
         Stage::Ended(Outcome::MovedOften)
     }
 }

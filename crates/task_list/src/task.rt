@@ -117,7 +117,7 @@ impl ListTask {
     {
         let stage = replace(&mut self.stage, Stage::Broken);
         if let Ok((stage, moved)) = next_stage(alloc, &self.request, stage, self.moved, reply) {
-            self.stage = stage;
+            drop(replace(&mut self.stage, stage));
             self.moved = moved;
         }
     }
@@ -199,12 +199,15 @@ impl EventTask for ListTask {
         };
         match door.step(alloc, op, moment) {
             Ok(answered) => {
+                drop(answered.back);
                 self.take(alloc, answered.reply);
                 Ok(())
             }
             Err(stopped) => {
-                self.fault = Some(stopped.fault);
-                Err(stopped.fault)
+                let fault = stopped.fault;
+                drop(stopped);
+                self.fault = Some(fault);
+                Err(fault)
             }
         }
     }

@@ -62,29 +62,42 @@ pub(crate) fn resumed(target: &Target, tried: Tried, rest: Rest, answered: Answe
 fn looked(target: &Target, draft: Draft, answered: Answered) -> Stage
     ensures { result ≡ by_first_place answered.number draft (place_of target.now (row_shown answered.reply)) }
 {
-    let number = answered.number;
-    let row = row_in(answered.reply);
-    by_first_place(number, draft, place_of(target, row.as_ref()))
+    let Answered {
+        number,
+        reply,
+        back,
+        ..
+    } = answered;
+    drop(back);
+    let row = row_in(reply);
+    let place = place_of(target, row.as_ref());
+    drop(row);
+    by_first_place(number, draft, place)
 }
 
 /// A tail was made, or found no room.
 fn tail_made(write: u64, key: ShardKey, draft: Draft, answered: Answered) -> Stage
     ensures { result ≡ by_tail write key draft answered.reply }
 {
-    by_tail(write, key, draft, answered.reply)
+    let Answered { reply, back, .. } = answered;
+    drop(back);
+    by_tail(write, key, draft, reply)
 }
 
 /// A tag was given, or the shard refused it.
 fn prepared(tried: Tried, key: ShardKey, content: Content, answered: Answered) -> Stage
     ensures { result ≡ by_tag tried key content answered.reply }
 {
-    by_tag(tried, key, content, answered.reply)
+    let Answered { reply, back, .. } = answered;
+    drop(back);
+    by_tag(tried, key, content, reply)
 }
 
 /// The shard was announced.
-fn announced(key: ShardKey, guard: Guard, content: Content, _answered: Answered) -> Stage
+fn announced(key: ShardKey, guard: Guard, content: Content, answered: Answered) -> Stage
     ensures { result ≡ Writing key guard content }
 {
+    drop(answered);
     Stage::Writing {
         key,
         guard,
@@ -93,9 +106,10 @@ fn announced(key: ShardKey, guard: Guard, content: Content, _answered: Answered)
 }
 
 /// The tag was cancelled, or is left to its deadline.
-fn cancelled(tried: Tried, after: After, _answered: Answered) -> Stage
+fn cancelled(tried: Tried, after: After, answered: Answered) -> Stage
     ensures { result ≡ by_cancel tried after }
 {
+    drop(answered);
     by_cancel(tried, after)
 }
 
@@ -103,8 +117,12 @@ fn cancelled(tried: Tried, after: After, _answered: Answered) -> Stage
 fn looked_again(target: &Target, content: Content, answered: Answered) -> Stage
     ensures { result ≡ by_place content (place_of target.now (row_shown answered.reply)) }
 {
-    let row = row_in(answered.reply);
-    by_place(content, place_of(target, row.as_ref()))
+    let Answered { reply, back, .. } = answered;
+    drop(back);
+    let row = row_in(reply);
+    let place = place_of(target, row.as_ref());
+    drop(row);
+    by_place(content, place)
 }
 
 /// The head was changed, or not.
@@ -127,11 +145,12 @@ fn completed(tried: Tried, unfinished: Unfinished, answered: Answered) -> Stage
 fn shard_looked(target: &Target, change: Change, answered: Answered) -> Stage
     ensures { result ≡ Completing (shard_now change.home target.now.name (row_shown answered.reply)) change }
 {
-    let row = row_in(answered.reply);
-    Stage::Completing {
-        key: shard_now(change.home, &target.name, row.as_ref()),
-        change,
-    }
+    let Answered { reply, back, .. } = answered;
+    drop(back);
+    let row = row_in(reply);
+    let key = shard_now(change.home, &target.name, row.as_ref());
+    drop(row);
+    Stage::Completing { key, change }
 }
 
 /// The row that an answer shows.
@@ -140,7 +159,10 @@ fn row_in(reply: Reply) -> Option<Bucket>
 {
     match reply {
         Reply::Row(row) => Some(row),
-        _ => None,
+        other => {
+            drop(other);
+            None
+        }
     }
 }
 
@@ -196,9 +218,17 @@ fn by_place(content: Content, place: Result<ShardKey, Refusal>) -> Stage
 fn by_tail(write: u64, key: ShardKey, draft: Draft, reply: Reply) -> Stage
     ensures { result ≡ by_tail write key draft reply }
 {
-    match reply {
-        Reply::No(Why::NoSpace { free, needed }) => Stage::Ended(Outcome::NoSpace { free, needed }),
-        _ => Stage::Feeding { write, key, draft },
+    match &reply {
+        Reply::No(Why::NoSpace { free, needed }) => {
+            let (free, needed) = (*free, *needed);
+            drop(reply);
+            drop(draft);
+            Stage::Ended(Outcome::NoSpace { free, needed })
+        }
+        _ => {
+            drop(reply);
+            Stage::Feeding { write, key, draft }
+        }
     }
 }
 
@@ -209,6 +239,7 @@ fn look_again(tried: Tried, content: Content) -> Stage
     if tried.moved < MOST_MOVED {
         Stage::LookingAgain { content }
     } else {
+        drop(content);
         Stage::Ended(Outcome::MovedOften)
     }
 }
@@ -217,14 +248,26 @@ fn look_again(tried: Tried, content: Content) -> Stage
 fn by_tag(tried: Tried, key: ShardKey, content: Content, reply: Reply) -> Stage
     ensures { result ≡ by_tag tried key content reply }
 {
-    match reply {
-        Reply::Prepared(guard) => Stage::Announcing {
-            key,
-            guard,
-            content,
-        },
-        Reply::No(Why::Held { id }) => Stage::Ended(Outcome::Busy { id }),
-        _ => look_again(tried, content),
+    match &reply {
+        Reply::Prepared(guard) => {
+            let guard = *guard;
+            drop(reply);
+            Stage::Announcing {
+                key,
+                guard,
+                content,
+            }
+        }
+        Reply::No(Why::Held { id }) => {
+            let id = *id;
+            drop(reply);
+            drop(content);
+            Stage::Ended(Outcome::Busy { id })
+        }
+        _ => {
+            drop(reply);
+            look_again(tried, content)
+        }
     }
 }
 
@@ -246,18 +289,22 @@ fn by_change(
             tag: guard.tag,
             after: by_refusal(tried, why, back),
         },
-        _ => Stage::Cancelling {
-            key,
-            tag: guard.tag,
-            after: ended_by(Outcome::Done(MapReply::Refused(Refusal::NotMet)), back),
-        },
+        other => {
+            drop(other);
+            Stage::Cancelling {
+                key,
+                tag: guard.tag,
+                after: ended_by(Outcome::Done(MapReply::Refused(Refusal::NotMet)), back),
+            }
+        }
     }
 }
 
 /// The head was changed.
-fn changed(key: ShardKey, tag: u64, etag: [u8; 16], made: Changed, _back: Option<Op>) -> Stage
+fn changed(key: ShardKey, tag: u64, etag: [u8; 16], made: Changed, back: Option<Op>) -> Stage
     ensures { result ≡ Completing key (record { home = key; tag = tag; version = made.version; row = made.row; etag = etag; stamp = made.stamp }) }
 {
+    drop(back);
     let Changed {
         version,
         stamp,
@@ -289,9 +336,10 @@ fn by_refusal(tried: Tried, why: Why, back: Option<Op>) -> After
 }
 
 /// The task ends so, and what came back is let go.
-fn ended_by(outcome: Outcome, _back: Option<Op>) -> After
+fn ended_by(outcome: Outcome, back: Option<Op>) -> After
     ensures { result ≡ End outcome }
 {
+    drop(back);
     After::End(outcome)
 }
 
@@ -300,8 +348,21 @@ fn content_back(back: Option<Op>) -> Option<Content>
     ensures { result ≡ content_back back }
 {
     match back {
-        Some(Op::HeadWrite { new, when, .. }) => Some(Content { new, when }),
-        _ => None,
+        Some(
+            Op::HeadWrite {
+                name,
+                new,
+                when,
+                ..
+            },
+        ) => {
+            drop(name);
+            Some(Content { new, when })
+        }
+        other => {
+            drop(other);
+            None
+        }
     }
 }
 
@@ -322,6 +383,7 @@ fn after_late(tried: Tried, content: Content) -> After
     if tried.expired < MOST_EXPIRED {
         After::Again(content)
     } else {
+        drop(content);
         After::End(Outcome::LateTag)
     }
 }
@@ -340,16 +402,23 @@ fn by_cancel(tried: Tried, after: After) -> Stage
 fn by_completion(tried: Tried, unfinished: Unfinished, reply: Reply, back: Option<Op>) -> Stage
     ensures { result ≡ by_completion tried unfinished reply back }
 {
-    match reply {
-        Reply::No(Why::Moved { .. }) => by_move(tried, unfinished, row_back(back)),
-        _ => stood(unfinished, back),
+    match &reply {
+        Reply::No(Why::Moved { .. }) => {
+            drop(reply);
+            by_move(tried, unfinished, row_back(back))
+        }
+        _ => {
+            drop(reply);
+            stood(unfinished, back)
+        }
     }
 }
 
 /// The change stands, and what came back is let go.
-fn stood(unfinished: Unfinished, _back: Option<Op>) -> Stage
+fn stood(unfinished: Unfinished, back: Option<Op>) -> Stage
     ensures { result ≡ Ended (Done (Stored unfinished.etag unfinished.stamp)) }
 {
+    drop(back);
     stored(unfinished)
 }
 
@@ -358,8 +427,14 @@ fn row_back(back: Option<Op>) -> Option<EntryRow>
     ensures { result ≡ row_back back }
 {
     match back {
-        Some(Op::Complete { row, .. }) => Some(row),
-        _ => None,
+        Some(Op::Complete { name, row, .. }) => {
+            drop(name);
+            Some(row)
+        }
+        other => {
+            drop(other);
+            None
+        }
     }
 }
 

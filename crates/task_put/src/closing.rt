@@ -69,10 +69,13 @@ fn closed(write: u64, key: ShardKey, draft: Draft) -> Standing
 {
     match draft.body.end() {
         None => waiting(write, key, draft),
-        Some(BodyEnd::Failed) => Standing {
-            stage: Stage::Ended(Outcome::BodyFailed),
-            next: Next::Done,
-        },
+        Some(BodyEnd::Failed) => {
+            drop(draft);
+            Standing {
+                stage: Stage::Ended(Outcome::BodyFailed),
+                next: Next::Done,
+            }
+        }
         Some(BodyEnd::Whole) => taken(write, key, draft),
     }
 }
@@ -103,6 +106,7 @@ fn taken(write: u64, key: ShardKey, draft: Draft) -> Standing
         unreachable!()
     };
     if has_other_etag(draft.etag.as_ref(), &etag) {
+        drop(draft);
         Standing {
             stage: Stage::Ended(Outcome::Done(MapReply::Refused(Refusal::OtherEtag))),
             next: Next::Done,

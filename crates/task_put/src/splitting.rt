@@ -1,5 +1,5 @@
 // The operation of a stage, taken out of it.
-ghost use Rattle.std.specs.Prelude.{◌≡◌, ◌+◌, true, IfOk};
+ghost use Rattle.std.specs.Prelude.{◌≡◌, ◌+◌, true, Ok, IfOk};
 ghost use Rattle.realm_model.specs.declared.op.Op.TheVariants.{TailMake};
 ghost use Rattle.task_put.specs.Bodies.{has_tail};
 ghost use Rattle.task_words.specs.Cuts.{tail_bytes};
@@ -18,46 +18,49 @@ pub(crate) fn split(alloc: Global, target: &Target, stage: Stage) -> Result<Spli
     ensures rest { IfOk result (λ s. s.rest ≡ rest_of stage) }
 {
     match stage {
-        Stage::Looking { draft } => Ok(Split {
-            op: target.look()?,
-            rest: Rest::Look(draft),
-        }),
+        Stage::Looking { draft } => beside(target.look(), Rest::Look(draft)),
         Stage::Feeding { write, key, draft } => Ok(tail_of(alloc, target.zone, write, key, draft)),
-        Stage::LookingAgain { content } => Ok(Split {
-            op: target.look()?,
-            rest: Rest::LookAgain(content),
-        }),
-        Stage::Preparing { key, content } => Ok(Split {
-            op: target.prepare(key)?,
-            rest: Rest::Prepare { key, content },
-        }),
+        Stage::LookingAgain { content } => beside(target.look(), Rest::LookAgain(content)),
+        Stage::Preparing { key, content } => {
+            beside(target.prepare(key), Rest::Prepare { key, content })
+        }
         Stage::Announcing {
             key,
             guard,
             content,
-        } => Ok(Split {
-            op: target.announce(key)?,
-            rest: Rest::Announce {
+        } => {
+            let rest = Rest::Announce {
                 key,
                 guard,
                 content,
-            },
-        }),
+            };
+            beside(target.announce(key), rest)
+        }
         Stage::Writing {
             key,
             guard,
             content,
         } => target.write(key, guard, content),
-        Stage::Cancelling { key, tag, after } => Ok(Split {
-            op: target.cancel(key, tag)?,
-            rest: Rest::Cancel(after),
-        }),
+        Stage::Cancelling { key, tag, after } => {
+            beside(target.cancel(key, tag), Rest::Cancel(after))
+        }
         Stage::Completing { key, change } => target.complete(key, change),
-        Stage::LookingForShard { change } => Ok(Split {
-            op: target.look()?,
-            rest: Rest::LookForShard(change),
-        }),
+        Stage::LookingForShard { change } => beside(target.look(), Rest::LookForShard(change)),
         Stage::Ended(_) => unreachable!(),
+    }
+}
+
+/// The operation, where there is one, and what is kept beside it.
+fn beside(op: Result<Op, AllocError>, rest: Rest) -> Result<Split, AllocError>
+    ensures op { IfOk result (λ s. op ≡ Ok s.op) }
+    ensures rest { IfOk result (λ s. s.rest ≡ rest) }
+{
+    match op {
+        Ok(op) => Ok(Split { op, rest }),
+        Err(error) => {
+            drop(rest);
+            Err(error)
+        }
     }
 }
 

@@ -196,7 +196,7 @@ impl PutTask {
     {
         let stage = replace(&mut self.stage, Stage::Ended(Outcome::MovedOften));
         let Standing { stage, next } = settled(stage);
-        self.stage = stage;
+        drop(replace(&mut self.stage, stage));
         next
     }
 
@@ -220,7 +220,8 @@ impl PutTask {
     {
         has_shards(&answered.reply);
         self.tried = tried_after(self.tried, &answered.reply);
-        self.stage = resumed(&self.target, self.tried, rest, answered);
+        let stage = resumed(&self.target, self.tried, rest, answered);
+        drop(replace(&mut self.stage, stage));
     }
 }
 
@@ -326,8 +327,11 @@ impl EventTask for PutTask {
                 Ok(())
             }
             Err(stopped) => {
-                self.fault = Some(stopped.fault);
-                Err(stopped.fault)
+                let fault = stopped.fault;
+                drop(stopped);
+                drop(rest);
+                self.fault = Some(fault);
+                Err(fault)
             }
         }
     }

@@ -76,10 +76,16 @@ pub fn next_stage(alloc: Global, stage: Stage, applied: u64, reply: Reply) -> (S
             let stage = stage_by_head(alloc, pass, sheet, entry, head_in(reply), applied);
             (stage, applied)
         }
-        Stage::Suggest(pass, sheet, entry, _) => {
-            stage_by_answer(alloc, pass, sheet, entry, is_done(&reply), applied)
+        Stage::Suggest(pass, sheet, entry, shown) => {
+            drop(shown);
+            let done = is_done(&reply);
+            drop(reply);
+            stage_by_answer(alloc, pass, sheet, entry, done, applied)
         }
-        Stage::Ended(outcome) => (Stage::Ended(outcome), applied),
+        Stage::Ended(outcome) => {
+            drop(reply);
+            (Stage::Ended(outcome), applied)
+        }
     }
 }
 
@@ -89,7 +95,10 @@ fn row_in(reply: Reply) -> Option<Bucket>
 {
     match reply {
         Reply::Row(row) => Some(row),
-        _ => None,
+        other => {
+            drop(other);
+            None
+        }
     }
 }
 
@@ -99,7 +108,10 @@ fn page_in(reply: Reply) -> Option<EntryPage>
 {
     match reply {
         Reply::Entries(page) => Some(page),
-        _ => None,
+        other => {
+            drop(other);
+            None
+        }
     }
 }
 
@@ -109,7 +121,10 @@ fn head_in(reply: Reply) -> Option<HeadSeen>
 {
     match reply {
         Reply::Head(seen, _) => Some(seen),
-        _ => None,
+        other => {
+            drop(other);
+            None
+        }
     }
 }
 

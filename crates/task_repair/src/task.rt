@@ -94,7 +94,7 @@ impl RepairTask {
     {
         let stage = replace(&mut self.stage, Stage::Look);
         let (stage, applied) = next_stage(alloc, stage, self.applied, reply);
-        self.stage = stage;
+        drop(replace(&mut self.stage, stage));
         self.applied = applied;
     }
 }
@@ -185,12 +185,15 @@ impl EventTask for RepairTask {
         };
         match door.step(alloc, op, moment) {
             Ok(answered) => {
+                drop(answered.back);
                 self.take(alloc, answered.reply);
                 Ok(())
             }
             Err(stopped) => {
-                self.fault = Some(stopped.fault);
-                Err(stopped.fault)
+                let fault = stopped.fault;
+                drop(stopped);
+                self.fault = Some(fault);
+                Err(fault)
             }
         }
     }

@@ -27,7 +27,19 @@ pub fn count_of(alloc: Global) -> anyhow::Result<ContainerRequest>
 /// Counts at moment 0, as the actor of this number, and prints what was counted.
 pub fn count<R: Print>(rt: &R, alloc: Global, play: &mut Play, actor: u64) -> anyhow::Result<()> {
     let mut task = ContainerTask::new(count_of(alloc)?);
-    take_turns(rt, alloc, play, &mut task, actor)?;
+    let ended = carry_out(rt, alloc, play, &mut task, actor);
+    drop(task);
+    ended
+}
+
+fn carry_out<R: Print>(
+    rt: &R,
+    alloc: Global,
+    play: &mut Play,
+    task: &mut ContainerTask,
+    actor: u64,
+) -> anyhow::Result<()> {
+    take_turns(rt, alloc, play, task, actor)?;
     tell_end(rt, actor, task.outcome())
 }
 

@@ -10,6 +10,12 @@ const LETTERS: &[u8] = b"abcdefghijklmnopqrstuvwxyz";
 pub fn letters_are_cut<R: Print>(rt: &R, alloc: Global) -> anyhow::Result<()> {
     println!(rt; "the letters a to z in stripes of 16")?;
     let mut body = PutBody::new(alloc, 16);
+    let told = tell_stripes(rt, alloc, &mut body);
+    drop(body);
+    told
+}
+
+fn tell_stripes<R: Print>(rt: &R, alloc: Global, body: &mut PutBody) -> anyhow::Result<()> {
     let head = body.feed(LETTERS)?;
     let tail = body.feed(&LETTERS[16..])?;
     body.finish(BodyEnd::Whole);

@@ -41,7 +41,19 @@ pub fn get<R: Print>(
     name: &str,
 ) -> anyhow::Result<()> {
     let mut task = GetTask::new(get_of(alloc, name)?);
-    take_turns(rt, alloc, play, &mut task, actor)?;
+    let ended = carry_out(rt, alloc, play, &mut task, actor);
+    drop(task);
+    ended
+}
+
+fn carry_out<R: Print>(
+    rt: &R,
+    alloc: Global,
+    play: &mut Play,
+    task: &mut GetTask,
+    actor: u64,
+) -> anyhow::Result<()> {
+    take_turns(rt, alloc, play, task, actor)?;
     tell_end(rt, actor, task.outcome())
 }
 

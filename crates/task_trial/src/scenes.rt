@@ -259,10 +259,34 @@ fn play_scene<R: Print>(rt: &R, alloc: Global, scene: &Scene) -> anyhow::Result<
     println!(rt; "{title}")?;
     let settings = settings_of(scene.size)?;
     let mut uploads = uploads_of(alloc, &settings, scene.puts)?;
-    let mut play = Play::new(alloc, &settings)?;
+    let played = play_uploads(rt, alloc, &settings, &mut uploads, scene.acts);
+    drop(uploads);
+    played
+}
+
+fn play_uploads<R: Print>(
+    rt: &R,
+    alloc: Global,
+    settings: &Settings,
+    uploads: &mut Vec<Upload>,
+    acts: &[Act],
+) -> anyhow::Result<()> {
+    let mut play = Play::new(alloc, settings)?;
+    let played = play_acts(rt, alloc, &mut play, uploads, acts);
+    drop(play);
+    played
+}
+
+fn play_acts<R: Print>(
+    rt: &R,
+    alloc: Global,
+    play: &mut Play,
+    uploads: &mut Vec<Upload>,
+    acts: &[Act],
+) -> anyhow::Result<()> {
     play.preset(rt, alloc, 1)?;
-    for act in scene.acts {
-        act_out(rt, alloc, &mut play, &mut uploads, *act)?;
+    for act in acts {
+        act_out(rt, alloc, play, uploads, *act)?;
     }
     Ok(())
 }
@@ -280,11 +304,26 @@ fn uploads_of(
     puts: &'static [Sent],
 ) -> anyhow::Result<Vec<Upload>> {
     let mut uploads = Vec::new(alloc);
+    match add_uploads(alloc, settings, puts, &mut uploads) {
+        Ok(()) => Ok(uploads),
+        Err(error) => {
+            drop(uploads);
+            Err(error)
+        }
+    }
+}
+
+fn add_uploads(
+    alloc: Global,
+    settings: &Settings,
+    puts: &'static [Sent],
+    uploads: &mut Vec<Upload>,
+) -> anyhow::Result<()> {
     for sent in puts {
         let Sent { actor, name, bytes } = *sent;
         uploads.push(Upload::new(alloc, settings, actor, name, bytes)?)?;
     }
-    Ok(uploads)
+    Ok(())
 }
 
 fn act_out<R: Print>(

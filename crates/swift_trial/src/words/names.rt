@@ -77,21 +77,45 @@ fn a_target_may_have_many_pieces(rt: HostRuntime) -> Result<(), Fail> {
     Ok(())
 }
 
+/// How many bytes the names of a place have.
+fn lengths_of(alloc: Global, place: &[u8]) -> Result<(usize, usize), Fail> {
+    let (container, object) = read_place(alloc, place)?;
+    let lengths = (container.len(), object.len());
+    drop(container);
+    drop(object);
+    Ok(lengths)
+}
+
+/// How many bytes the last name of a target has, and its marker.
+fn last_and_marker(alloc: Global, target: &[u8]) -> Result<(usize, usize), Fail> {
+    let (named, asked) = read_target(alloc, target)?;
+    let lengths = (last_len(&named), asked.marker.len());
+    drop(named);
+    drop(asked);
+    Ok(lengths)
+}
+
+/// The longest names, with nothing in them but escapes.
+fn longest_place(alloc: Global) -> Result<Vec<u8>, AllocError> {
+    let mut container = repeated(alloc, b"/", b"%2F", 256)?;
+    container.push(b'/')?;
+    repeated(alloc, &container, b"%2F", 1024)
+}
+
+/// A target with them, and with a long marker.
+fn longest_target(alloc: Global) -> Result<Vec<u8>, AllocError> {
+    let mut target = Vec::from_slice(alloc, b"/swift/v1/AUTH_acme")?;
+    target.extend_from_slice(&longest_place(alloc)?)?;
+    target.extend_from_slice(b"?marker=+")?;
+    repeated(alloc, &target, b"%2B", 20_000)
+}
+
 #[test]
 fn the_longest_names_come_together(rt: HostRuntime) -> Result<(), Fail> {
     let alloc = rt.alloc();
-    let mut place = repeated(alloc, b"/", b"%2F", 256)?;
-    place.push(b'/')?;
-    let place = repeated(alloc, &place, b"%2F", 1024)?;
-    let (container, object) = read_place(alloc, &place)?;
-    assert_eq!(rt; (container.len(), object.len()), (256, 1024));
-
-    let mut target = Vec::from_slice(alloc, b"/swift/v1/AUTH_acme")?;
-    target.extend_from_slice(&place)?;
-    let target = repeated(alloc, &target, b"?marker=+", 1)?;
-    let target = repeated(alloc, &target, b"%2B", 20_000)?;
-    let (named, asked) = read_target(alloc, &target)?;
-    assert_eq!(rt; last_len(&named), 1024);
-    assert_eq!(rt; asked.marker.len(), 20_001);
+    let lengths = lengths_of(alloc, &longest_place(alloc)?)?;
+    assert_eq!(rt; lengths, (256, 1024));
+    let lengths = last_and_marker(alloc, &longest_target(alloc)?)?;
+    assert_eq!(rt; lengths, (1024, 20_001));
     Ok(())
 }

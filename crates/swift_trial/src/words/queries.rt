@@ -3,6 +3,19 @@ use super::*;
 /// A target, and the texts that its query asks for: `marker`, `end_marker`, `prefix`, `delimiter`.
 type Texts<'a> = (&'a [u8], [&'a str; 4]);
 
+/// Whether a target asks for these texts.
+fn asks_for(alloc: Global, target: &[u8], want: &[&str; 4]) -> Result<bool, Fail> {
+    let (named, asked) = read_target(alloc, target)?;
+    let [marker, end_marker, prefix, delimiter] = want;
+    let right = asked.marker.is(marker)
+        && asked.end_marker.is(end_marker)
+        && asked.prefix.is(prefix)
+        && asked.delimiter.is(delimiter);
+    drop(asked);
+    drop(named);
+    Ok(right)
+}
+
 #[test]
 fn texts_are_the_last_values_sent(rt: HostRuntime) -> Result<(), Fail> {
     let alloc = rt.alloc();
@@ -32,11 +45,7 @@ fn texts_are_the_last_values_sent(rt: HostRuntime) -> Result<(), Fail> {
         (b"/auth?Prefix=a&path=b&=c&d", ["", "", "", ""]),
     ];
     for (target, want) in table {
-        let (_, asked) = read_target(alloc, target)?;
-        assert_eq!(rt; asked.marker.as_str(), want[0]);
-        assert_eq!(rt; asked.end_marker.as_str(), want[1]);
-        assert_eq!(rt; asked.prefix.as_str(), want[2]);
-        assert_eq!(rt; asked.delimiter.as_str(), want[3]);
+        assert!(rt; asks_for(alloc, target, &want)?, "where {want:?} is wanted");
     }
     Ok(())
 }

@@ -13,5 +13,5 @@ returns-in_default-clause-stopped g c = record {
   worn = λ tells is. cc;
 }
 
-pub act_to_end-requires-clause-onward : goal.act_to_end-requires-clause-onward
-act_to_end-requires-clause-onward g c κs within = λ t sound going. still_open (stage_of t) (λ over. going (over, sound))
+pub act_to_end-acted-requires-clause-onward : goal.act_to_end-acted-requires-clause-onward
+act_to_end-acted-requires-clause-onward g c κs within = λ t sound going. still_open (stage_of t) (λ over. going (over, sound))

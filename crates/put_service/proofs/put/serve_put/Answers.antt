@@ -18,17 +18,17 @@ returns-in_default-clause-stopped g c =
 pub returns-clause-served : goal.returns-clause-served
 returns-clause-served g c =
     let old = ends_with (g.S.Source.left c.args.source.now) (g.K.Sink.taken c.args.sink.now) (g.C.Clock.told c.args.clock.now) (g.C.Clock.plan c.args.clock.now) (g.S.Source.faults c.args.source.now) (g.K.Sink.faults c.args.sink.now) in
-    let new = ends_with (g.S.Source.left c.serve_new.new.source) (g.K.Sink.taken c.serve_new.new.sink) (g.C.Clock.told c.serve_new.new.clock) (g.C.Clock.plan c.serve_new.new.clock) (g.S.Source.faults c.serve_new.new.source) (g.K.Sink.faults c.serve_new.new.sink) in
+    let new = ends_with (g.S.Source.left c.serve_new-served.new.source) (g.K.Sink.taken c.serve_new-served.new.sink) (g.C.Clock.told c.serve_new-served.new.clock) (g.C.Clock.plan c.serve_new-served.new.clock) (g.S.Source.faults c.serve_new-served.new.source) (g.K.Sink.faults c.serve_new-served.new.sink) in
     let x = side (g.D.Door.told c.args.door.now) c.args.intake.now old in
-    let y = side (g.D.Door.told c.serve_new.new.door) c.serve_new.new.intake new in
-    subst (λ (r : PutRequest). IfOk c.serve_new.result (IsPutServed c.args.waits g.D.Door.tells g.D.Door.alone (site_at (g.D.Door.settings c.args.door.now) r) c.args.form r.command x y))
-    c.in-Ok.ensures.request c.serve_new.ensures.served
+    let y = side (g.D.Door.told c.serve_new-served.new.door) c.serve_new-served.new.intake new in
+    subst (λ (r : PutRequest). IfOk c.serve_new-served.result (IsPutServed c.args.waits g.D.Door.tells g.D.Door.alone (site_at (g.D.Door.settings c.args.door.now) r) c.args.form r.command x y))
+    c.in-Ok.ensures.request c.serve_new-served.ensures.served
 
 pub returns-clause-stopped : goal.returns-clause-stopped
 returns-clause-stopped g c =
     let old = ends_with (g.S.Source.left c.args.source.now) (g.K.Sink.taken c.args.sink.now) (g.C.Clock.told c.args.clock.now) (g.C.Clock.plan c.args.clock.now) (g.S.Source.faults c.args.source.now) (g.K.Sink.faults c.args.sink.now) in
-    let new = ends_with (g.S.Source.left c.serve_new.new.source) (g.K.Sink.taken c.serve_new.new.sink) (g.C.Clock.told c.serve_new.new.clock) (g.C.Clock.plan c.serve_new.new.clock) (g.S.Source.faults c.serve_new.new.source) (g.K.Sink.faults c.serve_new.new.sink) in
+    let new = ends_with (g.S.Source.left c.serve_new-served.new.source) (g.K.Sink.taken c.serve_new-served.new.sink) (g.C.Clock.told c.serve_new-served.new.clock) (g.C.Clock.plan c.serve_new-served.new.clock) (g.S.Source.faults c.serve_new-served.new.source) (g.K.Sink.faults c.serve_new-served.new.sink) in
     let x = side (g.D.Door.told c.args.door.now) c.args.intake.now old in
-    let y = side (g.D.Door.told c.serve_new.new.door) c.serve_new.new.intake new in
-    subst (λ (r : PutRequest). IfErr c.serve_new.result (IsPutStopped c.args.waits g.D.Door.tells g.D.Door.alone (site_at (g.D.Door.settings c.args.door.now) r) c.args.form r.command (g.D.Door.found c.serve_new.new.door) x y))
-    c.in-Ok.ensures.request c.serve_new.ensures.stopped
+    let y = side (g.D.Door.told c.serve_new-served.new.door) c.serve_new-served.new.intake new in
+    subst (λ (r : PutRequest). IfErr c.serve_new-served.result (IsPutStopped c.args.waits g.D.Door.tells g.D.Door.alone (site_at (g.D.Door.settings c.args.door.now) r) c.args.form r.command (g.D.Door.found c.serve_new-served.new.door) x y))
+    c.in-Ok.ensures.request c.serve_new-served.ensures.stopped
