@@ -1,4 +1,4 @@
-ghost use Rattle.std.specs.Prelude.{◌≡◌, ◌<◌, ◌^◌, IfOk, length};
+ghost use Rattle.std.specs.Prelude.{◌≡◌, ◌<◌, ◌≤◌, ◌^◌, [], IfOk, length};
 ghost use Rattle.object_pool.specs.Places.{object_of};
 ghost use Rattle.object_words.specs.Heads.{Head};
 ghost use Rattle.cls_head.specs.Heads.{IsHead};
@@ -96,28 +96,51 @@ fn change(
     write(alloc, head, guard, new, when, 2, 9, clock)
 }
 
+/// The same with no condition.
+fn plain_change(alloc: Global, head: &mut Place<'_>, new: &NewHead, clock: u64) -> Answer
+    requires head { (h : Head) × IsHead (object_of head.old) h }
+    ensures { (h : Head) × IsHead (object_of head.new) h }
+{
+    let when = conditions(None, None);
+    let answer = change(alloc, head, new, &when, clock);
+    drop(when);
+    answer
+}
+
+fn is_made(answer: Answer) -> bool {
+    let made = answer.is_ok();
+    drop(answer);
+    made
+}
+
 fn is_expired(answer: Answer) -> bool {
-    matches!(
-        answer,
+    let expired = matches!(
+        &answer,
         Err(ClassFault::No(Why::Expired {
             deadline: 100,
             clock: 100
         }))
-    )
+    );
+    drop(answer);
+    expired
 }
 
 fn is_not_met(answer: Answer, stamp: Option<Stamp>) -> bool {
-    match answer {
-        Err(ClassFault::No(Why::NotMet { stamp: told })) => told == stamp,
+    let unmet = match &answer {
+        Err(ClassFault::No(Why::NotMet { stamp: told })) => *told == stamp,
         _ => false,
-    }
+    };
+    drop(answer);
+    unmet
 }
 
 fn is_full(answer: Answer) -> bool {
-    matches!(
-        answer,
+    let full = matches!(
+        &answer,
         Err(ClassFault::No(Why::NoSpace { free: 2, needed: 3 }))
-    )
+    );
+    drop(answer);
+    full
 }
 
 fn is_new(changed: &Changed) -> bool {
@@ -153,104 +176,223 @@ fn is_kept(seen: &HeadSeen) -> bool {
     }
 }
 
-#[test]
-fn a_head_is_written_and_read(rt: HostRuntime) -> Result<(), Fail> {
-    let alloc = rt.alloc();
-    let key = head_key(alloc)?;
-    let new = content(alloc, b"0123456789abcdef")?;
-    let mut pool = Pool::new(alloc, 8, 16)?;
-    let mut head = pool.place(alloc, &key)?;
-    let absent = read(alloc, &head, 7)?;
-    assert_eq!(rt; absent.version, 7);
-    let changed = change(alloc, &mut head, &new, &conditions(None, None), 50);
-    assert!(rt; changed.is_ok_and(|changed| is_new(&changed)));
-    assert_eq!(rt; head.attrs(), WRITTEN.as_slice());
-    let seen = read(alloc, &head, 12)?;
-    assert!(rt; is_kept(&seen));
-    Ok(())
+/// What is tried of a head.
+#[derive(Clone, Copy, Debug)]
+enum Scene {
+    Written,
+    WrittenAgain,
+    FirstReason,
+    Etags,
 }
 
-// At an earlier moment: the stamp is above the one before, and the old manifest has a tail.
-#[test]
-fn a_head_is_written_again(rt: HostRuntime) -> Result<(), Fail> {
-    let alloc = rt.alloc();
+/// Whether it went as it is known to, in a pool of so many frames of 16 bytes, and how many are free then.
+fn played(alloc: Global, frames: u32, scene: Scene) -> Result<(bool, u32), Fail>
+    requires some { 1 ≤ frames }
+    requires few { frames ≤ 8 }
+{
+    let mut pool = Pool::new(alloc, frames, 16)?;
+    let right = play_at_key(alloc, &mut pool, scene);
+    let free = pool.free();
+    drop(pool);
+    Ok((right?, free))
+}
+
+fn play_at_key(alloc: Global, pool: &mut Pool, scene: Scene) -> Result<bool, Fail>
+    requires { pool.old.slots ≡ [] }
+{
     let key = head_key(alloc)?;
-    let new = content(alloc, b"0123456789abcdefg")?;
-    let mut pool = Pool::new(alloc, 8, 16)?;
     let mut head = pool.place(alloc, &key)?;
-    let first = change(alloc, &mut head, &new, &conditions(None, None), 50);
-    assert!(rt; first.is_ok());
-    let again = change(alloc, &mut head, &new, &conditions(None, None), 10);
-    let again = again.ok().ok_or("refused")?;
-    assert_eq!(rt; again.stamp.micros, 51);
-    assert_eq!(rt; again.old.map(|manifest| manifest.write), Some(5));
+    let right = play(alloc, &mut head, scene);
     drop(head);
-    assert_eq!(rt; pool.free(), 6);
-    Ok(())
+    drop(key);
+    right
 }
 
-// 33 bytes need 3 frames of 16, and there are 2.
-#[test]
-fn the_first_reason_is_told(rt: HostRuntime) -> Result<(), Fail> {
-    let alloc = rt.alloc();
-    let key = head_key(alloc)?;
-    let new = content(alloc, b"0123456789abcdef0123456789abcdefg")?;
+fn play(alloc: Global, head: &mut Place<'_>, scene: Scene) -> Result<bool, Fail>
+    requires { (h : Head) × IsHead (object_of head.old) h }
+{
+    match scene {
+        Scene::Written => play_written(alloc, head),
+        Scene::WrittenAgain => {
+            let new = content(alloc, b"0123456789abcdefg")?;
+            let right = is_written_again(alloc, head, &new);
+            drop(new);
+            Ok(right)
+        }
+        Scene::FirstReason => {
+            let new = content(alloc, b"0123456789abcdef0123456789abcdefg")?;
+            let right = tells_the_first_reason(alloc, head, &new);
+            drop(new);
+            Ok(right)
+        }
+        Scene::Etags => {
+            let new = content(alloc, b"dog")?;
+            let right = compares_texts(alloc, head, &new);
+            drop(new);
+            right
+        }
+    }
+}
+
+/// The version that a read of the head tells, by the event of this number.
+fn version_at(alloc: Global, head: &Place<'_>, number: u64) -> Result<u64, OutOfMemory>
+    requires { (h : Head) × IsHead (object_of head.now) h }
+{
+    let seen = read(alloc, head, number)?;
+    let version = seen.version;
+    drop(seen);
+    Ok(version)
+}
+
+fn keeps(alloc: Global, head: &Place<'_>) -> Result<bool, OutOfMemory>
+    requires { (h : Head) × IsHead (object_of head.now) h }
+{
+    let seen = read(alloc, head, 12)?;
+    let kept = is_kept(&seen);
+    drop(seen);
+    Ok(kept)
+}
+
+fn play_written(alloc: Global, head: &mut Place<'_>) -> Result<bool, Fail>
+    requires { (h : Head) × IsHead (object_of head.old) h }
+{
+    let absent = version_at(alloc, head, 7)?;
+    let new = content(alloc, b"0123456789abcdef")?;
+    let changed = plain_change(alloc, head, &new, 50);
+    drop(new);
+    let right = absent == 7
+        && changed.is_ok_and(|changed| is_new(&changed))
+        && head.attrs() == WRITTEN.as_slice();
+    Ok(right && keeps(alloc, head)?)
+}
+
+/// At an earlier moment: the stamp is above the one before, and the old manifest has a tail.
+fn is_written_again(alloc: Global, head: &mut Place<'_>, new: &NewHead) -> bool
+    requires { (h : Head) × IsHead (object_of head.old) h }
+{
+    let first = is_made(plain_change(alloc, head, new, 50));
+    let again = plain_change(alloc, head, new, 10);
+    let right = match &again {
+        Ok(changed) => {
+            changed.stamp.micros == 51 && changed.old.map(|manifest| manifest.write) == Some(5)
+        }
+        Err(_) => false,
+    };
+    drop(again);
+    first && right
+}
+
+/// 33 bytes need 3 frames of 16, and there are 2.
+fn tells_the_first_reason(alloc: Global, head: &mut Place<'_>, new: &NewHead) -> bool
+    requires { (h : Head) × IsHead (object_of head.old) h }
+{
     let any = conditions(Some(EtagRule::Any), None);
     let none = conditions(None, Some(EtagRule::Any));
-    let mut pool = Pool::new(alloc, 2, 16)?;
-    let mut head = pool.place(alloc, &key)?;
-    assert!(rt; is_expired(change(alloc, &mut head, &new, &any, 100)));
-    assert!(rt; is_not_met(change(alloc, &mut head, &new, &any, 99), None));
-    assert!(rt; is_full(change(alloc, &mut head, &new, &none, 99)));
-    assert!(rt; !head.exists());
+    let expired = is_expired(change(alloc, head, new, &any, 100));
+    let unmet = is_not_met(change(alloc, head, new, &any, 99), None);
+    let full = is_full(change(alloc, head, new, &none, 99));
+    drop(any);
+    drop(none);
+    expired && unmet && full && !head.exists()
+}
+
+fn compares_texts(alloc: Global, head: &mut Place<'_>, new: &NewHead) -> Result<bool, Fail>
+    requires { (h : Head) × IsHead (object_of head.old) h }
+{
+    let same = if_match(alloc, ETAG_TEXT)?;
+    let right = compares_cases(alloc, head, new, &same);
+    drop(same);
+    right
+}
+
+fn compares_cases(
+    alloc: Global,
+    head: &mut Place<'_>,
+    new: &NewHead,
+    same: &Conditions,
+) -> Result<bool, Fail>
+    requires { (h : Head) × IsHead (object_of head.old) h }
+{
+    let upper = if_match(alloc, "D41D8CD98F00B204E9800998ECF8427E")?;
+    let none = conditions(None, Some(EtagRule::Any));
+    let made = is_made(change(alloc, head, new, &none, 40));
+    let stamp = Stamp {
+        micros: 40,
+        zone: 2,
+    };
+    let unmet = is_not_met(change(alloc, head, new, &upper, 50), Some(stamp));
+    let again = is_made(change(alloc, head, new, same, 60));
+    drop(none);
+    drop(upper);
+    Ok(made && unmet && again)
+}
+
+#[test]
+fn a_head_is_written_and_read(rt: HostRuntime) -> Result<(), Fail> {
+    assert_eq!(rt; played(rt.alloc(), 8, Scene::Written)?, (true, 7));
+    Ok(())
+}
+
+#[test]
+fn a_head_is_written_again(rt: HostRuntime) -> Result<(), Fail> {
+    assert_eq!(rt; played(rt.alloc(), 8, Scene::WrittenAgain)?, (true, 6));
+    Ok(())
+}
+
+#[test]
+fn the_first_reason_is_told(rt: HostRuntime) -> Result<(), Fail> {
+    assert_eq!(rt; played(rt.alloc(), 2, Scene::FirstReason)?, (true, 2));
     Ok(())
 }
 
 #[test]
 fn etags_are_compared_as_texts(rt: HostRuntime) -> Result<(), Fail> {
-    let alloc = rt.alloc();
-    let key = head_key(alloc)?;
-    let new = content(alloc, b"dog")?;
-    let same = if_match(alloc, ETAG_TEXT)?;
-    let upper = if_match(alloc, "D41D8CD98F00B204E9800998ECF8427E")?;
-    let mut pool = Pool::new(alloc, 2, 16)?;
-    let mut head = pool.place(alloc, &key)?;
-    let made = change(
-        alloc,
-        &mut head,
-        &new,
-        &conditions(None, Some(EtagRule::Any)),
-        40,
-    );
-    assert!(rt; made.is_ok());
-    let stamp = Stamp {
-        micros: 40,
-        zone: 2,
-    };
-    assert!(rt; is_not_met(change(alloc, &mut head, &new, &upper, 50), Some(stamp)));
-    assert!(rt; change(alloc, &mut head, &new, &same, 60).is_ok());
+    assert_eq!(rt; played(rt.alloc(), 2, Scene::Etags)?, (true, 1));
     Ok(())
 }
 
-#[test]
-fn a_tail_is_made_and_read(rt: HostRuntime) -> Result<(), Fail> {
-    let alloc = rt.alloc();
-    let mut pool = Pool::new(alloc, 3, 16)?;
+fn is_text(answer: Result<Bytes, ClassFault>, text: &[u8]) -> bool {
+    let right = match &answer {
+        Ok(bytes) => bytes.as_slice() == text,
+        Err(_) => false,
+    };
+    drop(answer);
+    right
+}
+
+fn is_gone(answer: Result<Bytes, ClassFault>) -> bool {
+    let gone = matches!(&answer, Err(ClassFault::No(Why::Gone { clock: 70 })));
+    drop(answer);
+    gone
+}
+
+/// In a pool of three frames of 16 bytes.
+fn is_tail(alloc: Global, tail: &mut Place<'_>) -> bool {
+    let gone = is_gone(read_tail(alloc, tail, 0, 4, 70));
+    let full = make_tail(tail, &[b't'; 49]);
+    let full = matches!(full, Err(Why::NoSpace { free: 3, needed: 4 }));
+    let made = make_tail(tail, b"0123456789abcdefg").is_ok();
+    let end = is_text(read_tail(alloc, tail, 15, 10, 70), b"fg");
+    let none = is_text(read_tail(alloc, tail, 3, 0, 70), b"");
+    gone && full && made && end && none
+}
+
+fn tail_at_key(alloc: Global, pool: &mut Pool) -> Result<bool, Fail> {
     let key = Key::Tail {
         write: 3,
         part: PartNumber::new(1),
     };
     let mut tail = pool.place(alloc, &key)?;
-    let gone = read_tail(alloc, &tail, 0, 4, 70);
-    assert!(rt; matches!(gone, Err(ClassFault::No(Why::Gone { clock: 70 }))));
-    let full = make_tail(&mut tail, &[b't'; 49]);
-    assert!(rt; matches!(full, Err(Why::NoSpace { free: 3, needed: 4 })));
-    assert!(rt; make_tail(&mut tail, b"0123456789abcdefg").is_ok());
-    let end = read_tail(alloc, &tail, 15, 10, 70);
-    assert!(rt; end.is_ok_and(|bytes| bytes.as_slice() == b"fg".as_slice()));
-    let none = read_tail(alloc, &tail, 3, 0, 70);
-    assert!(rt; none.is_ok_and(|bytes| bytes.is_empty()));
-    drop(tail);
-    assert_eq!(rt; pool.free(), 1);
+    Ok(is_tail(alloc, &mut tail))
+}
+
+#[test]
+fn a_tail_is_made_and_read(rt: HostRuntime) -> Result<(), Fail> {
+    let mut pool = Pool::new(rt.alloc(), 3, 16)?;
+    let right = tail_at_key(rt.alloc(), &mut pool);
+    let free = pool.free();
+    drop(pool);
+    assert!(rt; right?);
+    assert_eq!(rt; free, 1);
     Ok(())
 }
