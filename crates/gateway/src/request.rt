@@ -85,7 +85,10 @@ fn serve_asked<D: Door, S: Source, K: Sink, C: Clock>(
     let read = !plan.is_unread();
     match asked {
         Asked::Put(put) => {
-            let asker = asker_of(user)?;
+            let Ok(asker) = asker_of(user) else {
+                drop(put);
+                return Err(ServeFault::OutOfMemory);
+            };
             let waits = plan.is_awaited();
             door.begin();
             serve_put(
@@ -94,7 +97,10 @@ fn serve_asked<D: Door, S: Source, K: Sink, C: Clock>(
             )
         }
         Asked::Get(get) => {
-            let asker = asker_of(user)?;
+            let Ok(asker) = asker_of(user) else {
+                drop(get);
+                return Err(ServeFault::OutOfMemory);
+            };
             let request = GetRequest { zone, asker, get };
             door.begin();
             serve_get(
@@ -102,7 +108,10 @@ fn serve_asked<D: Door, S: Source, K: Sink, C: Clock>(
             )
         }
         Asked::Listing(command, listing) => {
-            let asker = asker_of(user)?;
+            let Ok(asker) = asker_of(user) else {
+                drop(command);
+                return Err(ServeFault::OutOfMemory);
+            };
             let request = ListRequest {
                 zone,
                 asker,
@@ -113,7 +122,11 @@ fn serve_asked<D: Door, S: Source, K: Sink, C: Clock>(
                 alloc, request, listing, form, read, door, clock, intake, source, sink, buffer, out,
             )
         }
-        refused => serve_refused(&refused, plan, form, intake, source, sink, buffer, out),
+        refused => {
+            let served = serve_refused(&refused, plan, form, intake, source, sink, buffer, out);
+            drop(refused);
+            served
+        }
     }
 }
 

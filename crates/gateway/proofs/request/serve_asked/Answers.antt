@@ -62,18 +62,18 @@ pub serve_listing-requires-clause-shut : goal.serve_listing-requires-clause-shut
 serve_listing-requires-clause-shut g c κs within is =
     c.requires.shut (sym (ap is_unread c.requires.used) ∙ sym c.is_unread-read.ensures ∙ not_false c.is_unread-read.result is)
 
-pub serve_refused-requires-clause-quiet : goal.serve_refused-requires-clause-quiet
-serve_refused-requires-clause-quiet g c =
+pub serve_refused-served-requires-clause-quiet : goal.serve_refused-served-requires-clause-quiet
+serve_refused-served-requires-clause-quiet g c =
     let refused = is_refused c.args.asked c.in_default.not-Put c.in_default.not-Get c.in_default.not-Listing in
     let plan_by = c.requires.used ∙ ap (body_use c.args.settings.now.largest c.args.head.now) (sym c.requires.asks) in
     ap is_awaited plan_by ∙ sym (waits_so c.args.settings.now.largest c.args.head.now c.args.asked) ∙ refused_waits c.args.head.now c.args.asked refused
 
-pub serve_refused-requires-clause-shut : goal.serve_refused-requires-clause-shut
-serve_refused-requires-clause-shut g c unread =
+pub serve_refused-served-requires-clause-shut : goal.serve_refused-served-requires-clause-shut
+serve_refused-served-requires-clause-shut g c unread =
     c.requires.shut (sym (ap is_unread c.requires.used) ∙ unread)
 
-pub returns-in_ok-asker-in-Put-clause-served : goal.returns-in_ok-asker-in-Put-clause-served
-returns-in_ok-asker-in-Put-clause-served g c =
+pub returns-in-Ok-clause-served : goal.returns-in-Ok-clause-served
+returns-in-Ok-clause-served g c =
     let asks_so = asks.Put c.in-Put.put in
     let e : asked_of c.args.settings.now.largest c.args.head.now ≡ asks_so = sym c.requires.asks ∙ c.in-Put.is in
     let waiting = waits_so c.args.settings.now.largest c.args.head.now asks_so ∙ ap (λ (a : Asked). is_awaited (body_use c.args.settings.now.largest c.args.head.now a)) (sym e) in
@@ -82,10 +82,10 @@ returns-in_ok-asker-in-Put-clause-served g c =
     (put_served_if g.D.Door.tells g.D.Door.alone (site_of c.args.settings.now c.args.zone) c.args.form c.in-Put.put _ (g.D.Door.told c.begin.new.self) _ c.requires.may c.begin.ensures.begins
     c.args.head.now c.requires.behind.failed (use_of c.args.settings.now.largest c.args.head.now) c.is_awaited-waits.result (put_use c.args.settings.now.largest c.args.head.now c.in-Put.put e) waiting
     (c.is_awaited-waits.ensures ∙ ap is_awaited c.requires.used)
-    _ c.serve_put.result (site_is (g.D.Door.settings c.begin.new.self) c.args.settings.now c.args.zone c.in_ok-asker-in-Put.asker (c.begin.ensures.settings ∙ c.requires.site.same) c.in_ok-asker-in-Put.ensures) c.serve_put.ensures.served)
+    _ c.serve_put.result (site_is (g.D.Door.settings c.begin.new.self) c.args.settings.now c.args.zone c.in-Ok.asker (c.begin.ensures.settings ∙ c.requires.site.same) c.in-Ok.ensures) c.serve_put.ensures.served)
 
-pub returns-in_ok-asker-in-Put-clause-left : goal.returns-in_ok-asker-in-Put-clause-left
-returns-in_ok-asker-in-Put-clause-left g c =
+pub returns-in-Ok-clause-left : goal.returns-in-Ok-clause-left
+returns-in-Ok-clause-left g c =
     let asks_so = asks.Put c.in-Put.put in
     let e : asked_of c.args.settings.now.largest c.args.head.now ≡ asks_so = sym c.requires.asks ∙ c.in-Put.is in
     let waiting = waits_so c.args.settings.now.largest c.args.head.now asks_so ∙ ap (λ (a : Asked). is_awaited (body_use c.args.settings.now.largest c.args.head.now a)) (sym e) in
@@ -94,10 +94,10 @@ returns-in_ok-asker-in-Put-clause-left g c =
     (put_stopped_if g.D.Door.tells g.D.Door.alone (site_of c.args.settings.now c.args.zone) c.args.form c.in-Put.put _ (g.D.Door.told c.begin.new.self) _ c.requires.may c.begin.ensures.begins
     c.args.head.now c.requires.behind.failed (use_of c.args.settings.now.largest c.args.head.now) c.is_awaited-waits.result (put_use c.args.settings.now.largest c.args.head.now c.in-Put.put e) waiting
     (c.is_awaited-waits.ensures ∙ ap is_awaited c.requires.used)
-    _ (g.D.Door.found c.serve_put.new.door) c.serve_put.result (site_is (g.D.Door.settings c.begin.new.self) c.args.settings.now c.args.zone c.in_ok-asker-in-Put.asker (c.begin.ensures.settings ∙ c.requires.site.same) c.in_ok-asker-in-Put.ensures) c.serve_put.ensures.stopped)
+    _ (g.D.Door.found c.serve_put.new.door) c.serve_put.result (site_is (g.D.Door.settings c.begin.new.self) c.args.settings.now c.args.zone c.in-Ok.asker (c.begin.ensures.settings ∙ c.requires.site.same) c.in-Ok.ensures) c.serve_put.ensures.stopped)
 
-pub returns-in_ok-asker-in-Get-clause-served : goal.returns-in_ok-asker-in-Get-clause-served
-returns-in_ok-asker-in-Get-clause-served g c =
+pub returns-in-Ok-asker_of-clause-served : goal.returns-in-Ok-asker_of-clause-served
+returns-in-Ok-asker_of-clause-served g c =
     let asks_so = asks.Get c.in-Get.get in
     let e : asked_of c.args.settings.now.largest c.args.head.now ≡ asks_so = sym c.requires.asks ∙ c.in-Get.is in
     let quiet = sym (waits_so c.args.settings.now.largest c.args.head.now asks_so ∙ ap (λ (a : Asked). is_awaited (body_use c.args.settings.now.largest c.args.head.now a)) (sym e)) in
@@ -105,10 +105,10 @@ returns-in_ok-asker-in-Get-clause-served g c =
     (use_of c.args.settings.now.largest c.args.head.now) c.in-Get.is c.serve_get.result
     (unwanted_served g.D.Door.tells g.D.Door.alone (site_of c.args.settings.now c.args.zone) c.args.form asks_so _ (g.D.Door.told c.begin-in-Get.new.self) _ c.requires.may c.begin-in-Get.ensures.begins
     c.args.head.now (use_of c.args.settings.now.largest c.args.head.now) refl quiet _ (ap (λ b. dropped_if (not b)) (c.is_unread-read.ensures ∙ ap is_unread c.requires.used) ∙ get_use c.args.settings.now.largest c.args.head.now c.in-Get.get e)
-    refl (λ shut. c.requires.shut shut) _ c.serve_get.result (site_is (g.D.Door.settings c.begin-in-Get.new.self) c.args.settings.now c.args.zone c.in_ok-asker-in-Get.asker (c.begin-in-Get.ensures.settings ∙ c.requires.site.same) c.in_ok-asker-in-Get.ensures) c.serve_get.ensures.served)
+    refl (λ shut. c.requires.shut shut) _ c.serve_get.result (site_is (g.D.Door.settings c.begin-in-Get.new.self) c.args.settings.now c.args.zone c.in-Ok-asker_of.asker (c.begin-in-Get.ensures.settings ∙ c.requires.site.same) c.in-Ok-asker_of.ensures) c.serve_get.ensures.served)
 
-pub returns-in_ok-asker-in-Get-clause-left : goal.returns-in_ok-asker-in-Get-clause-left
-returns-in_ok-asker-in-Get-clause-left g c =
+pub returns-in-Ok-asker_of-clause-left : goal.returns-in-Ok-asker_of-clause-left
+returns-in-Ok-asker_of-clause-left g c =
     let asks_so = asks.Get c.in-Get.get in
     let e : asked_of c.args.settings.now.largest c.args.head.now ≡ asks_so = sym c.requires.asks ∙ c.in-Get.is in
     let quiet = sym (waits_so c.args.settings.now.largest c.args.head.now asks_so ∙ ap (λ (a : Asked). is_awaited (body_use c.args.settings.now.largest c.args.head.now a)) (sym e)) in
@@ -116,10 +116,10 @@ returns-in_ok-asker-in-Get-clause-left g c =
     (use_of c.args.settings.now.largest c.args.head.now) c.in-Get.is (g.D.Door.found c.serve_get.new.door) c.serve_get.result
     (unwanted_stopped g.D.Door.tells g.D.Door.alone (site_of c.args.settings.now c.args.zone) c.args.form asks_so _ (g.D.Door.told c.begin-in-Get.new.self) _ c.requires.may c.begin-in-Get.ensures.begins
     c.args.head.now (use_of c.args.settings.now.largest c.args.head.now) refl quiet _ (ap (λ b. dropped_if (not b)) (c.is_unread-read.ensures ∙ ap is_unread c.requires.used) ∙ get_use c.args.settings.now.largest c.args.head.now c.in-Get.get e)
-    (g.D.Door.found c.serve_get.new.door) (λ fault x. (g.D.Door.told c.begin-in-Get.new.self, c.begin-in-Get.ensures.begins, x)) _ c.serve_get.result (site_is (g.D.Door.settings c.begin-in-Get.new.self) c.args.settings.now c.args.zone c.in_ok-asker-in-Get.asker (c.begin-in-Get.ensures.settings ∙ c.requires.site.same) c.in_ok-asker-in-Get.ensures) c.serve_get.ensures.stopped)
+    (g.D.Door.found c.serve_get.new.door) (λ fault x. (g.D.Door.told c.begin-in-Get.new.self, c.begin-in-Get.ensures.begins, x)) _ c.serve_get.result (site_is (g.D.Door.settings c.begin-in-Get.new.self) c.args.settings.now c.args.zone c.in-Ok-asker_of.asker (c.begin-in-Get.ensures.settings ∙ c.requires.site.same) c.in-Ok-asker_of.ensures) c.serve_get.ensures.stopped)
 
-pub returns-in_ok-asker-in-Listing-clause-served : goal.returns-in_ok-asker-in-Listing-clause-served
-returns-in_ok-asker-in-Listing-clause-served g c =
+pub returns-in-Ok-asker_of-2-clause-served : goal.returns-in-Ok-asker_of-2-clause-served
+returns-in-Ok-asker_of-2-clause-served g c =
     let asks_so = asks.Listing c.in-Listing.command c.in-Listing.listing in
     let e : asked_of c.args.settings.now.largest c.args.head.now ≡ asks_so = sym c.requires.asks ∙ c.in-Listing.is in
     let quiet = sym (waits_so c.args.settings.now.largest c.args.head.now asks_so ∙ ap (λ (a : Asked). is_awaited (body_use c.args.settings.now.largest c.args.head.now a)) (sym e)) in
@@ -127,10 +127,10 @@ returns-in_ok-asker-in-Listing-clause-served g c =
     (use_of c.args.settings.now.largest c.args.head.now) c.in-Listing.is c.serve_listing.result
     (unwanted_served g.D.Door.tells g.D.Door.alone (site_of c.args.settings.now c.args.zone) c.args.form asks_so _ (g.D.Door.told c.begin-in-Listing.new.self) _ c.requires.may c.begin-in-Listing.ensures.begins
     c.args.head.now (use_of c.args.settings.now.largest c.args.head.now) refl quiet _ (ap (λ b. dropped_if (not b)) (c.is_unread-read.ensures ∙ ap is_unread c.requires.used) ∙ list_use c.args.settings.now.largest c.args.head.now c.in-Listing.command c.in-Listing.listing e)
-    refl (λ shut. c.requires.shut shut) _ c.serve_listing.result (site_is (g.D.Door.settings c.begin-in-Listing.new.self) c.args.settings.now c.args.zone c.in_ok-asker-in-Listing.asker (c.begin-in-Listing.ensures.settings ∙ c.requires.site.same) c.in_ok-asker-in-Listing.ensures) c.serve_listing.ensures.served)
+    refl (λ shut. c.requires.shut shut) _ c.serve_listing.result (site_is (g.D.Door.settings c.begin-in-Listing.new.self) c.args.settings.now c.args.zone c.in-Ok-asker_of-2.asker (c.begin-in-Listing.ensures.settings ∙ c.requires.site.same) c.in-Ok-asker_of-2.ensures) c.serve_listing.ensures.served)
 
-pub returns-in_ok-asker-in-Listing-clause-left : goal.returns-in_ok-asker-in-Listing-clause-left
-returns-in_ok-asker-in-Listing-clause-left g c =
+pub returns-in-Ok-asker_of-2-clause-left : goal.returns-in-Ok-asker_of-2-clause-left
+returns-in-Ok-asker_of-2-clause-left g c =
     let asks_so = asks.Listing c.in-Listing.command c.in-Listing.listing in
     let e : asked_of c.args.settings.now.largest c.args.head.now ≡ asks_so = sym c.requires.asks ∙ c.in-Listing.is in
     let quiet = sym (waits_so c.args.settings.now.largest c.args.head.now asks_so ∙ ap (λ (a : Asked). is_awaited (body_use c.args.settings.now.largest c.args.head.now a)) (sym e)) in
@@ -138,7 +138,7 @@ returns-in_ok-asker-in-Listing-clause-left g c =
     (use_of c.args.settings.now.largest c.args.head.now) c.in-Listing.is (g.D.Door.found c.serve_listing.new.door) c.serve_listing.result
     (unwanted_stopped g.D.Door.tells g.D.Door.alone (site_of c.args.settings.now c.args.zone) c.args.form asks_so _ (g.D.Door.told c.begin-in-Listing.new.self) _ c.requires.may c.begin-in-Listing.ensures.begins
     c.args.head.now (use_of c.args.settings.now.largest c.args.head.now) refl quiet _ (ap (λ b. dropped_if (not b)) (c.is_unread-read.ensures ∙ ap is_unread c.requires.used) ∙ list_use c.args.settings.now.largest c.args.head.now c.in-Listing.command c.in-Listing.listing e)
-    (g.D.Door.found c.serve_listing.new.door) (λ fault x. (g.D.Door.told c.begin-in-Listing.new.self, c.begin-in-Listing.ensures.begins, x)) _ c.serve_listing.result (site_is (g.D.Door.settings c.begin-in-Listing.new.self) c.args.settings.now c.args.zone c.in_ok-asker-in-Listing.asker (c.begin-in-Listing.ensures.settings ∙ c.requires.site.same) c.in_ok-asker-in-Listing.ensures) c.serve_listing.ensures.stopped)
+    (g.D.Door.found c.serve_listing.new.door) (λ fault x. (g.D.Door.told c.begin-in-Listing.new.self, c.begin-in-Listing.ensures.begins, x)) _ c.serve_listing.result (site_is (g.D.Door.settings c.begin-in-Listing.new.self) c.args.settings.now c.args.zone c.in-Ok-asker_of-2.asker (c.begin-in-Listing.ensures.settings ∙ c.requires.site.same) c.in-Ok-asker_of-2.ensures) c.serve_listing.ensures.stopped)
 
 pub returns-in_default-clause-served : goal.returns-in_default-clause-served
 returns-in_default-clause-served g c =
@@ -146,7 +146,7 @@ returns-in_default-clause-served g c =
     let plan_by = c.requires.used ∙ ap (body_use c.args.settings.now.largest c.args.head.now) (sym c.requires.asks) in
     refused_served g.D.Door.tells g.D.Door.alone (site_of c.args.settings.now c.args.zone) c.args.head.now c.args.asked refused c.args.settings.now.largest c.args.plan plan_by c.args.form
     (λ unread. c.requires.shut (sym (ap is_unread c.requires.used) ∙ unread))
-    (g.D.Door.told c.args.door.now) c.args.intake.now c.serve_refused.new.intake _ _ c.requires.may refl c.args.asked (use_of c.args.settings.now.largest c.args.head.now) c.serve_refused.result refl c.requires.used c.serve_refused.ensures.served
+    (g.D.Door.told c.args.door.now) c.args.intake.now c.serve_refused-served.new.intake _ _ c.requires.may refl c.args.asked (use_of c.args.settings.now.largest c.args.head.now) c.serve_refused-served.result refl c.requires.used c.serve_refused-served.ensures.served
 
 pub returns-in_default-clause-left : goal.returns-in_default-clause-left
 returns-in_default-clause-left g c =
@@ -154,4 +154,4 @@ returns-in_default-clause-left g c =
     let plan_by = c.requires.used ∙ ap (body_use c.args.settings.now.largest c.args.head.now) (sym c.requires.asks) in
     refused_left g.D.Door.tells g.D.Door.alone (site_of c.args.settings.now c.args.zone) c.args.head.now c.args.asked refused c.args.settings.now.largest c.args.plan plan_by c.args.form
     (λ unread. c.requires.shut (sym (ap is_unread c.requires.used) ∙ unread))
-    (g.D.Door.told c.args.door.now) c.args.intake.now c.serve_refused.new.intake _ _ c.requires.may refl (g.D.Door.found c.args.door.now) c.args.asked (use_of c.args.settings.now.largest c.args.head.now) c.serve_refused.result refl c.requires.used c.serve_refused.ensures.left
+    (g.D.Door.told c.args.door.now) c.args.intake.now c.serve_refused-served.new.intake _ _ c.requires.may refl (g.D.Door.found c.args.door.now) c.args.asked (use_of c.args.settings.now.largest c.args.head.now) c.serve_refused-served.result refl c.requires.used c.serve_refused-served.ensures.left
