@@ -1,6 +1,6 @@
 -- What serving one request on an object comes to: its reply, the events that it rests on, the moments that were told for
 -- them, and what a fault leaves.
-use Rattle.std.specs.Prelude.{◌≡◌, ◌≢◌, ◌⊎◌, ℕ, ◌^◌, Bool, true, false, List, [], ◌∷◌, ◌++◌, length, Option, Result, Err}
+use Rattle.std.specs.Prelude.{◌≡◌, ◌≢◌, ◌⊎◌, ℕ, ◌^◌, ◌<◌, ◌≤◌, Bool, true, false, List, [], ◌∷◌, ◌++◌, length, Option, None, Result, Err}
 use Rattle.std.specs.Io.KnownBytes.{Appends}
 use Rattle.gw_io.specs.Ends.{EndsState}
 use Rattle.gw_io.specs.Outside.{Rose}
@@ -60,6 +60,17 @@ pub record IsNew (settings : SettingsView) (d : DoorView) : Type 0 where
   pub account : account_of settings d.seen (actor_at d) ≡ blank
   pub phase : phase_of settings d.seen (actor_at d) ≡ fresh
   pub events : own_events d.seen (actor_at d) ≡ []
+
+-- ---- before
+
+-- a request may be served: its zone is one of the realm's, its head was read without a fault, the present actor made no event,
+-- and the buffer for pieces of its body has room
+pub record MayServe (tells : Type 0) (settings : SettingsView) (zone : ℕ) (d : DoorView) (intake : IntakeState) (buffer : ℕ) : Type 0 where
+  pub room : 0 < buffer
+  pub low : 1 ≤ zone
+  pub high : zone ≤ settings.zones
+  pub failed : intake.failed ≡ None
+  pub new : tells → IsNew settings d
 
 -- ---- moments
 
@@ -205,3 +216,23 @@ pub record HasServeCause {T : Type 0} (old new : EndsState) (result : Result T S
   pub read_kept : result ≢ Err faults.ReadFault → new.read_faults ≡ old.read_faults
   pub write_rose : result ≡ Err faults.WriteFault → Rose old.write_faults new.write_faults
   pub write_kept : result ≢ Err faults.WriteFault → new.write_faults ≡ old.write_faults
+
+-- ---- what stays
+
+-- what stands around a call that serves a request: the ends of the connection, the door's settings and home, and how long
+-- the buffer for pieces of the body is
+pub record Around : Type 0 where
+  pub ends : EndsState
+  pub settings : SettingsView
+  pub home : ℕ
+  pub buffer : ℕ
+
+abbrev pub around : EndsState → SettingsView → ℕ → ℕ → Around
+around ends settings home buffer = record { ends = ends; settings = settings; home = home; buffer = buffer }
+
+-- each count of faults rose where its call failed, and all else stays
+pub record StaysAround {T : Type 0} (old new : Around) (result : Result T ServeFault) : Type 0 where
+  pub cause : HasServeCause old.ends new.ends result
+  pub settings : new.settings ≡ old.settings
+  pub home : new.home ≡ old.home
+  pub kept : new.buffer ≡ old.buffer

@@ -1,7 +1,8 @@
 -- Actors of a pass, one after another.
-use Rattle.std.proofs.Common.{◌≡◌, ◌≢◌, ◌⊎◌, inl, inr, ℕ, ◌+◌, ◌<◌, ◌≤◌, Bool, true, false, cond, List, [], ◌∷◌, ◌++◌, map, filter, length, refl, sym, ap, ◌∙◌, subst, append_assoc, arith}
+use Rattle.std.proofs.Common.{◌≡◌, ◌≢◌, ◌⊎◌, inl, inr, None, ℕ, ◌+◌, ◌<◌, ◌≤◌, Bool, true, false, cond, List, [], ◌∷◌, ◌++◌, map, filter, length, refl, sym, ap, ◌∙◌, subst, append_assoc, arith}
 use Rattle.std.specs.Prelude.{if◌then◌else◌}
 use Rattle.std.proofs.lemmas.List.{append-nil, append_cancel_left}
+use Rattle.http_intake.specs.Intake.{IntakeState}
 use Rattle.realm_model.specs.Settings.{SettingsView}
 use Rattle.realm_model.specs.States.{clock_at}
 use Rattle.realm_model.specs.Phases.{ActorId}
@@ -14,9 +15,10 @@ use Rattle.realm_model.proofs.Others.{phase-others, account-others}
 use Rattle.realm_door.specs.Steps.{actor_of_pass, next_count, begun, IsUnused, IsSame, Grows}
 use Rattle.realm_door.proofs.Others.{own-append, same_both}
 use Rattle.realm_door.proofs.Steps.{counted_begun, counted_grown}
-use Rattle.call_service.specs.Serving.{IsNew}
+use Rattle.swift_auth.specs.Users.{UserView}
+use Rattle.call_service.specs.Serving.{IsNew, MayServe}
 use Rattle.door_moments.specs.Acts.{own_moments}
-use Rattle.gateway.specs.Calls.{MayBegin, Advances}
+use Rattle.gateway.specs.Calls.{MayBegin, MayGoOn, Advances}
 
 -- ---- an actor without events
 
@@ -158,3 +160,16 @@ module _ (settings : SettingsView) where
       let actor = actor_of_pass d.pass count in
       let same : own_events (d.seen ++ x.more) actor ≡ own_events d.seen actor = subst (λ l. own_events l actor ≡ own_events d.seen actor) x.grows (x.older count low).events in
       ap (λ l. own_moments l actor) x.grows ∙ same_moments actor d.seen x.more same
+
+-- ---- a request of the next actor
+
+-- it may be served over a door that has the realm's settings
+pub may_serve : (tells : Type 0) (settings of_door now : SettingsView) (zone : ℕ) (d e : DoorView) (user : UserView) (intake : IntakeState) (buffer : ℕ)
+    → MayGoOn tells settings of_door zone user d buffer → intake.failed ≡ None → (tells → e ≡ begun d) → now ≡ settings → MayServe tells now zone e intake buffer
+may_serve tells settings of_door now zone d e user intake buffer goes whole begins same = record {
+  room = goes.room;
+  low = goes.site.low;
+  high = subst (λ (s : SettingsView). zone ≤ s.zones) (sym same) goes.site.high;
+  failed = whole;
+  new = λ told. subst (λ (s : SettingsView). IsNew s e) (sym same) (subst (IsNew settings) (sym (begins told)) (new_actor settings d (goes.may told)));
+}

@@ -36,6 +36,12 @@ pub record MayBegin (settings : SettingsView) (d : DoorView) : Type 0 where
   pub counted : IsCounted d
   pub unused : IsUnused d
 
+-- a connection may go on: it stands at its site, the buffer for pieces of bodies has room, and the next actor can begin
+pub record MayGoOn (tells : Type 0) (settings of_door : SettingsView) (zone : ℕ) (user : UserView) (d : DoorView) (buffer : ℕ) : Type 0 where
+  pub site : IsSite settings of_door zone user
+  pub room : 0 < buffer
+  pub may : tells → MayBegin settings d
+
 -- The pass went on, by no actor or by some: the history grew, the actors that were before did no more, and the next one can
 -- begin.
 pub record Advances (settings : SettingsView) (d e : DoorView) : Type 0 where

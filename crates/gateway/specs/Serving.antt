@@ -10,6 +10,7 @@ use Rattle.http_model.specs.declared.reply.BadRequest.{BadRequest}
 use Rattle.http_model.specs.Heads.{BeginsWith}
 use Rattle.http_model.specs.Replies.{bad_request_text}
 use Rattle.http_model.specs.Streams.{BreaksGrammar}
+use Rattle.realm_model.specs.Settings.{SettingsView}
 use Rattle.realm_model.specs.Doors.{DoorView}
 use Rattle.realm_model.specs.declared.event.Event.{Event}
 use Rattle.realm_door.specs.Steps.{next_count, actor_of_pass}
@@ -172,3 +173,8 @@ pub record ServesConnection (tells alone : Type 0) (site : Site) (found : List E
   pub served : IfOk result (IsServed tells alone site d e old new)
   pub left : (fault : ServeFault) → result ≡ Err fault → IsLeft tells alone site found d e old new fault
   pub cause : HasServeCause old new result
+
+-- the door's settings and home stay
+pub record KeepsDoor (before now : SettingsView) (was is : ℕ) : Type 0 where
+  pub settings : now ≡ before
+  pub home : is ≡ was

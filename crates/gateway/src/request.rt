@@ -4,8 +4,8 @@ ghost use Rattle.swift_requests.specs.Asks.{asked_of};
 ghost use Rattle.swift_requests.specs.Bodies.{is_unread};
 ghost use Rattle.call_words.specs.Streams.{use_of};
 ghost use Rattle.http_model.specs.Forms.{is_bodiless};
-ghost use Rattle.call_service.specs.Serving.{Side, HasServeCause, side};
-ghost use Rattle.gateway.specs.Calls.{MayBegin, IsSite, site_of};
+ghost use Rattle.call_service.specs.Serving.{Side, StaysAround, around, side};
+ghost use Rattle.gateway.specs.Calls.{MayGoOn, site_of};
 ghost use Rattle.gateway.specs.Requests.{IsBehindHead, Serves, Stops};
 ghost use Rattle.gateway.specs.Serving.{ReadsHead};
 ghost use Rattle.call_words.specs.Calls.{Ground};
@@ -60,27 +60,22 @@ fn serve_asked<D: Door, S: Source, K: Sink, C: Clock>(
     buffer: &mut [u8],
     out: &mut Vec<u8>,
 ) -> Result<Served, ServeFault>
-    requires room { 0 < length buffer.old }
-    requires site { IsSite settings.now (D.settings door.old) zone user.now }
+    requires goes { MayGoOn D.tells settings.now (D.settings door.old) zone user.now (D.told door.old) (length buffer.old) }
     requires behind { IsBehindHead settings.now.largest intake.old head.now }
     requires most { settings.now.largest ≤ 5368709120 }
     requires asks { asked ≡ asked_of settings.now.largest head.now }
     requires used { plan ≡ use_of settings.now.largest head.now }
     requires form { form.bodiless ≡ is_bodiless head.now.method }
     requires shut { is_unread (use_of settings.now.largest head.now) ≡ true → form.close ≡ true }
-    requires may { D.tells → MayBegin settings.now (D.told door.old) }
     ensures served { IfOk result (Serves D.tells D.alone (site_of settings.now zone) head.now asked (use_of settings.now.largest head.now) form
         (side (D.told door.old) intake.old (⟦<(S, K, C) as Ends>⟧.ends (source.old, sink.old, clock.old)))
         (side (D.told door.new) intake.new (⟦<(S, K, C) as Ends>⟧.ends (source.new, sink.new, clock.new)))) }
     ensures left { IfErr result (Stops D.tells D.alone (site_of settings.now zone) form asked (use_of settings.now.largest head.now) (D.found door.new)
         (side (D.told door.old) intake.old (⟦<(S, K, C) as Ends>⟧.ends (source.old, sink.old, clock.old)))
         (side (D.told door.new) intake.new (⟦<(S, K, C) as Ends>⟧.ends (source.new, sink.new, clock.new)))) }
-    ensures cause { HasServeCause
-        (⟦<(S, K, C) as Ends>⟧.ends (source.old, sink.old, clock.old))
-        (⟦<(S, K, C) as Ends>⟧.ends (source.new, sink.new, clock.new)) result }
-    ensures settings { D.settings door.new ≡ D.settings door.old }
-    ensures home { D.home door.new ≡ D.home door.old }
-    ensures kept { length buffer.new ≡ length buffer.old }
+    ensures around { StaysAround
+        (around (⟦<(S, K, C) as Ends>⟧.ends (source.old, sink.old, clock.old)) (D.settings door.old) (D.home door.old) (length buffer.old))
+        (around (⟦<(S, K, C) as Ends>⟧.ends (source.new, sink.new, clock.new)) (D.settings door.new) (D.home door.new) (length buffer.new)) result }
 {
     let read = !plan.is_unread();
     match asked {
@@ -146,10 +141,8 @@ pub(crate) fn serve_request<D: Door, S: Source, K: Sink, C: Clock>(
     buffer: &mut [u8],
     out: &mut Vec<u8>,
 ) -> Result<Turn, ServeFault>
-    requires room { 0 < length buffer.old }
-    requires site { IsSite settings.now (D.settings door.old) zone user.now }
+    requires goes { MayGoOn D.tells settings.now (D.settings door.old) zone user.now (D.told door.old) (length buffer.old) }
     requires behind { IsBehindHead settings.now.largest intake.old head.now }
-    requires may { D.tells → MayBegin settings.now (D.told door.old) }
 
     // Whatever was read before the head: with it, this is a turn.
     ensures turn { (x : Side)
@@ -157,12 +150,9 @@ pub(crate) fn serve_request<D: Door, S: Source, K: Sink, C: Clock>(
         → ComesTo D.tells D.alone (site_of settings.now zone) k (D.found door.new) x
         (side (D.told door.new) intake.new (⟦<(S, K, C) as Ends>⟧.ends (source.new, sink.new, clock.new))) result }
     ensures few { IfOk result WritesFew }
-    ensures cause { HasServeCause
-        (⟦<(S, K, C) as Ends>⟧.ends (source.old, sink.old, clock.old))
-        (⟦<(S, K, C) as Ends>⟧.ends (source.new, sink.new, clock.new)) result }
-    ensures settings { D.settings door.new ≡ D.settings door.old }
-    ensures home { D.home door.new ≡ D.home door.old }
-    ensures kept { length buffer.new ≡ length buffer.old }
+    ensures around { StaysAround
+        (around (⟦<(S, K, C) as Ends>⟧.ends (source.old, sink.old, clock.old)) (D.settings door.old) (D.home door.old) (length buffer.old))
+        (around (⟦<(S, K, C) as Ends>⟧.ends (source.new, sink.new, clock.new)) (D.settings door.new) (D.home door.new) (length buffer.new)) result }
 {
     let asked = match read_asked(alloc, settings.largest, head) {
         Ok(asked) => asked,

@@ -1,7 +1,7 @@
 ghost use Rattle.std.specs.Prelude.{◌≡◌, ◌≤◌, ◌<◌, length};
 ghost use Rattle.http_intake.specs.Intake.{fresh};
-ghost use Rattle.gateway.specs.Calls.{MayBegin, IsSite, site_of};
-ghost use Rattle.gateway.specs.Serving.{ServesConnection};
+ghost use Rattle.gateway.specs.Calls.{MayBegin, MayGoOn, site_of};
+ghost use Rattle.gateway.specs.Serving.{KeepsDoor, ServesConnection};
 
 use crate::ServeFault;
 use crate::asker::standard_user;
@@ -99,16 +99,13 @@ fn serve_requests<D: Door, S: Source, K: Sink, C: Clock>(
     sink: &mut K,
     buffer: &mut [u8],
 ) -> Result<Served, ServeFault>
-    requires room { 0 < length buffer.old }
-    requires site { IsSite settings.now (D.settings door.old) zone user.now }
+    requires goes { MayGoOn D.tells settings.now (D.settings door.old) zone user.now (D.told door.old) (length buffer.old) }
     requires unread { intake.old ≡ fresh settings.now.largest }
-    requires may { D.tells → MayBegin settings.now (D.told door.old) }
     ensures served { ServesConnection D.tells D.alone (site_of settings.now zone) (D.found door.new)
         (D.told door.old) (D.told door.new)
         (⟦<(S, K, C) as Ends>⟧.ends (source.old, sink.old, clock.old))
         (⟦<(S, K, C) as Ends>⟧.ends (source.new, sink.new, clock.new)) result }
-    ensures settings { D.settings door.new ≡ D.settings door.old }
-    ensures home { D.home door.new ≡ D.home door.old }
+    ensures keeps { KeepsDoor (D.settings door.old) (D.settings door.new) (D.home door.old) (D.home door.new) }
 {
     let mut out = Vec::new(alloc);
     let mut done: u64 = 0;

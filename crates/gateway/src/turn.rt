@@ -5,7 +5,7 @@ ghost use Rattle.std.specs.Io.KnownBytes.{Appends};
 ghost use Rattle.http_model.specs.Replies.{bad_request_text};
 ghost use Rattle.gateway.specs.declared.serve.ConnEnd.TheVariants as ends;
 ghost use Rattle.gateway.specs.Texts.{closing};
-ghost use Rattle.gateway.specs.Calls.{MayBegin, IsSite, site_of};
+ghost use Rattle.gateway.specs.Calls.{MayGoOn, site_of};
 ghost use Rattle.gateway.specs.Requests.{IsReady};
 ghost use Rattle.gateway.specs.Turns.{TakesTurn, EndsHeads, EndsSo, LeavesSo};
 
@@ -82,10 +82,8 @@ pub(crate) fn take_turn<D: Door, S: Source, K: Sink, C: Clock>(
     buffer: &mut [u8],
     out: &mut Vec<u8>,
 ) -> Result<Turn, ServeFault>
-    requires room { 0 < length buffer.old }
-    requires site { IsSite settings.now (D.settings door.old) zone user.now }
+    requires goes { MayGoOn D.tells settings.now (D.settings door.old) zone user.now (D.told door.old) (length buffer.old) }
     requires ready { IsReady settings.now.largest intake.old }
-    requires may { D.tells → MayBegin settings.now (D.told door.old) }
     ensures turn { TakesTurn D.tells D.alone (site_of settings.now zone) k (D.found door.new)
         (side (D.told door.old) intake.old (⟦<(S, K, C) as Ends>⟧.ends (source.old, sink.old, clock.old)))
         (side (D.told door.new) intake.new (⟦<(S, K, C) as Ends>⟧.ends (source.new, sink.new, clock.new))) result }

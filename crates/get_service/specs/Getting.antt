@@ -1,8 +1,9 @@
 -- Serving a GET or a HEAD: where the task stands, and what is written by then.
-use Rattle.std.specs.Prelude.{◌≡◌, ℕ, Bool, true, false, List, [], ◌∷◌, Option, Some}
+use Rattle.std.specs.Prelude.{◌≡◌, ℕ, ◌<◌, Bool, true, false, List, [], ◌∷◌, Option, Some, None}
 use Rattle.std.specs.Io.KnownBytes.{Appends}
 use Rattle.http_chunks.specs.declared.body.BodyEnd.{BodyEnd}
 use Rattle.http_model.specs.declared.reply.ReplyForm.{ReplyForm}
+use Rattle.http_intake.specs.Intake.{IntakeState}
 use Rattle.realm_model.specs.Settings.{SettingsView}
 use Rattle.realm_model.specs.Doors.{DoorView}
 use Rattle.realm_model.specs.Histories.{Legal}
@@ -18,16 +19,16 @@ use Rattle.task_words.specs.Answers.{span_of}
 use Rattle.task_words.specs.Outcomes.{IsShown}
 use Rattle.task_get.specs.declared.request.GetRequest.{GetRequest}
 use Rattle.task_get.specs.declared.stage.Stage.{Stage}
-use Rattle.task_get.specs.declared.stage.Stage.TheVariants.{Ended}
+use Rattle.task_get.specs.declared.stage.Stage.TheVariants.{Look, Ended}
 use Rattle.task_get.specs.declared.task.GetTask.{GetTask}
 use Rattle.task_get.specs.Pieces.{brought}
-use Rattle.task_get.specs.Tasks.{events_at, request_of, shown_of, Fits}
+use Rattle.task_get.specs.Tasks.{events_at, request_of, stage_of, fault_of, shown_of, Fits}
 use Rattle.call_words.specs.Bodies.{broken_off}
 use Rattle.call_words.specs.Texts.{told_reply, text_if}
 use Rattle.call_service.specs.declared.fault.ServeFault.{ServeFault}
 use Rattle.call_service.specs.declared.served.Served.{Served}
 use Rattle.call_service.specs.declared.served.Served.TheVariants.{Closed, Refused}
-use Rattle.call_service.specs.Serving.{Site, form_at, LeavesText}
+use Rattle.call_service.specs.Serving.{Site, IsNew, form_at, LeavesText}
 use Rattle.call_service.specs.Replying as any
 use Rattle.get_service.specs.Texts.{text_up_to}
 
@@ -36,6 +37,16 @@ use Rattle.get_service.specs.Texts.{text_up_to}
 -- the task stands where the events of the door's actor bring it
 abbrev pub IsUpTo : Type 0 → SettingsView → GetTask → DoorView → Type 0
 IsUpTo tells settings t d = tells → Legal settings d.seen × Fits t settings d
+
+-- a new task may be served: it stands before its first event, and as `MayServe` has it
+pub record IsReady (tells : Type 0) (settings : SettingsView) (t : GetTask) (span : Option Span) (d : DoorView) (intake : IntakeState) (buffer : ℕ) : Type 0 where
+  pub room : 0 < buffer
+  pub looks : stage_of t ≡ Look
+  pub sound : fault_of t ≡ None
+  pub fits : tells → Fits t settings d
+  pub span_is : span ≡ span_of (request_of t).get
+  pub failed : intake.failed ≡ None
+  pub new : tells → IsNew settings d
 
 -- what the actor's own events brought of the bytes that are wanted
 abbrev pub brought_at : GetRequest → DoorView → List ℕ

@@ -8,11 +8,11 @@ ghost use Rattle.task_words.specs.Answers.{span_of};
 ghost use Rattle.call_words.specs.Bodies.{IsWrong};
 ghost use Rattle.task_get.specs.Stages.{IsOpen, IsOver, IsBehindRow};
 ghost use Rattle.task_get.specs.declared.stage.Stage.TheVariants.{Look};
-ghost use Rattle.task_get.specs.Tasks.{request_of, stage_of, fault_of, bytes_of, shown_of, events_at, Fits};
-ghost use Rattle.call_service.specs.Serving.{IsNew, IsServed, IsStopped, HasServeCause, WritesAtFault, side};
+ghost use Rattle.task_get.specs.Tasks.{request_of, stage_of, fault_of, bytes_of, shown_of, events_at};
+ghost use Rattle.call_service.specs.Serving.{MayServe, IsServed, IsStopped, StaysAround, WritesAtFault, around, side};
 ghost use Rattle.door_moments.specs.Acts.{Asks};
 ghost use Rattle.call_service.specs.Replying.{StopsEvent, stand, AsksFrom};
-ghost use Rattle.get_service.specs.Getting.{IsUpTo, brought_at, piece_in, HasWritten, Replies, StopsReply, EndsEarly, LeavesEarly};
+ghost use Rattle.get_service.specs.Getting.{IsReady, IsUpTo, brought_at, piece_in, HasWritten, Replies, StopsReply, EndsEarly, LeavesEarly};
 
 use crate::write::{send_end, send_piece, span_in};
 use call_service::{ServeFault, Served, closing, drop_body, fault_of, send_broken_body};
@@ -176,28 +176,18 @@ fn serve_task<D: Door, C: Clock, S: Source, K: Sink>(
     buffer: &mut [u8],
     out: &mut Vec<u8>,
 ) -> Result<Served, ServeFault>
-    requires room { 0 < length buffer.old }
-    requires looks { stage_of task.old ≡ Look }
-    requires sound { fault_of task.old ≡ None }
-    requires fits { D.tells → Fits task.old (D.settings door.old) (D.told door.old) }
-    requires span { span ≡ span_of (request_of task.old).get }
-    requires intake { intake.old.failed ≡ None }
-    requires new { D.tells → IsNew (D.settings door.old) (D.told door.old) }
+    requires ready { IsReady D.tells (D.settings door.old) task.old span (D.told door.old) intake.old (length buffer.old) }
     ensures served { IfOk result (IsServed D.tells D.alone
         (record { settings = D.settings door.old; zone = (request_of task.old).zone; asker = (request_of task.old).asker }) form (Get (request_of task.old).get) Dropped
         (side (D.told door.old) intake.old (⟦<(S, K, C) as Ends>⟧.ends (source.old, sink.old, clock.old)))
         (side (D.told door.new) intake.new (⟦<(S, K, C) as Ends>⟧.ends (source.new, sink.new, clock.new)))) }
     ensures stopped { IfErr result (IsStopped D.tells D.alone
-        (record { settings = D.settings door.old; zone = (request_of task.old).zone; asker = (request_of task.old).asker }) form (Get (request_of task.old).get) Dropped
-        (D.found door.new)
+        (record { settings = D.settings door.old; zone = (request_of task.old).zone; asker = (request_of task.old).asker }) form (Get (request_of task.old).get) Dropped (D.found door.new)
         (side (D.told door.old) intake.old (⟦<(S, K, C) as Ends>⟧.ends (source.old, sink.old, clock.old)))
         (side (D.told door.new) intake.new (⟦<(S, K, C) as Ends>⟧.ends (source.new, sink.new, clock.new)))) }
-    ensures cause { HasServeCause
-        (⟦<(S, K, C) as Ends>⟧.ends (source.old, sink.old, clock.old))
-        (⟦<(S, K, C) as Ends>⟧.ends (source.new, sink.new, clock.new)) result }
-    ensures settings { D.settings door.new ≡ D.settings door.old }
-    ensures home { D.home door.new ≡ D.home door.old }
-    ensures kept { length buffer.new ≡ length buffer.old }
+    ensures around { StaysAround
+        (around (⟦<(S, K, C) as Ends>⟧.ends (source.old, sink.old, clock.old)) (D.settings door.old) (D.home door.old) (length buffer.old))
+        (around (⟦<(S, K, C) as Ends>⟧.ends (source.new, sink.new, clock.new)) (D.settings door.new) (D.home door.new) (length buffer.new)) result }
 {
     act(alloc, task, door, clock)?;
     let end = drop_body(intake, source, buffer)?;
@@ -226,29 +216,19 @@ fn serve_new<D: Door, C: Clock, S: Source, K: Sink>(
     buffer: &mut [u8],
     out: &mut Vec<u8>,
 ) -> Result<Served, ServeFault>
-    requires room { 0 < length buffer.old }
-    requires looks { stage_of task.old ≡ Look }
-    requires sound { fault_of task.old ≡ None }
-    requires fits { D.tells → Fits task.old (D.settings door.old) (D.told door.old) }
-    requires span { span ≡ span_of (request_of task.old).get }
-    requires intake { intake.old.failed ≡ None }
+    requires ready { IsReady D.tells (D.settings door.old) task.old span (D.told door.old) intake.old (length buffer.old) }
     requires shut { read ≡ false → form.close ≡ true }
-    requires new { D.tells → IsNew (D.settings door.old) (D.told door.old) }
     ensures served { IfOk result (IsServed D.tells D.alone
         (record { settings = D.settings door.old; zone = (request_of task.old).zone; asker = (request_of task.old).asker }) form (Get (request_of task.old).get) (dropped_if read)
         (side (D.told door.old) intake.old (⟦<(S, K, C) as Ends>⟧.ends (source.old, sink.old, clock.old)))
         (side (D.told door.new) intake.new (⟦<(S, K, C) as Ends>⟧.ends (source.new, sink.new, clock.new)))) }
     ensures stopped { IfErr result (IsStopped D.tells D.alone
-        (record { settings = D.settings door.old; zone = (request_of task.old).zone; asker = (request_of task.old).asker }) form (Get (request_of task.old).get) (dropped_if read)
-        (D.found door.new)
+        (record { settings = D.settings door.old; zone = (request_of task.old).zone; asker = (request_of task.old).asker }) form (Get (request_of task.old).get) (dropped_if read) (D.found door.new)
         (side (D.told door.old) intake.old (⟦<(S, K, C) as Ends>⟧.ends (source.old, sink.old, clock.old)))
         (side (D.told door.new) intake.new (⟦<(S, K, C) as Ends>⟧.ends (source.new, sink.new, clock.new)))) }
-    ensures cause { HasServeCause
-        (⟦<(S, K, C) as Ends>⟧.ends (source.old, sink.old, clock.old))
-        (⟦<(S, K, C) as Ends>⟧.ends (source.new, sink.new, clock.new)) result }
-    ensures settings { D.settings door.new ≡ D.settings door.old }
-    ensures home { D.home door.new ≡ D.home door.old }
-    ensures kept { length buffer.new ≡ length buffer.old }
+    ensures around { StaysAround
+        (around (⟦<(S, K, C) as Ends>⟧.ends (source.old, sink.old, clock.old)) (D.settings door.old) (D.home door.old) (length buffer.old))
+        (around (⟦<(S, K, C) as Ends>⟧.ends (source.new, sink.new, clock.new)) (D.settings door.new) (D.home door.new) (length buffer.new)) result }
 {
     if read {
         return serve_task(
@@ -276,13 +256,9 @@ pub fn serve_get<D: Door, C: Clock, S: Source, K: Sink>(
     buffer: &mut [u8],
     out: &mut Vec<u8>,
 ) -> Result<Served, ServeFault>
-    requires room { 0 < length buffer.old }
-    requires low { 1 ≤ request.zone }
-    requires high { request.zone ≤ (D.settings door.old).zones }
-    requires intake { intake.old.failed ≡ None }
+    requires ready { MayServe D.tells (D.settings door.old) request.zone (D.told door.old) intake.old (length buffer.old) }
     requires form { form.bodiless ≡ not request.get.body }
     requires shut { read ≡ false → form.close ≡ true }
-    requires new { D.tells → IsNew (D.settings door.old) (D.told door.old) }
 
     // The whole reply was written behind the body, or with the body left; or the input ended inside the body and
     // nothing was.
@@ -293,17 +269,13 @@ pub fn serve_get<D: Door, C: Clock, S: Source, K: Sink>(
 
     // Nothing was written, or a front of the reply.
     ensures stopped { IfErr result (IsStopped D.tells D.alone
-        (record { settings = D.settings door.old; zone = request.zone; asker = request.asker }) form (Get request.get) (dropped_if read)
-        (D.found door.new)
+        (record { settings = D.settings door.old; zone = request.zone; asker = request.asker }) form (Get request.get) (dropped_if read) (D.found door.new)
         (side (D.told door.old) intake.old (⟦<(S, K, C) as Ends>⟧.ends (source.old, sink.old, clock.old)))
         (side (D.told door.new) intake.new (⟦<(S, K, C) as Ends>⟧.ends (source.new, sink.new, clock.new)))) }
 
-    ensures cause { HasServeCause
-        (⟦<(S, K, C) as Ends>⟧.ends (source.old, sink.old, clock.old))
-        (⟦<(S, K, C) as Ends>⟧.ends (source.new, sink.new, clock.new)) result }
-    ensures settings { D.settings door.new ≡ D.settings door.old }
-    ensures home { D.home door.new ≡ D.home door.old }
-    ensures kept { length buffer.new ≡ length buffer.old }
+    ensures around { StaysAround
+        (around (⟦<(S, K, C) as Ends>⟧.ends (source.old, sink.old, clock.old)) (D.settings door.old) (D.home door.old) (length buffer.old))
+        (around (⟦<(S, K, C) as Ends>⟧.ends (source.new, sink.new, clock.new)) (D.settings door.new) (D.home door.new) (length buffer.new)) result }
 {
     let span = span_in(&request);
     let mut task = GetTask::new(request);

@@ -1,13 +1,12 @@
 // What the text of a head says, by a parser that writes where its fields are.
-ghost use Rattle.std.specs.Prelude.{◌≡◌, ◌≤◌, IfOk, IfSome, Bool, All, length, map};
+ghost use Rattle.std.specs.Prelude.{◌≡◌, ◌≤◌, IfOk, IfSome, Bool, length};
 ghost use Rattle.httparse.specs.Grammar.{RequestHead};
-ghost use Rattle.httparse.specs.Spans.{IsHeaderWithin};
 ghost use Rattle.http_model.specs.Heads.{IsTree, SaysHead, framing_in};
 ghost use Rattle.http_model.specs.Forms.{is_bodiless};
-ghost use Rattle.http_model.specs.HeadSpans.{CoversHead, HasTextName, field_in};
+ghost use Rattle.http_model.specs.HeadSpans.{CoversHead};
 ghost use Rattle.http_model.specs.declared.reading.TheConstants.{FIELD_LIMIT};
 
-use http_model::{Field, Fields, Head, HeadFault, framing_of};
+use http_model::{Head, HeadFault, copy_fields, framing_of};
 use httparse::Status;
 use httparse::spans::{EMPTY_HEADER_SPAN, HeaderSpan, RequestSpans, parse_request};
 use rgw_types::{Bytes, Text};
@@ -27,22 +26,6 @@ fn parse_whole(text: &[u8], spans: &mut [HeaderSpan]) -> Option<RequestSpans>
         Ok(Status::Complete(found)) if found.len == text.len() => Some(found),
         _ => None,
     }
-}
-
-/// The fields that the spans cover.
-fn copy_fields(alloc: Global, text: &[u8], spans: &[HeaderSpan]) -> Result<Fields, AllocError>
-    requires within { All (IsHeaderWithin (length text.now)) spans.now }
-    requires names { All (HasTextName text.now) spans.now }
-    ensures { IfOk result (λ fields. fields ≡ map (field_in text.now) spans.now) }
-{
-    let mut fields = Vec::with_capacity(alloc, spans.len())?;
-    for span in spans {
-        fields.push(Field {
-            name: Text::from_utf8(alloc, span.name.of(text))?,
-            value: Bytes::from_slice(alloc, span.value.of(text))?,
-        })?;
-    }
-    Ok(Fields::from_vec(fields))
 }
 
 /// Reads the head that a text is, all of it, where its fields are few and tell the framing.

@@ -115,8 +115,8 @@ fn is_closing(field: &Field) -> bool
     eq_ignore_case(field.name.as_bytes(), b"connection") && lists_close(field.value.as_slice())
 }
 
-/// Whether some Connection field lists `close`.
-pub(crate) fn wants_close(fields: &Fields) -> bool
+/// Whether some Connection field lists `close` (RFC 9110, section 7.6.1).
+pub fn wants_close(fields: &Fields) -> bool
     ensures { result ≡ list_any lists_close (values_of (codes "connection") fields.now) }
 {
     fields.as_slice().iter().any(|field| is_closing(field))
@@ -130,7 +130,7 @@ fn is_waiting(field: &Field) -> bool
 }
 
 /// Whether some Expect field waits for a 100 (RFC 9110, section 10.1.1).
-pub(crate) fn waits_for_continue(fields: &Fields) -> bool
+pub fn waits_for_continue(fields: &Fields) -> bool
     ensures { result ≡ list_any is_continue (values_of (codes "expect") fields.now) }
 {
     fields.as_slice().iter().any(|field| is_waiting(field))

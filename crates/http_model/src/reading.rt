@@ -50,20 +50,20 @@ fn parse_whole(text: &[u8], spans: &mut [HeaderSpan]) -> Option<RequestSpans>
     }
 }
 
-/// The fields that the spans cover.
-fn copy_fields(alloc: Global, text: &[u8], spans: &[HeaderSpan]) -> Result<Fields, AllocError>
+/// The fields that the spans cover in a text. It fails only for want of memory.
+pub fn copy_fields(alloc: Global, text: &[u8], spans: &[HeaderSpan]) -> Result<Fields, AllocError>
     requires within { All (IsHeaderWithin (length text.now)) spans.now }
     requires names { All (HasTextName text.now) spans.now }
     ensures { IfOk result (λ fields. fields ≡ map (field_in text.now) spans.now) }
 {
-    let mut fields = Fields::new(alloc);
+    let mut fields = Vec::with_capacity(alloc, spans.len())?;
     for span in spans {
         fields.push(Field {
             name: Text::from_utf8(alloc, span.name.of(text))?,
             value: Bytes::from_slice(alloc, span.value.of(text))?,
         })?;
     }
-    Ok(fields)
+    Ok(Fields::from_vec(fields))
 }
 
 /// Reads the head that a text is, all of it, with at most 128 fields (RFC 9112, sections 3 and 5).

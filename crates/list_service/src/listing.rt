@@ -1,16 +1,15 @@
-ghost use Rattle.std.specs.Prelude.{◌≡◌, ◌≤◌, ◌<◌, true, false, OnOk, IfOk, IfErr, length, None};
+ghost use Rattle.std.specs.Prelude.{◌≡◌, ◌<◌, true, false, OnOk, IfOk, IfErr, length, None};
 ghost use Rattle.std.specs.Io.KnownBytes.{Appends};
 ghost use Rattle.swift_requests.specs.declared.asked.Asked.TheVariants.{Listing};
 ghost use Rattle.swift_requests.specs.declared.body.BodyUse.TheVariants.{Dropped};
 ghost use Rattle.call_service.specs.Bodies.{dropped_if};
-ghost use Rattle.task_list.specs.declared.stage.Stage.TheVariants.{Look};
-ghost use Rattle.task_list.specs.Tasks.{IsOver, request_of, stage_of, fault_of, fits};
+ghost use Rattle.task_list.specs.Tasks.{request_of, stage_of, fault_of, fits};
 ghost use Rattle.call_words.specs.Bodies.{IsWrong};
-ghost use Rattle.call_service.specs.Serving.{IsNew, IsServed, IsStopped, HasServeCause, WritesAtFault, side};
+ghost use Rattle.call_service.specs.Serving.{MayServe, IsServed, IsStopped, StaysAround, WritesAtFault, around, side};
 ghost use Rattle.door_moments.specs.Acts.{Asks, IsUpTo};
 ghost use Rattle.call_service.specs.Replying.{Replies, StopsReply, stand};
 ghost use Rattle.list_service.specs.Early.{EndsEarly, LeavesEarly};
-ghost use Rattle.list_service.specs.Listing.{site_of, asked_by};
+ghost use Rattle.list_service.specs.Listing.{IsReady, site_of, asked_by};
 
 use crate::write::{send_end, send_outcome};
 use call_service::{ServeFault, Served, closing, drop_body, send_broken_body};
@@ -103,13 +102,7 @@ fn serve_task<D: Door, C: Clock, S: Source, K: Sink>(
     buffer: &mut [u8],
     out: &mut Vec<u8>,
 ) -> Result<Served, ServeFault>
-    requires room { 0 < length buffer.old }
-    requires open { IsOver (stage_of task.old) → ⊥ }
-    requires looks { stage_of task.old ≡ Look None }
-    requires sound { fault_of task.old ≡ None }
-    requires fits { D.tells → fits task.old (D.settings door.old) (D.told door.old) }
-    requires intake { intake.old.failed ≡ None }
-    requires new { D.tells → IsNew (D.settings door.old) (D.told door.old) }
+    requires ready { IsReady D.tells (D.settings door.old) task.old (D.told door.old) intake.old (length buffer.old) }
     ensures served { IfOk result (IsServed D.tells D.alone (site_of (D.settings door.old) (request_of task.old)) form
         (asked_by (request_of task.old) listing) Dropped
         (side (D.told door.old) intake.old (⟦<(S, K, C) as Ends>⟧.ends (source.old, sink.old, clock.old)))
@@ -118,12 +111,9 @@ fn serve_task<D: Door, C: Clock, S: Source, K: Sink>(
         (asked_by (request_of task.old) listing) Dropped (D.found door.new)
         (side (D.told door.old) intake.old (⟦<(S, K, C) as Ends>⟧.ends (source.old, sink.old, clock.old)))
         (side (D.told door.new) intake.new (⟦<(S, K, C) as Ends>⟧.ends (source.new, sink.new, clock.new)))) }
-    ensures cause { HasServeCause
-        (⟦<(S, K, C) as Ends>⟧.ends (source.old, sink.old, clock.old))
-        (⟦<(S, K, C) as Ends>⟧.ends (source.new, sink.new, clock.new)) result }
-    ensures settings { D.settings door.new ≡ D.settings door.old }
-    ensures home { D.home door.new ≡ D.home door.old }
-    ensures kept { length buffer.new ≡ length buffer.old }
+    ensures around { StaysAround
+        (around (⟦<(S, K, C) as Ends>⟧.ends (source.old, sink.old, clock.old)) (D.settings door.old) (D.home door.old) (length buffer.old))
+        (around (⟦<(S, K, C) as Ends>⟧.ends (source.new, sink.new, clock.new)) (D.settings door.new) (D.home door.new) (length buffer.new)) result }
 {
     act(alloc, task, door, clock)?;
     let end = drop_body(intake, source, buffer)?;
@@ -152,14 +142,8 @@ fn serve_new<D: Door, C: Clock, S: Source, K: Sink>(
     buffer: &mut [u8],
     out: &mut Vec<u8>,
 ) -> Result<Served, ServeFault>
-    requires room { 0 < length buffer.old }
-    requires open { IsOver (stage_of task.old) → ⊥ }
-    requires looks { stage_of task.old ≡ Look None }
-    requires sound { fault_of task.old ≡ None }
-    requires fits { D.tells → fits task.old (D.settings door.old) (D.told door.old) }
-    requires intake { intake.old.failed ≡ None }
+    requires ready { IsReady D.tells (D.settings door.old) task.old (D.told door.old) intake.old (length buffer.old) }
     requires shut { read ≡ false → form.close ≡ true }
-    requires new { D.tells → IsNew (D.settings door.old) (D.told door.old) }
     ensures served { IfOk result (IsServed D.tells D.alone (site_of (D.settings door.old) (request_of task.old)) form
         (asked_by (request_of task.old) listing) (dropped_if read)
         (side (D.told door.old) intake.old (⟦<(S, K, C) as Ends>⟧.ends (source.old, sink.old, clock.old)))
@@ -168,12 +152,9 @@ fn serve_new<D: Door, C: Clock, S: Source, K: Sink>(
         (asked_by (request_of task.old) listing) (dropped_if read) (D.found door.new)
         (side (D.told door.old) intake.old (⟦<(S, K, C) as Ends>⟧.ends (source.old, sink.old, clock.old)))
         (side (D.told door.new) intake.new (⟦<(S, K, C) as Ends>⟧.ends (source.new, sink.new, clock.new)))) }
-    ensures cause { HasServeCause
-        (⟦<(S, K, C) as Ends>⟧.ends (source.old, sink.old, clock.old))
-        (⟦<(S, K, C) as Ends>⟧.ends (source.new, sink.new, clock.new)) result }
-    ensures settings { D.settings door.new ≡ D.settings door.old }
-    ensures home { D.home door.new ≡ D.home door.old }
-    ensures kept { length buffer.new ≡ length buffer.old }
+    ensures around { StaysAround
+        (around (⟦<(S, K, C) as Ends>⟧.ends (source.old, sink.old, clock.old)) (D.settings door.old) (D.home door.old) (length buffer.old))
+        (around (⟦<(S, K, C) as Ends>⟧.ends (source.new, sink.new, clock.new)) (D.settings door.new) (D.home door.new) (length buffer.new)) result }
 {
     if read {
         return serve_task(
@@ -202,12 +183,8 @@ pub fn serve_listing<D: Door, C: Clock, S: Source, K: Sink>(
     buffer: &mut [u8],
     out: &mut Vec<u8>,
 ) -> Result<Served, ServeFault>
-    requires room { 0 < length buffer.old }
-    requires low { 1 ≤ request.zone }
-    requires high { request.zone ≤ (D.settings door.old).zones }
-    requires intake { intake.old.failed ≡ None }
+    requires ready { MayServe D.tells (D.settings door.old) request.zone (D.told door.old) intake.old (length buffer.old) }
     requires shut { read ≡ false → form.close ≡ true }
-    requires new { D.tells → IsNew (D.settings door.old) (D.told door.old) }
 
     // The whole reply was written behind the body, or with the body left; or the input ended inside the body and
     // nothing was.
@@ -218,17 +195,13 @@ pub fn serve_listing<D: Door, C: Clock, S: Source, K: Sink>(
 
     // Nothing was written, or a front of the reply.
     ensures stopped { IfErr result (IsStopped D.tells D.alone
-        (record { settings = D.settings door.old; zone = request.zone; asker = request.asker }) form (Listing request.command listing) (dropped_if read)
-        (D.found door.new)
+        (record { settings = D.settings door.old; zone = request.zone; asker = request.asker }) form (Listing request.command listing) (dropped_if read) (D.found door.new)
         (side (D.told door.old) intake.old (⟦<(S, K, C) as Ends>⟧.ends (source.old, sink.old, clock.old)))
         (side (D.told door.new) intake.new (⟦<(S, K, C) as Ends>⟧.ends (source.new, sink.new, clock.new)))) }
 
-    ensures cause { HasServeCause
-        (⟦<(S, K, C) as Ends>⟧.ends (source.old, sink.old, clock.old))
-        (⟦<(S, K, C) as Ends>⟧.ends (source.new, sink.new, clock.new)) result }
-    ensures settings { D.settings door.new ≡ D.settings door.old }
-    ensures home { D.home door.new ≡ D.home door.old }
-    ensures kept { length buffer.new ≡ length buffer.old }
+    ensures around { StaysAround
+        (around (⟦<(S, K, C) as Ends>⟧.ends (source.old, sink.old, clock.old)) (D.settings door.old) (D.home door.old) (length buffer.old))
+        (around (⟦<(S, K, C) as Ends>⟧.ends (source.new, sink.new, clock.new)) (D.settings door.new) (D.home door.new) (length buffer.new)) result }
 {
     let mut task = ListTask::new(request);
     let served = serve_new(

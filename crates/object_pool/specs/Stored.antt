@@ -1,5 +1,5 @@
 -- How a pool keeps its objects. No public clause cites this module.
-use Rattle.std.specs.Prelude.{◌≡◌, ℕ, ◌+◌, ◌*◌, ◌≤◌, Bool, not, ◌&&◌, ◌==◌, length, List, [], ◌∷◌, map, take, sum_by}
+use Rattle.std.specs.Prelude.{◌≡◌, ℕ, ◌+◌, ◌*◌, ◌≤◌, Bool, not, ◌&&◌, ◌==◌, length, List, [], ◌∷◌, map, take, sum_by, Result, OnOk}
 use Rattle.std.specs.List.{AllByRecursion}
 use Rattle.std.specs.List.Sorted.{IsStrictlySortedBy}
 use Rattle.std.specs.Map.{keys_of}
@@ -7,7 +7,7 @@ use Rattle.std.specs.Int.{div_ceil}
 use Rattle.rgw_types.specs.declared.pool_key.Key.{Key}
 use Rattle.frame_region.specs.Region.{RegionView, bytes_of, Owns, Apart}
 use Rattle.object_pool.specs.declared.object.Stored.{Stored}
-use Rattle.object_pool.specs.Objects.{Object, Slots, key_cmp}
+use Rattle.object_pool.specs.Objects.{HasFrameSum, KeepsAll, KeepsCounts, Object, PoolView, Slots, key_cmp, nothing, objects, slot_at}
 
 abbrev pub Entries : Type 0
 Entries = List (Key × Stored)
@@ -48,3 +48,11 @@ pub record IsSound (region : RegionView) (frame : ℕ) (entries : Entries) : Typ
   pub apart : AllApart entries
   pub in_order : IsStrictlySortedBy key_cmp (keys_of entries)
   pub sum : region.free + sum_by (λ e. e.1.run.count) entries ≡ region.frames
+
+-- nothing is put in the place of a key whose object does not exist: no object changes, and no count of frames
+pub record PutsNothing {T E : Type 0} (key : Key) (old new : PoolView) (result : Result T E) : Type 0 where
+  pub put : OnOk result (slot_at new.slots key ≡ nothing)
+  pub objects : objects new ≡ objects old
+  pub all : KeepsAll old new
+  pub counts : KeepsCounts old new
+  pub sum : HasFrameSum old → HasFrameSum new

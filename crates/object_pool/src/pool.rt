@@ -5,6 +5,7 @@ ghost use Rattle.std.specs.Map.{lookup};
 ghost use Rattle.rgw_types.specs.declared.pool_key.Key.{Key as KeyOf};
 ghost use Rattle.object_pool.specs.Objects.{HasFrameSum, IsMap, KeepsAll, KeepsCounts, dropped, exists, frames_of, is_key, nothing, object_at, objects, slot_at, with_object};
 ghost use Rattle.object_pool.specs.Lending.{LendsParts};
+ghost use Rattle.object_pool.specs.Stored.{PutsNothing};
 
 use crate::error::NoSpace;
 use crate::lookup::stored_at;
@@ -130,11 +131,7 @@ impl Pool {
         requires there { IsSome (lookup (is_key key.now) self.old.slots) }
         requires gone { exists (slot_at self.old.slots key.now) ≡ false }
         ensures there { IsSome (lookup (is_key key.now) self.new.slots) }
-        ensures ok { OnOk result (slot_at self.new.slots key.now ≡ nothing) }
-        ensures objects { objects self.new ≡ objects self.old }
-        ensures all { KeepsAll self.old self.new }
-        ensures counts { KeepsCounts self.old self.new }
-        ensures sum { HasFrameSum self.old → HasFrameSum self.new }
+        ensures nothing { PutsNothing key.now self.old self.new result }
     {
         *self.parts_mut(number, key) = ObjectParts::new(alloc)?;
         Ok(())
@@ -144,11 +141,7 @@ impl Pool {
     fn make_place(&mut self, alloc: Global, key: &Key) -> Result<usize, OutOfMemory>
         requires { IsNone (lookup (is_key key.now) self.old.slots) }
         ensures there { OnOk result (IsSome (lookup (is_key key.now) self.new.slots)) }
-        ensures ok { OnOk result (slot_at self.new.slots key.now ≡ nothing) }
-        ensures objects { objects self.new ≡ objects self.old }
-        ensures all { KeepsAll self.old self.new }
-        ensures counts { KeepsCounts self.old self.new }
-        ensures sum { HasFrameSum self.old → HasFrameSum self.new }
+        ensures nothing { PutsNothing key.now self.old self.new result }
     {
         if self.sweep.is_due(self.objects.len()) {
             self.forget_emptied();

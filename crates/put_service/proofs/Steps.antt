@@ -31,7 +31,8 @@ use Rattle.task_put.specs.declared.stage.Stage.{Stage}
 use Rattle.task_put.specs.declared.stage.Stage.TheVariants.{Looking, Feeding, LookingAgain, Preparing, Announcing, Writing, Cancelling, Completing, LookingForShard, Ended}
 use Rattle.task_put.specs.declared.task.PutTask.{PutTask}
 use Rattle.task_put.specs.Bodies.{without_tail}
-use Rattle.task_put.specs.Stages.{IsReady, op_of, row_shown, place_by, by_first_place, by_place, by_tail, look_again, by_tag, content_back, by_lateness, by_refusal, by_change, look_for_shard, row_back, change_of, by_move, by_completion, tried_after, step_of}
+use Rattle.task_put.specs.Stages.{IsReady, op_of, place_by, by_first_place, by_place, by_tail, look_again, by_tag, content_back, by_lateness, by_refusal, by_change, look_for_shard, row_back, change_of, by_move, by_completion, tried_after, step_of}
+use Rattle.realm_model.specs.Shown.{row_shown}
 use Rattle.task_put.specs.Tasks.{request_of, stage_of}
 use Rattle.task_put.specs.Stepped.{stepped}
 use Rattle.put_service.specs.Standing.{IsOf, IsSteadyAt, IsSteady}

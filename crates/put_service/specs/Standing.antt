@@ -1,7 +1,8 @@
 -- Where the task of a PUT stands, and where it pauses.
-use Rattle.std.specs.Prelude.{◌≡◌, ◌≤◌, Bool, true, false, [], Option, Some, None}
+use Rattle.std.specs.Prelude.{◌≡◌, ℕ, ◌<◌, ◌≤◌, Bool, true, false, [], Option, Some, None, Result}
 use Rattle.call_words.specs.Bodies.{Fate, broken_off, IsWrong}
 use Rattle.http_intake.specs.Intake.{IntakeState}
+use Rattle.http_model.specs.declared.reply.ReplyForm.{ReplyForm}
 use Rattle.realm_model.specs.Settings.{SettingsView}
 use Rattle.realm_model.specs.Doors.{DoorView}
 use Rattle.realm_model.specs.Histories.{Legal}
@@ -21,7 +22,8 @@ use Rattle.task_put.specs.Bodies.{most_bytes}
 use Rattle.task_put.specs.Stages.{IsOver}
 use Rattle.task_put.specs.Taking.{WantsBytes}
 use Rattle.task_put.specs.Tasks.{request_of, stage_of, fault_of, fits}
-use Rattle.call_service.specs.Bodies.{most_due}
+use Rattle.call_service.specs.Bodies.{ReadsAtFault, most_due}
+use Rattle.call_service.specs.declared.fault.ServeFault.{ServeFault}
 use Rattle.call_service.specs.Serving.{is_by_end}
 use Rattle.put_service.specs.declared.stepping.Pause.{Pause}
 use Rattle.put_service.specs.declared.stepping.Pause.TheVariants as pauses
@@ -88,6 +90,47 @@ IsFresh task = (fault_of task ≡ None) × IsSteady task × ((request_of task).b
 -- the intake met no fault, and no more of the body is due than a PUT may have
 abbrev pub IsReadable : IntakeState → Type 0
 IsReadable intake = (intake.failed ≡ None) × (most_due intake ≤ most_bytes)
+
+-- a task that took no byte yet may be served: the reply may have a body, and the buffer for pieces has room
+pub record IsReady (tells : Type 0) (settings : SettingsView) (task : PutTask) (d : DoorView) (form : ReplyForm) (intake : IntakeState) (buffer : ℕ) : Type 0 where
+  pub room : 0 < buffer
+  pub fresh : IsFresh task
+  pub readable : IsReadable intake
+  pub bodied : form.bodiless ≡ false
+  pub up : IsUp tells settings task d
+
+-- ---- what stays
+
+-- the door's settings and home, and the clock's plan
+pub record Outside : Type 0 where
+  pub settings : SettingsView
+  pub home : ℕ
+  pub plan : Option (ℕ → ℕ)
+
+abbrev pub outside : SettingsView → ℕ → Option (ℕ → ℕ) → Outside
+outside settings home plan = record { settings = settings; home = home; plan = plan }
+
+pub record Stays (old new : Outside) : Type 0 where
+  pub settings : new.settings ≡ old.settings
+  pub home : new.home ≡ old.home
+  pub plan : new.plan ≡ old.plan
+
+-- with these, the source's count of faults, and how long the buffer for pieces is
+pub record Reading : Type 0 where
+  pub outside : Outside
+  pub faults : ℕ
+  pub buffer : ℕ
+
+abbrev pub reading : SettingsView → ℕ → Option (ℕ → ℕ) → ℕ → ℕ → Reading
+reading settings home plan faults buffer = record { outside = outside settings home plan; faults = faults; buffer = buffer }
+
+-- the count rose where a read failed, and all else stays
+pub record StaysReading {T : Type 0} (old new : Reading) (result : Result T ServeFault) : Type 0 where
+  pub cause : ReadsAtFault old.faults new.faults result
+  pub settings : new.outside.settings ≡ old.outside.settings
+  pub home : new.outside.home ≡ old.outside.home
+  pub plan : new.outside.plan ≡ old.outside.plan
+  pub kept : new.buffer ≡ old.buffer
 
 -- ---- pauses
 

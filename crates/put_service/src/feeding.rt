@@ -3,9 +3,9 @@ ghost use Rattle.std.specs.Prelude.{◌≡◌, ◌+◌, ◌<◌, ◌≤◌, None
 ghost use Rattle.task_put.specs.Bodies.{most_bytes};
 ghost use Rattle.task_put.specs.Taking.{WantsBytes};
 ghost use Rattle.task_put.specs.Tasks.{request_of, stage_of, fault_of};
-ghost use Rattle.call_service.specs.Bodies.{ReadsAtFault, most_due};
+ghost use Rattle.call_service.specs.Bodies.{most_due};
 ghost use Rattle.door_moments.specs.Acts.{Asks};
-ghost use Rattle.put_service.specs.Standing.{IsUp, IsSteady};
+ghost use Rattle.put_service.specs.Standing.{IsUp, IsSteady, Stays, StaysReading, outside, reading};
 ghost use Rattle.call_service.specs.Replying.{StopsEvent};
 ghost use Rattle.put_service.specs.Parts.{TakesBytes, TakesBody, StopsBody, place};
 
@@ -48,9 +48,7 @@ fn feed_all<D: Door, C: Clock>(
     ensures stopped { OnErr result ((more : Bool) × Asks D.tells D.alone (D.settings door.old) more (D.told door.old) (D.told door.new) (C.told clock.old) (C.told clock.new)) }
     ensures sound { OnOk result (fault_of task.new ≡ None) }
     ensures fault { IfErr result (StopsEvent D.tells (D.found door.new)) }
-    ensures settings { D.settings door.new ≡ D.settings door.old }
-    ensures home { D.home door.new ≡ D.home door.old }
-    ensures plan { C.plan clock.new ≡ C.plan clock.old }
+    ensures stays { Stays (outside (D.settings door.old) (D.home door.old) (C.plan clock.old)) (outside (D.settings door.new) (D.home door.new) (C.plan clock.new)) }
 {
     let mut rest = bytes;
     'parts: while !rest.is_empty() {
@@ -92,11 +90,8 @@ pub(crate) fn take_body<D: Door, C: Clock, S: Source>(
     ensures fault { IfErr result (StopsBody D.tells D.alone (D.settings door.old) (D.found door.new)
         (place (D.told door.old) intake.old (S.left source.old) (C.told clock.old))
         (place (D.told door.new) intake.new (S.left source.new) (C.told clock.new))) }
-    ensures cause { ReadsAtFault (S.faults source.old) (S.faults source.new) result }
-    ensures settings { D.settings door.new ≡ D.settings door.old }
-    ensures home { D.home door.new ≡ D.home door.old }
-    ensures plan { C.plan clock.new ≡ C.plan clock.old }
-    ensures kept { length buffer.new ≡ length buffer.old }
+    ensures stays { StaysReading (reading (D.settings door.old) (D.home door.old) (C.plan clock.old) (S.faults source.old) (length buffer.old))
+        (reading (D.settings door.new) (D.home door.new) (C.plan clock.new) (S.faults source.new) (length buffer.new)) result }
 {
     let pause = advance(alloc, task, door, clock)?;
     match pause {

@@ -1,6 +1,5 @@
 ghost use Rattle.std.specs.Prelude.{◌≡◌, ◌≤◌, ◌<◌, ◌++◌, [], None, true, false, length, IfOk, IfErr, OnOk, OnErr};
 ghost use Rattle.std.specs.Io.KnownBytes.{Appends};
-ghost use Rattle.realm_model.specs.Histories.{Legal};
 ghost use Rattle.swift_requests.specs.declared.asked.Asked.TheVariants.{Put};
 ghost use Rattle.swift_requests.specs.declared.body.BodyUse.TheVariants.{Fed};
 ghost use Rattle.task_put.specs.Stages.{IsOver};
@@ -10,10 +9,10 @@ ghost use Rattle.put_service.specs.Leaving.{left_text};
 ghost use Rattle.task_put.specs.Bodies.{most_bytes};
 ghost use Rattle.task_put.specs.Taking.{ended_request};
 ghost use Rattle.task_put.specs.Tasks.{request_of, stage_of, fault_of};
-ghost use Rattle.call_service.specs.Bodies.{ReadsAtFault, most_due};
-ghost use Rattle.call_service.specs.Serving.{WritesAtFault, IsNew, IsServed, IsStopped, HasServeCause, form_at, side, LeavesText};
+ghost use Rattle.call_service.specs.Bodies.{most_due};
+ghost use Rattle.call_service.specs.Serving.{MayServe, WritesAtFault, IsServed, IsStopped, StaysAround, around, form_at, side, LeavesText};
 ghost use Rattle.door_moments.specs.Acts.{Asks};
-ghost use Rattle.put_service.specs.Standing.{IsUp, IsSteady, IsEndAt, IsFresh, IsReadable};
+ghost use Rattle.put_service.specs.Standing.{IsReady, IsUp, IsSteady, IsEndAt, Stays, StaysReading, outside, reading};
 ghost use Rattle.call_service.specs.Replying.{StopsEvent};
 ghost use Rattle.put_service.specs.Parts.{StopsBody, EndsSo, RunsTask, fate_of, task_end, text_of, served_so, site_at, place};
 
@@ -49,9 +48,7 @@ fn conclude<D: Door, C: Clock>(
     ensures request { request_of task.new ≡ ended_request (request_of task.old) end }
     ensures sound { OnOk result (fault_of task.new ≡ None) }
     ensures fault { IfErr result (StopsEvent D.tells (D.found door.new)) }
-    ensures settings { D.settings door.new ≡ D.settings door.old }
-    ensures home { D.home door.new ≡ D.home door.old }
-    ensures plan { C.plan clock.new ≡ C.plan clock.old }
+    ensures stays { Stays (outside (D.settings door.old) (D.home door.old) (C.plan clock.old)) (outside (D.settings door.new) (D.home door.new) (C.plan clock.new)) }
 {
     task.finish(end);
     match advance(alloc, task, door, clock)? {
@@ -96,11 +93,8 @@ fn run_put<D: Door, C: Clock, S: Source>(
     ensures fault { IfErr result (StopsBody D.tells D.alone (D.settings door.old) (D.found door.new)
         (place (D.told door.old) intake.old (S.left source.old) (C.told clock.old))
         (place (D.told door.new) intake.new (S.left source.new) (C.told clock.new))) }
-    ensures cause { ReadsAtFault (S.faults source.old) (S.faults source.new) result }
-    ensures settings { D.settings door.new ≡ D.settings door.old }
-    ensures home { D.home door.new ≡ D.home door.old }
-    ensures plan { C.plan clock.new ≡ C.plan clock.old }
-    ensures kept { length buffer.new ≡ length buffer.old }
+    ensures stays { StaysReading (reading (D.settings door.old) (D.home door.old) (C.plan clock.old) (S.faults source.old) (length buffer.old))
+        (reading (D.settings door.new) (D.home door.new) (C.plan clock.new) (S.faults source.new) (length buffer.new)) result }
 {
     match take_body(alloc, task, door, clock, intake, source, buffer)? {
         Taken::Over => drop_body(intake, source, buffer),
@@ -184,24 +178,16 @@ fn serve_body<D: Door, C: Clock, S: Source, K: Sink>(
     buffer: &mut [u8],
     out: &mut Vec<u8>,
 ) -> Result<Served, ServeFault>
-    requires room { 0 < length buffer.old }
-    requires fresh { IsFresh task.old }
-    requires intake { IsReadable intake.old }
-    requires form { form.bodiless ≡ false }
-    requires up { IsUp D.tells (D.settings door.old) task.old (D.told door.old) }
+    requires ready { IsReady D.tells (D.settings door.old) task.old (D.told door.old) form intake.old (length buffer.old) }
     ensures served { IfOk result (IsServed D.tells D.alone (site_at (D.settings door.old) (request_of task.old)) form (Put (request_of task.old).command) Fed
         (side (D.told door.old) intake.old (⟦<(S, K, C) as Ends>⟧.ends (source.old, sink.old, clock.old)))
         (side (D.told door.new) intake.new (⟦<(S, K, C) as Ends>⟧.ends (source.new, sink.new, clock.new)))) }
-    ensures stopped { IfErr result (IsStopped D.tells D.alone (site_at (D.settings door.old) (request_of task.old)) form (Put (request_of task.old).command) Fed
-        (D.found door.new)
+    ensures stopped { IfErr result (IsStopped D.tells D.alone (site_at (D.settings door.old) (request_of task.old)) form (Put (request_of task.old).command) Fed (D.found door.new)
         (side (D.told door.old) intake.old (⟦<(S, K, C) as Ends>⟧.ends (source.old, sink.old, clock.old)))
         (side (D.told door.new) intake.new (⟦<(S, K, C) as Ends>⟧.ends (source.new, sink.new, clock.new)))) }
-    ensures cause { HasServeCause
-        (⟦<(S, K, C) as Ends>⟧.ends (source.old, sink.old, clock.old))
-        (⟦<(S, K, C) as Ends>⟧.ends (source.new, sink.new, clock.new)) result }
-    ensures settings { D.settings door.new ≡ D.settings door.old }
-    ensures home { D.home door.new ≡ D.home door.old }
-    ensures kept { length buffer.new ≡ length buffer.old }
+    ensures around { StaysAround
+        (around (⟦<(S, K, C) as Ends>⟧.ends (source.old, sink.old, clock.old)) (D.settings door.old) (D.home door.old) (length buffer.old))
+        (around (⟦<(S, K, C) as Ends>⟧.ends (source.new, sink.new, clock.new)) (D.settings door.new) (D.home door.new) (length buffer.new)) result }
 {
     let end = run_put(alloc, task, door, clock, intake, source, buffer)?;
     match end {
@@ -263,25 +249,16 @@ fn serve_waiting<D: Door, C: Clock, S: Source, K: Sink>(
     buffer: &mut [u8],
     out: &mut Vec<u8>,
 ) -> Result<Served, ServeFault>
-    requires room { 0 < length buffer.old }
-    requires fresh { IsFresh task.old }
-    requires intake { IsReadable intake.old }
-    requires form { form.bodiless ≡ false }
-    requires up { IsUp D.tells (D.settings door.old) task.old (D.told door.old) }
-    requires legal { D.tells → Legal (D.settings door.old) (D.told door.old).seen }
+    requires ready { IsReady D.tells (D.settings door.old) task.old (D.told door.old) form intake.old (length buffer.old) }
     ensures served { IfOk result (IsServedWaiting D.tells D.alone (site_at (D.settings door.old) (request_of task.old)) form (request_of task.old).command
         (side (D.told door.old) intake.old (⟦<(S, K, C) as Ends>⟧.ends (source.old, sink.old, clock.old)))
         (side (D.told door.new) intake.new (⟦<(S, K, C) as Ends>⟧.ends (source.new, sink.new, clock.new)))) }
-    ensures stopped { IfErr result (IsStoppedWaiting D.tells D.alone (site_at (D.settings door.old) (request_of task.old)) form (request_of task.old).command
-        (D.found door.new)
+    ensures stopped { IfErr result (IsStoppedWaiting D.tells D.alone (site_at (D.settings door.old) (request_of task.old)) form (request_of task.old).command (D.found door.new)
         (side (D.told door.old) intake.old (⟦<(S, K, C) as Ends>⟧.ends (source.old, sink.old, clock.old)))
         (side (D.told door.new) intake.new (⟦<(S, K, C) as Ends>⟧.ends (source.new, sink.new, clock.new)))) }
-    ensures cause { HasServeCause
-        (⟦<(S, K, C) as Ends>⟧.ends (source.old, sink.old, clock.old))
-        (⟦<(S, K, C) as Ends>⟧.ends (source.new, sink.new, clock.new)) result }
-    ensures settings { D.settings door.new ≡ D.settings door.old }
-    ensures home { D.home door.new ≡ D.home door.old }
-    ensures kept { length buffer.new ≡ length buffer.old }
+    ensures around { StaysAround
+        (around (⟦<(S, K, C) as Ends>⟧.ends (source.old, sink.old, clock.old)) (D.settings door.old) (D.home door.old) (length buffer.old))
+        (around (⟦<(S, K, C) as Ends>⟧.ends (source.new, sink.new, clock.new)) (D.settings door.new) (D.home door.new) (length buffer.new)) result }
 {
     let pause = advance(alloc, task, door, clock)?;
     match pause {
@@ -310,25 +287,16 @@ fn serve_new<D: Door, C: Clock, S: Source, K: Sink>(
     buffer: &mut [u8],
     out: &mut Vec<u8>,
 ) -> Result<Served, ServeFault>
-    requires room { 0 < length buffer.old }
-    requires fresh { IsFresh task.old }
-    requires intake { IsReadable intake.old }
-    requires form { form.bodiless ≡ false }
-    requires up { IsUp D.tells (D.settings door.old) task.old (D.told door.old) }
-    requires legal { D.tells → Legal (D.settings door.old) (D.told door.old).seen }
+    requires ready { IsReady D.tells (D.settings door.old) task.old (D.told door.old) form intake.old (length buffer.old) }
     ensures served { IfOk result (IsPutServed waits D.tells D.alone (site_at (D.settings door.old) (request_of task.old)) form (request_of task.old).command
         (side (D.told door.old) intake.old (⟦<(S, K, C) as Ends>⟧.ends (source.old, sink.old, clock.old)))
         (side (D.told door.new) intake.new (⟦<(S, K, C) as Ends>⟧.ends (source.new, sink.new, clock.new)))) }
-    ensures stopped { IfErr result (IsPutStopped waits D.tells D.alone (site_at (D.settings door.old) (request_of task.old)) form (request_of task.old).command
-        (D.found door.new)
+    ensures stopped { IfErr result (IsPutStopped waits D.tells D.alone (site_at (D.settings door.old) (request_of task.old)) form (request_of task.old).command (D.found door.new)
         (side (D.told door.old) intake.old (⟦<(S, K, C) as Ends>⟧.ends (source.old, sink.old, clock.old)))
         (side (D.told door.new) intake.new (⟦<(S, K, C) as Ends>⟧.ends (source.new, sink.new, clock.new)))) }
-    ensures cause { HasServeCause
-        (⟦<(S, K, C) as Ends>⟧.ends (source.old, sink.old, clock.old))
-        (⟦<(S, K, C) as Ends>⟧.ends (source.new, sink.new, clock.new)) result }
-    ensures settings { D.settings door.new ≡ D.settings door.old }
-    ensures home { D.home door.new ≡ D.home door.old }
-    ensures kept { length buffer.new ≡ length buffer.old }
+    ensures around { StaysAround
+        (around (⟦<(S, K, C) as Ends>⟧.ends (source.old, sink.old, clock.old)) (D.settings door.old) (D.home door.old) (length buffer.old))
+        (around (⟦<(S, K, C) as Ends>⟧.ends (source.new, sink.new, clock.new)) (D.settings door.new) (D.home door.new) (length buffer.new)) result }
 {
     if waits {
         return serve_waiting(
@@ -361,14 +329,10 @@ pub fn serve_put<D: Door, C: Clock, S: Source, K: Sink>(
     buffer: &mut [u8],
     out: &mut Vec<u8>,
 ) -> Result<Served, ServeFault>
-    requires room { 0 < length buffer.old }
-    requires low { 1 ≤ zone }
-    requires high { zone ≤ settings.now.zones }
+    requires ready { MayServe D.tells (D.settings door.old) zone (D.told door.old) intake.old (length buffer.old) }
     requires same { D.settings door.old ≡ settings.now }
-    requires intake { intake.old.failed ≡ None }
     requires few { most_due intake.old ≤ most_bytes }
     requires form { form.bodiless ≡ false }
-    requires new { D.tells → IsNew (D.settings door.old) (D.told door.old) }
 
     // The whole reply was written behind the body, or with the body left; or the input ended inside the body.
     ensures served { IfOk result (IsPutServed waits D.tells D.alone
@@ -378,17 +342,13 @@ pub fn serve_put<D: Door, C: Clock, S: Source, K: Sink>(
 
     // Only a write that failed leaves a front of a text.
     ensures stopped { IfErr result (IsPutStopped waits D.tells D.alone
-        (record { settings = D.settings door.old; zone = zone; asker = asker }) form put
-        (D.found door.new)
+        (record { settings = D.settings door.old; zone = zone; asker = asker }) form put (D.found door.new)
         (side (D.told door.old) intake.old (⟦<(S, K, C) as Ends>⟧.ends (source.old, sink.old, clock.old)))
         (side (D.told door.new) intake.new (⟦<(S, K, C) as Ends>⟧.ends (source.new, sink.new, clock.new)))) }
 
-    ensures cause { HasServeCause
-        (⟦<(S, K, C) as Ends>⟧.ends (source.old, sink.old, clock.old))
-        (⟦<(S, K, C) as Ends>⟧.ends (source.new, sink.new, clock.new)) result }
-    ensures settings { D.settings door.new ≡ D.settings door.old }
-    ensures home { D.home door.new ≡ D.home door.old }
-    ensures kept { length buffer.new ≡ length buffer.old }
+    ensures around { StaysAround
+        (around (⟦<(S, K, C) as Ends>⟧.ends (source.old, sink.old, clock.old)) (D.settings door.old) (D.home door.old) (length buffer.old))
+        (around (⟦<(S, K, C) as Ends>⟧.ends (source.new, sink.new, clock.new)) (D.settings door.new) (D.home door.new) (length buffer.new)) result }
 {
     let Ok(mut task) = PutTask::new(alloc, settings, zone, asker, put) else {
         return Err(ServeFault::OutOfMemory);

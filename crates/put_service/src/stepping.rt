@@ -2,7 +2,7 @@
 ghost use Rattle.std.specs.Prelude.{◌≡◌, ◌<◌, ◌≤◌, ◌^◌, Ok, None, true, IfOk, OnOk, IfErr, OnErr};
 ghost use Rattle.task_put.specs.Tasks.{request_of, fault_of};
 ghost use Rattle.door_moments.specs.Acts.{Asks};
-ghost use Rattle.put_service.specs.Standing.{IsUp, IsSteady, PausesAt, StandsAfter, is_untold, is_untold_at};
+ghost use Rattle.put_service.specs.Standing.{IsUp, IsSteady, Stays, outside, PausesAt, StandsAfter, is_untold, is_untold_at};
 ghost use Rattle.call_service.specs.Replying.{StopsEvent};
 
 use call_service::ServeFault;
@@ -42,9 +42,7 @@ fn take_step<D: Door, C: Clock>(
     ensures request { request_of task.new ≡ request_of task.old }
     ensures sound { OnOk result (fault_of task.new ≡ None) }
     ensures fault { IfErr result (StopsEvent D.tells (D.found door.new)) }
-    ensures settings { D.settings door.new ≡ D.settings door.old }
-    ensures home { D.home door.new ≡ D.home door.old }
-    ensures plan { C.plan clock.new ≡ C.plan clock.old }
+    ensures stays { Stays (outside (D.settings door.old) (D.home door.old) (C.plan clock.old)) (outside (D.settings door.new) (D.home door.new) (C.plan clock.new)) }
 {
     if task.outcome().is_some() {
         return Ok(Some(Pause::Over));
@@ -79,9 +77,7 @@ pub(crate) fn advance<D: Door, C: Clock>(
     ensures request { request_of task.new ≡ request_of task.old }
     ensures sound { OnOk result (fault_of task.new ≡ None) }
     ensures fault { IfErr result (StopsEvent D.tells (D.found door.new)) }
-    ensures settings { D.settings door.new ≡ D.settings door.old }
-    ensures home { D.home door.new ≡ D.home door.old }
-    ensures plan { C.plan clock.new ≡ C.plan clock.old }
+    ensures stays { Stays (outside (D.settings door.old) (D.home door.old) (C.plan clock.old)) (outside (D.settings door.new) (D.home door.new) (C.plan clock.new)) }
 {
     'events: loop {
         if let Some(pause) = take_step(alloc, task, door, clock)? {

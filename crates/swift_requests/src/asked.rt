@@ -13,7 +13,7 @@ use crate::form::{has_put_sizes, has_put_texts, has_texts, is_taken, is_user};
 use crate::metadata::SentMetadata;
 use http_model::{Framing, Head};
 use list_words::ListCommand;
-use object_words::Name;
+use object_words::{BucketName, Name, ObjectName};
 use rgw_types::Text;
 use std::alloc::{AllocError, Global};
 use swift_reply::{Invalid, ListingForm, SwiftRefusal};
@@ -135,12 +135,10 @@ fn name_of<const MOST: usize>(text: Text) -> Name<MOST>
 fn put_asked(
     alloc: Global,
     largest: u64,
-    container: Text,
-    name: Text,
+    container: BucketName,
+    name: ObjectName,
     head: &Head,
 ) -> Result<Asked, AllocError>
-    requires container { is_name 256 container ≡ true }
-    requires name { is_name 1024 name ≡ true }
     requires put { is_put head.now ≡ true }
     ensures { IfOk result (λ asked. asked ≡ put_asked largest container name head.now) }
 {
@@ -149,8 +147,8 @@ fn put_asked(
         return Ok(Asked::Refused(refusal));
     }
     Ok(Asked::Put(PutCommand {
-        container: name_of(container),
-        name: name_of(name),
+        container,
+        name,
         kind: kind(alloc, head)?,
         meta: metadata.into_pairs(alloc)?,
         etag: sent_etag(alloc, head)?,
@@ -162,20 +160,18 @@ fn put_asked(
 fn get_asked(
     alloc: Global,
     largest: u64,
-    container: Text,
-    name: Text,
+    container: BucketName,
+    name: ObjectName,
     head: &Head,
 ) -> Result<Asked, AllocError>
-    requires container { is_name 256 container ≡ true }
-    requires name { is_name 1024 name ≡ true }
     ensures { IfOk result (λ asked. asked ≡ get_asked largest container name head.now) }
 {
     if let Some(refusal) = get_refusal(largest, head) {
         return Ok(Asked::Refused(refusal));
     }
     Ok(Asked::Get(GetCommand {
-        container: name_of(container),
-        name: name_of(name),
+        container,
+        name,
         when: conditions(alloc, head)?,
         span: span(head),
         body: head.is_get(),
@@ -194,8 +190,7 @@ fn listing_form(query: &Query) -> ListingForm
 }
 
 /// What a GET of a container asks.
-fn list_asked(largest: u64, container: Text, query: Query, head: &Head) -> Asked
-    requires { is_name 256 container ≡ true }
+fn list_asked(largest: u64, container: BucketName, query: Query, head: &Head) -> Asked
     ensures { result ≡ list_asked largest container query head.now }
 {
     if let Some(refusal) = list_refusal(largest, head) {
@@ -203,7 +198,7 @@ fn list_asked(largest: u64, container: Text, query: Query, head: &Head) -> Asked
     }
     let form = listing_form(&query);
     let command = ListCommand {
-        container: name_of(container),
+        container,
         limit: query.limit,
         marker: query.marker,
         end_marker: query.end_marker,
@@ -230,6 +225,7 @@ fn asked_at(
             if !account.is(OWN_ACCOUNT) || !is_taken(head) {
                 return Ok(Asked::Refused(SwiftRefusal::NotBuilt));
             }
+            let (container, name) = (name_of(container), name_of(name));
             if head.is_put() {
                 put_asked(alloc, largest, container, name, head)
             } else {
@@ -242,7 +238,7 @@ fn asked_at(
             if !account.is(OWN_ACCOUNT) || !head.is_get() {
                 return Ok(Asked::Refused(SwiftRefusal::NotBuilt));
             }
-            Ok(list_asked(largest, container, query, head))
+            Ok(list_asked(largest, name_of(container), query, head))
         }
     }
 }

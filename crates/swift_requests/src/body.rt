@@ -1,14 +1,10 @@
 //! What becomes of the bytes behind a head.
-ghost use Rattle.std.specs.Prelude.{◌≡◌, ◌&&◌, codes};
-ghost use Rattle.http1.specs.Text.{eq_ignore_case};
-ghost use Rattle.http_model.specs.Forms.{lists_close, is_continue, wants_close, waits};
+ghost use Rattle.std.specs.Prelude.{◌≡◌, ◌&&◌};
+ghost use Rattle.http_model.specs.Forms.{wants_close, waits};
 ghost use Rattle.swift_requests.specs.Bodies.{is_within, unwanted, body_use, is_unread, is_awaited, closes};
 
 use crate::Asked;
-use http_model::{Field, Framing, Head, REQUEST_LIMIT};
-use http1::Header;
-use http1::fields::KnownFields;
-use http1::text::eq_ignore_case;
+use http_model::{Framing, Head, REQUEST_LIMIT, waits_for_continue};
 use swift_reply::SwiftRefusal;
 
 /// What becomes of the bytes behind a head.
@@ -35,36 +31,12 @@ fn is_within(largest: u64, framing: Framing) -> bool
     }
 }
 
-fn is_waiting(field: &Field) -> bool
-    ensures { result ≡ (eq_ignore_case field.now.name (codes "expect") && is_continue field.now.value) }
-{
-    eq_ignore_case(field.name.as_bytes(), b"expect")
-        && eq_ignore_case(field.value.as_slice(), b"100-continue")
-}
-
 /// Whether some Expect field waits for a 100 (RFC 9110, section 10.1.1).
 #[tactic(auto, unfolding(http_model::specs::Forms::waits))]
 fn waits(head: &Head) -> bool
     ensures { result ≡ waits head.now }
 {
-    head.fields.as_slice().iter().any(|field| is_waiting(field))
-}
-
-/// Whether the value is a list by commas with `close` in it, in any case (RFC 9110, section 7.6.1).
-fn lists_close(value: &[u8]) -> bool
-    ensures { result ≡ lists_close value.now }
-{
-    let connection = [Header {
-        name: b"connection",
-        value,
-    }];
-    KnownFields::from_headers(&connection).close
-}
-
-fn is_closing(field: &Field) -> bool
-    ensures { result ≡ (eq_ignore_case field.now.name (codes "connection") && lists_close field.now.value) }
-{
-    eq_ignore_case(field.name.as_bytes(), b"connection") && lists_close(field.value.as_slice())
+    waits_for_continue(&head.fields)
 }
 
 /// Whether some Connection field lists `close`.
@@ -72,7 +44,7 @@ fn is_closing(field: &Field) -> bool
 fn wants_close(head: &Head) -> bool
     ensures { result ≡ wants_close head.now }
 {
-    head.fields.as_slice().iter().any(|field| is_closing(field))
+    http_model::wants_close(&head.fields)
 }
 
 fn unwanted(largest: u64, head: &Head) -> BodyUse

@@ -12,7 +12,7 @@ use Rattle.realm_model.specs.Owns.{OwnEvent, own_events}
 use Rattle.realm_model.specs.declared.op.Op.{Op}
 use Rattle.realm_model.specs.declared.op.Op.TheVariants.{BucketRead}
 use Rattle.realm_model.specs.declared.event.Reply.{Reply}
-use Rattle.realm_model.specs.declared.event.Reply.TheVariants.{Row, Stats}
+use Rattle.realm_model.specs.Shown.{row_shown, header_shown}
 use Rattle.swift_auth.specs.declared.policy.Deed.TheVariants.{ListContainer}
 use Rattle.task_words.specs.declared.asker.Asker.{Asker}
 use Rattle.task_words.specs.declared.reply.MapReply.TheVariants.{Counted, Refused}
@@ -80,16 +80,6 @@ after_left moved = if nat_lt moved most_moved then Look else Ended MovedOften
 
 abbrev pub one_moved : ℕ → ℕ
 one_moved moved = min (moved + 1) (2 ^ 32 - 1)
-
--- the row that an answer shows
-abbrev pub row_shown : Reply → Option Bucket
-row_shown (Row row) = Some row
-row_shown reply = None
-
--- the header that an answer shows
-abbrev pub header_shown : Reply → Option ShardStats
-header_shown (Stats s) = Some s
-header_shown reply = None
 
 -- by a shard's header, or that it no longer serves
 abbrev pub header_step : Counting → ℕ → Option ShardStats → Stage × ℕ

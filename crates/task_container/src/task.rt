@@ -1,7 +1,7 @@
 ghost use Rattle.std.specs.Prelude.{◌≡◌, ◌≤◌, IfOk, None};
 ghost use Rattle.realm_model.specs.Settings.{SettingsView};
 ghost use Rattle.realm_model.specs.Doors.{DoorView, actor_at};
-ghost use Rattle.task_container.specs.Stages.{IsOpen, op_of, step_of, row_shown, header_shown, header_step, after_look, after_header, after_left, stage_of, request_of, fault_of, fits};
+ghost use Rattle.task_container.specs.Stages.{IsOpen, op_of, step_of, header_step, after_look, after_header, after_left, stage_of, request_of, fault_of, fits};
 ghost use Rattle.realm_model.specs.Accounts.{blank};
 ghost use Rattle.realm_model.specs.Histories.{account_of};
 
@@ -94,37 +94,11 @@ fn next_stage(asker: &Asker, stage: Stage, moved: u32, reply: Reply) -> (Stage, 
     ensures { result ≡ step_of asker.now stage moved reply }
 {
     match stage {
-        Stage::Look => (stage_by_row(asker, row_in(reply)), moved),
-        Stage::Count(counting) => stage_by_header(counting, moved, header_in(reply)),
+        Stage::Look => (stage_by_row(asker, reply.into_row()), moved),
+        Stage::Count(counting) => stage_by_header(counting, moved, reply.into_stats()),
         Stage::Ended(outcome) => {
             drop(reply);
             (Stage::Ended(outcome), moved)
-        }
-    }
-}
-
-/// The row that an answer shows.
-fn row_in(reply: Reply) -> Option<Bucket>
-    ensures { result ≡ row_shown reply }
-{
-    match reply {
-        Reply::Row(row) => Some(row),
-        other => {
-            drop(other);
-            None
-        }
-    }
-}
-
-/// The header that an answer shows.
-fn header_in(reply: Reply) -> Option<ShardStats>
-    ensures { result ≡ header_shown reply }
-{
-    match reply {
-        Reply::Stats(stats) => Some(stats),
-        other => {
-            drop(other);
-            None
         }
     }
 }

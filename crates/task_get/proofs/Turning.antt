@@ -61,7 +61,8 @@ use Rattle.task_get.specs.Shown.{content_with}
 use Rattle.task_get.specs.Readings.{ReadingView, next_piece}
 use Rattle.task_get.specs.Replies.{reply_of, range_of}
 use Rattle.task_get.specs.Pieces.{first_bytes, bytes_of_slot, brought_by, brought, read_of}
-use Rattle.task_get.specs.Stages.{IsOver, IsOpen, op_of, given_by, row_shown, after_refusal, slot_shown, from_part, after_live, after_head, tail_shown, gone_on, after_tail, step_of, IsBehindRow}
+use Rattle.task_get.specs.Stages.{IsOver, IsOpen, op_of, given_by, after_refusal, slot_shown, from_part, after_live, after_head, tail_shown, gone_on, after_tail, step_of, IsBehindRow}
+use Rattle.realm_model.specs.Shown.{row_shown}
 use Rattle.task_get.specs.Gets.{decision, HasBegun, HasLooked, HasOpened, FitsStage, LastBrings}
 use Rattle.task_get.specs.Tasks.{account_at, phase_at, events_at, bytes_of, given_of, Fits}
 use Rattle.task_get.proofs.Heads.{shown_as, seen_in, has_stripe, between_test}

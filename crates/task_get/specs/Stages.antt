@@ -8,7 +8,8 @@ use Rattle.object_words.specs.declared.why.Why.TheVariants.{Gone as is_gone}
 use Rattle.realm_model.specs.declared.op.Op.{Op}
 use Rattle.realm_model.specs.declared.op.Op.TheVariants.{BucketRead, HeadRead}
 use Rattle.realm_model.specs.declared.event.Reply.{Reply}
-use Rattle.realm_model.specs.declared.event.Reply.TheVariants.{No, Row, Head, Bytes as bytes_reply}
+use Rattle.realm_model.specs.declared.event.Reply.TheVariants.{No, Head, Bytes as bytes_reply}
+use Rattle.realm_model.specs.Shown.{row_shown}
 use Rattle.swift_auth.specs.declared.policy.Deed.TheVariants.{ReadThing}
 use Rattle.task_words.specs.declared.asker.Asker.{Asker}
 use Rattle.task_words.specs.declared.command.GetCommand.{GetCommand}
@@ -68,11 +69,6 @@ op_of r (Tails x) = read_of r.zone x.manifest (next_piece x)
 op_of r stage = BucketRead r.zone r.get.container
 
 -- ---- the row
-
--- the row that an answer shows
-abbrev pub row_shown : Reply → Option Bucket
-row_shown (Row row) = Some row
-row_shown reply = None
 
 -- the row refuses the read, or the head comes next
 abbrev pub after_refusal : Option Refusal → Option Bucket → Stage

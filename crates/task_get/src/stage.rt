@@ -5,7 +5,7 @@ ghost use Rattle.task_words.specs.declared.outcome.Outcome.TheVariants.{Done};
 ghost use Rattle.realm_model.specs.Suits.{Suits};
 ghost use Rattle.realm_model.specs.declared.op.Op.TheVariants.{HeadRead, TailRead};
 ghost use Rattle.task_get.specs.Pieces.{piece_bytes};
-ghost use Rattle.task_get.specs.Stages.{row_shown, slot_shown, tail_shown, after_row, after_live, after_head, gone_on, after_tail};
+ghost use Rattle.task_get.specs.Stages.{slot_shown, tail_shown, after_row, after_live, after_head, gone_on, after_tail};
 
 use crate::answer::{LiveReply, live_reply};
 use crate::piece::Piece;
@@ -43,19 +43,6 @@ pub struct Step {
 pub enum TailShown {
     Bytes(Bytes),
     Gone { clock: u64 },
-}
-
-/// The row that an answer shows.
-pub fn row_in(reply: Reply) -> Option<Bucket>
-    ensures { result ≡ row_shown reply }
-{
-    match reply {
-        Reply::Row(row) => Some(row),
-        other => {
-            drop(other);
-            None
-        }
-    }
 }
 
 /// The slot that an answer to a read of a head shows.

@@ -18,7 +18,7 @@ ghost use Rattle.task_get.specs.Tasks.{request_of, stage_of, fault_of, bytes_of,
 use crate::piece;
 use crate::piece::Piece;
 use crate::request::GetRequest;
-use crate::stage::{Stage, Step, after_head, after_row, after_tail, row_in, slot_in, tail_in};
+use crate::stage::{Stage, Step, after_head, after_row, after_tail, slot_in, tail_in};
 use realm_door::{Door, Task, TaskTurn};
 use realm_model::{Op, Reply};
 use rgw_types::PartNumber;
@@ -201,7 +201,7 @@ fn next_step(request: &GetRequest, stage: Stage, reply: Reply, clock: u64) -> St
 {
     match stage {
         Stage::Look => Step {
-            stage: after_row(&request.asker, row_in(reply)),
+            stage: after_row(&request.asker, reply.into_row()),
             piece: None,
         },
         Stage::Open { .. } => after_head(&request.get, slot_in(reply), clock),

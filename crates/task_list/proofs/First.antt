@@ -22,7 +22,7 @@ use Rattle.task_list.specs.declared.stage.Stage.TheVariants.{Look, Page, Head, S
 use Rattle.task_list.specs.declared.task.ListTask.{ListTask}
 use Rattle.task_list.specs.Listed.{asks_row, IsRefusal}
 use Rattle.task_list.specs.Stages.{IsRowShown}
-use Rattle.task_list.specs.Repairs.{row_shown}
+use Rattle.realm_model.specs.Shown.{row_shown}
 use Rattle.task_list.specs.Tasks.{IsPast, WentOn, AfterRow, Takes, stage_of}
 
 -- a row refuses in three ways

@@ -11,7 +11,8 @@ use Rattle.realm_model.specs.declared.event.Reply.TheVariants.{Head as head_repl
 use Rattle.task_list.specs.declared.request.ListRequest.{ListRequest}
 use Rattle.task_list.specs.declared.stage.Stage.{Stage}
 use Rattle.task_list.specs.declared.stage.Stage.TheVariants.{Look, Page, Head, Suggest, Broken, Ended}
-use Rattle.task_list.specs.Repairs.{Told, page_shown, told_after, told_by, untold, suggestion, owed_by, owed_after, suggested, IsRepairing}
+use Rattle.task_list.specs.Repairs.{Told, told_after, told_by, untold, suggestion, owed_by, owed_after, suggested, IsRepairing}
+use Rattle.realm_model.specs.Shown.{page_shown}
 use Rattle.task_list.specs.Sightings.{IsInOrder, StageTold, owes}
 use Rattle.task_list.specs.Tasks.{IsGoing, op_of, TakesTold, Heard}
 

@@ -18,19 +18,10 @@ use Rattle.realm_model.specs.Owns.{OwnEvent}
 use Rattle.realm_model.specs.declared.op.Op.{Op}
 use Rattle.realm_model.specs.declared.op.Op.TheVariants.{BucketRead, Page, Suggest, HeadRead}
 use Rattle.realm_model.specs.declared.event.Reply.{Reply}
-use Rattle.realm_model.specs.declared.event.Reply.TheVariants.{Row, Entries, Head as head_reply}
+use Rattle.realm_model.specs.declared.event.Reply.TheVariants.{Entries, Head as head_reply}
+use Rattle.realm_model.specs.Shown.{row_shown, page_shown}
 
 -- ---- what answers show
-
--- the row that an answer shows
-abbrev pub row_shown : Reply → Option Bucket
-row_shown (Row row) = Some row
-row_shown reply = None
-
--- the page that an answer shows
-abbrev pub page_shown : Reply → Option EntryPage
-page_shown (Entries page) = Some page
-page_shown reply = None
 
 -- ---- what own events told
 

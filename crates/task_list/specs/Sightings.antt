@@ -11,6 +11,8 @@ use Rattle.object_words.specs.Heads.{row_of}
 use Rattle.object_words.specs.Keys.{shard_key}
 use Rattle.object_words.specs.Names.{name_cmp}
 use Rattle.object_words.specs.Tags.{has_due}
+use Rattle.list_words.specs.declared.command.ListCommand.{ListCommand}
+use Rattle.realm_model.specs.Owns.{OwnEvent}
 use Rattle.realm_model.specs.declared.op.Op.{Op}
 use Rattle.realm_model.specs.declared.op.Op.TheVariants.{Suggest as suggest_op}
 use Rattle.task_list.specs.declared.cursor.Cursor.{Cursor}
@@ -27,6 +29,7 @@ use Rattle.task_list.specs.declared.stage.Stage.{Stage}
 use Rattle.task_list.specs.declared.stage.Stage.TheVariants.{Page, Head, Suggest}
 use Rattle.task_list.specs.Cursors.{left_of}
 use Rattle.task_list.specs.Merges.{cursors_of}
+use Rattle.task_list.specs.Stages.{MergingFits, NextFits}
 use Rattle.task_list.specs.Repairs.{EntrySeen, Told, told_row, seen_on, may_stand, suggestion}
 
 -- ---- pages at hand
@@ -97,6 +100,11 @@ abbrev pub NextTold : Merging → Next → Told → Type 0
 NextTold m (Nexts.Page next) t = MergingTold m (Some next) t
 NextTold m (Nexts.Head wanted) t = WantedTold m wanted t
 NextTold m Nexts.Done t = Unit {0}
+
+-- Names were passed: by the events by which the listing stood, and by what they told, it goes on so.
+pub record PassesNames (command : ListCommand) (old new : Merging) (next : Next) : Type 0 where
+  pub fits : (zone : ℕ) (events : List OwnEvent) → MergingFits zone command old old.used_up events → NextFits zone command new next events
+  pub told : (t : Told) → MergingTold old old.used_up t → NextTold new next t
 
 -- the entries are by rising name
 abbrev pub IsInOrder : Option EntryPage → Type 0

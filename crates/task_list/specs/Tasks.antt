@@ -32,7 +32,8 @@ use Rattle.task_list.specs.declared.stage.Stage.TheVariants.{Look, Page, Head, S
 use Rattle.task_list.specs.declared.task.ListTask.{ListTask}
 use Rattle.task_list.specs.Progresses.{settled_of, rows_in}
 use Rattle.task_list.specs.Listed.{asks_row, asks_page, asks_head, AreOfListing, AreInZone, AreShown, AreUnsettled, IsRefusal, IsListOutcome}
-use Rattle.task_list.specs.Repairs.{row_shown, page_shown, told_by, untold, IsRepairing}
+use Rattle.task_list.specs.Repairs.{told_by, untold, IsRepairing}
+use Rattle.realm_model.specs.Shown.{row_shown, page_shown}
 use Rattle.task_list.specs.Sightings.{StageTold, RowTold, PageTold, HeadTold, OnTold, asks_suggestion, owes}
 use Rattle.task_list.specs.Stages.{IsSettledTo, IsRowShown, MergingFits, HeadFits, IsPageEvent, IsHeadEvent}
 

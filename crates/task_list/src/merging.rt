@@ -84,9 +84,9 @@ impl Merging {
     ghost use Rattle.realm_model.specs.Owns.{OwnEvent};
     ghost use Rattle.list_words.specs.declared.command.ListCommand.{ListCommand as CommandOf};
     ghost use Rattle.task_list.specs.Progresses.{settled_of, rows_in};
-    ghost use Rattle.task_list.specs.Stages.{IsSettledTo, IsRowShown, MergingFits, HeadFits, NextFits, IsPageEvent, IsHeadEvent, row_in};
+    ghost use Rattle.task_list.specs.Stages.{IsSettledTo, IsRowShown, MergingFits, HeadFits, IsPageEvent, IsHeadEvent, row_in};
     ghost use Rattle.task_list.specs.Repairs.{Told, told_row};
-    ghost use Rattle.task_list.specs.Sightings.{MergingTold, NextTold, IsInOrder, with_page};
+    ghost use Rattle.task_list.specs.Sightings.{MergingTold, IsInOrder, with_page, PassesNames};
 
     /// No page came yet.
     pub fn new(alloc: Global, row: Bucket, progress: Progress) -> Merging
@@ -153,11 +153,7 @@ impl Merging {
     /// Passes names up to the first event that is wanted.
     pub fn go_on(&mut self, alloc: Global, command: &ListCommand) -> Result<Next, AllocError>
         ensures row { row_in self.new ≡ row_in self.old }
-        ensures fits { IfOk result (λ next. (zone : ℕ) (events : List OwnEvent)
-            → MergingFits zone command.now self.old self.old.used_up events
-            → NextFits zone command.now self.new next events) }
-        ensures told { IfOk result (λ next. (t : Told)
-            → MergingTold self.old self.old.used_up t → NextTold self.new next t) }
+        ensures passes { IfOk result (PassesNames command.now self.old self.new) }
     {
         let shards = self.row.shards.get();
         if self.unread < shards {
@@ -182,19 +178,15 @@ impl Merging {
     ghost use Rattle.task_list.specs.Cursors.{left_of};
     ghost use Rattle.task_list.specs.Merges.{left_count};
     ghost use Rattle.task_list.specs.Progresses.{settled_of, rows_in};
-    ghost use Rattle.task_list.specs.Stages.{MergingFits, PoppedFits, EntryFits, PassedFits, NextFits, IsRead, IsPlace, row_in};
+    ghost use Rattle.task_list.specs.Stages.{MergingFits, PoppedFits, EntryFits, PassedFits, IsRead, IsPlace, row_in};
     ghost use Rattle.task_list.specs.Repairs.{Told};
-    ghost use Rattle.task_list.specs.Sightings.{MergingTold, PoppedTold, EntryTold, PassedTold, NextTold};
+    ghost use Rattle.task_list.specs.Sightings.{MergingTold, PoppedTold, EntryTold, PassedTold, PassesNames};
 
     /// Passes names, where a page of each shard was asked for.
     fn advance(&mut self, alloc: Global, command: &ListCommand) -> Result<Next, AllocError>
         requires { IsRead self.old }
         ensures row { row_in self.new ≡ row_in self.old }
-        ensures fits { IfOk result (λ next. (zone : ℕ) (events : List OwnEvent)
-            → MergingFits zone command.now self.old self.old.used_up events
-            → NextFits zone command.now self.new next events) }
-        ensures told { IfOk result (λ next. (t : Told)
-            → MergingTold self.old self.old.used_up t → NextTold self.new next t) }
+        ensures passes { IfOk result (PassesNames command.now self.old self.new) }
     {
         'names: loop {
             if self.progress.is_full(command) {

@@ -3,9 +3,9 @@ ghost use Rattle.std.specs.Prelude.{◌≡◌, ◌++◌, ◌∷◌, [], ℕ, tru
 ghost use Rattle.realm_model.specs.Owns.{OwnEvent};
 ghost use Rattle.task_words.specs.Rows.{row_refusal};
 ghost use Rattle.task_list.specs.Progresses.{settled_of, rows_in};
-ghost use Rattle.task_list.specs.Stages.{IsSettledTo, MergingFits, row_in};
+ghost use Rattle.task_list.specs.Stages.{IsSettledTo, MergingFits};
 ghost use Rattle.task_list.specs.Tasks.{KnownFits, WentOn, AfterRow, AfterPage, AfterHead, AfterSuggestion, Takes, TakesTold, head_shown, after_left};
-ghost use Rattle.task_list.specs.Repairs.{row_shown, page_shown, may_stand};
+ghost use Rattle.task_list.specs.Repairs.{may_stand};
 ghost use Rattle.task_list.specs.Sightings.{RowTold, PageTold, HeadTold, OnTold, suggestion_due, asks_suggestion};
 ghost use Rattle.object_words.specs.Heads.{row_of};
 ghost use Rattle.swift_auth.specs.declared.policy.Deed.TheVariants.{ListContainer as to_list};
@@ -101,7 +101,7 @@ pub fn next_stage(
 {
     match stage {
         Stage::Look(known) => {
-            let stage = stage_by_row(alloc, request, known, row_in(reply))?;
+            let stage = stage_by_row(alloc, request, known, reply.into_row())?;
             Ok((stage, moved))
         }
         Stage::Page(merging, next) => {
@@ -111,7 +111,7 @@ pub fn next_stage(
                 merging,
                 next,
                 moved,
-                page_in(reply),
+                reply.into_page(),
             )
         }
         Stage::Head(merging, wanted) => {
@@ -127,32 +127,6 @@ pub fn next_stage(
         stage => {
             drop(reply);
             Ok((stage, moved))
-        }
-    }
-}
-
-/// The row that an answer shows.
-fn row_in(reply: Reply) -> Option<Bucket>
-    ensures { result ≡ row_shown reply }
-{
-    match reply {
-        Reply::Row(row) => Some(row),
-        other => {
-            drop(other);
-            None
-        }
-    }
-}
-
-/// The page that an answer shows.
-fn page_in(reply: Reply) -> Option<EntryPage>
-    ensures { result ≡ page_shown reply }
-{
-    match reply {
-        Reply::Entries(page) => Some(page),
-        other => {
-            drop(other);
-            None
         }
     }
 }

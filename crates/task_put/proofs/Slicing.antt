@@ -37,7 +37,8 @@ use Rattle.task_put.specs.declared.stage.After.{After}
 use Rattle.task_put.specs.declared.stage.After.TheVariants.{Again, End}
 use Rattle.task_put.specs.declared.stage.Stage.{Stage}
 use Rattle.task_put.specs.declared.stage.Stage.TheVariants.{Looking, Feeding, LookingAgain, Preparing, Announcing, Writing, Cancelling, Completing, LookingForShard, Ended}
-use Rattle.task_put.specs.Stages.{IsReady, op_of, content_of, taken, closed, settled, place_of, row_shown, by_first_place, by_place, by_tail, look_again, by_tag, content_back, after_late, by_refusal, by_change, by_cancel, row_back, change_of, by_move, by_completion, step_of}
+use Rattle.task_put.specs.Stages.{IsReady, op_of, content_of, taken, closed, settled, place_of, by_first_place, by_place, by_tail, look_again, by_tag, content_back, after_late, by_refusal, by_change, by_cancel, row_back, change_of, by_move, by_completion, step_of}
+use Rattle.realm_model.specs.Shown.{row_shown}
 use Rattle.task_put.specs.Taking.{fed_request, fed_stage, ended_request, ended_stage, IsTaking}
 use Rattle.task_put.specs.Cuts.{MayFollow, CutBody, IsMade, IsSliced}
 use Rattle.task_words.specs.Cuts.{tails_after, is_changed_after, tails_from, is_changed_from, IsCutAt, AreCutFrom, AreCut}

@@ -16,6 +16,7 @@ use Rattle.realm_model.specs.declared.op.Op.{Op}
 use Rattle.realm_model.specs.declared.op.Op.TheVariants as ops
 use Rattle.realm_model.specs.declared.event.Reply.{Reply}
 use Rattle.realm_model.specs.declared.event.Reply.TheVariants as replies
+use Rattle.realm_model.specs.Shown.{row_shown}
 use Rattle.realm_door.specs.Steps.{back_of}
 use Rattle.swift_auth.specs.declared.policy.Deed.TheVariants.{ChangeThing}
 use Rattle.task_words.specs.declared.command.BodyEnd.{BodyEnd}
@@ -127,11 +128,6 @@ rest_of (LookingForShard change) = LookForShard change
 rest_of (Ended outcome) = Cancel (End outcome)
 
 -- ---- answers
-
--- the row that an answer shows
-abbrev pub row_shown : Reply → Option Bucket
-row_shown (replies.Row row) = Some row
-row_shown reply = None
 
 -- one more, up to the greatest number
 abbrev pub one_more : ℕ → ℕ

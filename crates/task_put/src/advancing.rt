@@ -1,6 +1,7 @@
 // Where an answer brings a PUT.
 ghost use Rattle.std.specs.Prelude.{◌≡◌, option_copied};
-ghost use Rattle.task_put.specs.Stages.{tried_after, row_shown, place_of, by_first_place, by_place, by_tail, look_again, by_tag, after_late, content_back, by_lateness, by_refusal, by_change, by_cancel, look_for_shard, row_back, change_of, by_move, by_completion, shard_for, shard_now, resumed};
+ghost use Rattle.task_put.specs.Stages.{tried_after, place_of, by_first_place, by_place, by_tail, look_again, by_tag, after_late, content_back, by_lateness, by_refusal, by_change, by_cancel, look_for_shard, row_back, change_of, by_move, by_completion, shard_for, shard_now, resumed};
+ghost use Rattle.realm_model.specs.Shown.{row_shown};
 ghost use Rattle.task_put.specs.declared.stage.Stage.TheVariants.{Writing, Completing, Ended};
 ghost use Rattle.task_put.specs.declared.stage.After.TheVariants.{End};
 ghost use Rattle.task_words.specs.declared.outcome.Outcome.TheVariants.{Done};
@@ -69,7 +70,7 @@ fn looked(target: &Target, draft: Draft, answered: Answered) -> Stage
         ..
     } = answered;
     drop(back);
-    let row = row_in(reply);
+    let row = reply.into_row();
     let place = place_of(target, row.as_ref());
     drop(row);
     by_first_place(number, draft, place)
@@ -119,7 +120,7 @@ fn looked_again(target: &Target, content: Content, answered: Answered) -> Stage
 {
     let Answered { reply, back, .. } = answered;
     drop(back);
-    let row = row_in(reply);
+    let row = reply.into_row();
     let place = place_of(target, row.as_ref());
     drop(row);
     by_place(content, place)
@@ -147,23 +148,10 @@ fn shard_looked(target: &Target, change: Change, answered: Answered) -> Stage
 {
     let Answered { reply, back, .. } = answered;
     drop(back);
-    let row = row_in(reply);
+    let row = reply.into_row();
     let key = shard_now(change.home, &target.name, row.as_ref());
     drop(row);
     Stage::Completing { key, change }
-}
-
-/// The row that an answer shows.
-fn row_in(reply: Reply) -> Option<Bucket>
-    ensures { result ≡ row_shown reply }
-{
-    match reply {
-        Reply::Row(row) => Some(row),
-        other => {
-            drop(other);
-            None
-        }
-    }
 }
 
 /// The shard that a row has for a name.

@@ -13,7 +13,8 @@ use Rattle.object_words.specs.Tags.{has_due, tags_due_taken}
 use Rattle.realm_model.specs.declared.op.Op.{Op}
 use Rattle.realm_model.specs.declared.op.Op.TheVariants.{BucketRead, Suggest as suggest_op, HeadRead}
 use Rattle.realm_model.specs.declared.event.Reply.{Reply}
-use Rattle.realm_model.specs.declared.event.Reply.TheVariants.{Done, Row, Entries, Head as head_reply}
+use Rattle.realm_model.specs.declared.event.Reply.TheVariants.{Done, Entries, Head as head_reply}
+use Rattle.realm_model.specs.Shown.{row_shown, page_shown}
 use Rattle.job_words.specs.declared.outcome.JobOutcome.TheVariants.{Repaired, NoBucket}
 use Rattle.task_repair.specs.declared.request.RepairRequest.{RepairRequest}
 use Rattle.task_repair.specs.declared.sheet.Next.{Next}
@@ -46,16 +47,6 @@ op_of r (Suggest p s e shown) =
 op_of r (Ended outcome) = BucketRead r.zone r.bucket
 
 -- ---- answers
-
--- the row that an answer shows
-abbrev pub row_shown : Reply → Option Bucket
-row_shown (Row row) = Some row
-row_shown reply = None
-
--- the page that an answer shows
-abbrev pub page_shown : Reply → Option EntryPage
-page_shown (Entries page) = Some page
-page_shown reply = None
 
 -- what an answer shows of a head
 abbrev pub head_shown : Reply → Option HeadSeen

@@ -4,7 +4,8 @@ ghost use Rattle.realm_model.specs.Doors.{DoorView, actor_at};
 ghost use Rattle.realm_model.specs.Accounts.{blank};
 ghost use Rattle.realm_model.specs.Histories.{account_of};
 ghost use Rattle.realm_model.specs.Owns.{own_events};
-ghost use Rattle.task_repair.specs.Stages.{IsOpen, op_of, row_shown, step_of};
+ghost use Rattle.task_repair.specs.Stages.{IsOpen, op_of, step_of};
+ghost use Rattle.realm_model.specs.Shown.{row_shown};
 ghost use Rattle.task_repair.specs.Tasks.{stage_of, request_of, fault_of, fits};
 
 use crate::request::RepairRequest;

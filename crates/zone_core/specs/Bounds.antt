@@ -1,7 +1,8 @@
 -- How large the objects of a zone can be after so many events: what leaves room for one event more.
-use Rattle.std.specs.Prelude.{ℕ, ◌*◌, ◌^◌, ◌<◌, ◌≤◌, List, IfSome}
+use Rattle.std.specs.Prelude.{◌≡◌, ℕ, ◌*◌, ◌^◌, ◌<◌, ◌≤◌, List, true, IfSome}
 use Rattle.std.specs.List.{AllByRecursion}
 use Rattle.rgw_types.specs.declared.pool_key.Key.{Key}
+use Rattle.object_words.specs.Keys.{is_shard_key}
 use Rattle.object_words.specs.Names.{at}
 use Rattle.object_words.specs.Shards.{Shard, byte_count, object_count, sum_over, tag_count}
 use Rattle.object_pool.specs.Objects.{PoolView}
@@ -30,6 +31,14 @@ pub record IsReady (settings : SettingsView) (zone : ℕ) (pool : PoolView) (st 
   pub stands : Stands settings zone pool st
   pub small : AreSmallBy st.count zone st
   pub few : st.count < 2 ^ 62
+
+-- it has the objects of some zone, with room for one event more
+abbrev pub CanStep : PoolView → Type 0
+CanStep pool = (settings : SettingsView) × (zone : ℕ) × (st : State) × IsReady settings zone pool st
+
+-- and the key is that of a shard
+abbrev pub IsShardReady : Key → PoolView → Type 0
+IsShardReady key pool = (is_shard_key key ≡ true) × CanStep pool
 
 -- the sizes that an operation brings are numbers of 64 bits
 abbrev pub FitsOp : Op → Type 0

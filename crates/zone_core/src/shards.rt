@@ -8,7 +8,7 @@ ghost use Rattle.object_words.specs.Tags.{guard_of, tag_of};
 ghost use Rattle.realm_model.specs.Settings.{SettingsView};
 ghost use Rattle.realm_model.specs.States.{State, at_shard, number_next, touched};
 ghost use Rattle.realm_model.specs.Steps.{change_at, suggest_event_refusal};
-ghost use Rattle.zone_core.specs.Bounds.{IsReady};
+ghost use Rattle.zone_core.specs.Bounds.{IsReady, IsShardReady};
 ghost use Rattle.zone_core.specs.Calls.{refusal_at};
 ghost use Rattle.zone_core.specs.Stands.{Stands};
 
@@ -66,8 +66,7 @@ pub(crate) fn complete_at(
     version: u64,
     row: &EntryRow,
 ) -> Result<(), Why>
-    requires shard { is_shard_key key.now ≡ true }
-    requires ready { (settings : SettingsView) × (zone : ℕ) × (st : State) × IsReady settings zone pool.old st }
+    requires { IsShardReady key.now pool.old }
     ensures { (settings : SettingsView) (zone : ℕ) (st : State) → IsReady settings zone pool.old st
         → let found = st.shards zone key.now in
         Replies result (refusal_at found (λ s. complete_refusal s name.now tag)) (λ _. Unit {0})
@@ -81,8 +80,7 @@ pub(crate) fn complete_at(
 
 /// Cancels a change of a name in the shard of a key.
 pub(crate) fn cancel_at(pool: &mut Pool, key: &Key, name: &ObjectName, tag: u64) -> Result<(), Why>
-    requires shard { is_shard_key key.now ≡ true }
-    requires ready { (settings : SettingsView) × (zone : ℕ) × (st : State) × IsReady settings zone pool.old st }
+    requires { IsShardReady key.now pool.old }
     ensures { (settings : SettingsView) (zone : ℕ) (st : State) → IsReady settings zone pool.old st
         → let found = st.shards zone key.now in
         Replies result (refusal_at found (λ s. complete_refusal s name.now tag)) (λ _. Unit {0})
@@ -104,8 +102,7 @@ pub(crate) fn suggest_at(
     version: u64,
     row: &EntryRow,
 ) -> Result<(), Why>
-    requires shard { is_shard_key key.now ≡ true }
-    requires ready { (settings : SettingsView) × (zone : ℕ) × (st : State) × IsReady settings zone pool.old st }
+    requires { IsShardReady key.now pool.old }
     ensures { (settings : SettingsView) (zone : ℕ) (st : State) → IsReady settings zone pool.old st
         → let found = st.shards zone key.now in
         Replies result (refusal_at found (λ s. suggest_event_refusal s name.now revision seen)) (λ _. Unit {0})

@@ -3,7 +3,7 @@ ghost use Rattle.std.specs.Prelude.{◌≡◌, ◌≤◌, ℕ, Option};
 ghost use Rattle.realm_model.specs.Settings.{SettingsView};
 ghost use Rattle.realm_model.specs.States.{State, number_next};
 ghost use Rattle.realm_model.specs.declared.op.Op.TheVariants.{Announce, BucketRead, BucketSwap, Cancel, Complete, HeadRead, HeadWrite, Page, Prepare, ShardMake, Stats, Suggest, TailMake, TailRead};
-ghost use Rattle.zone_core.specs.Bounds.{IsReady};
+ghost use Rattle.zone_core.specs.Bounds.{CanStep, IsReady};
 ghost use Rattle.zone_core.specs.Calls.{Performs, fault_reply};
 
 use crate::heads::{make_tail_at, read_head, read_tail_at, write_head};
@@ -33,7 +33,7 @@ pub(crate) fn bucket_read(
     pool: &mut Pool,
     name: &BucketName,
 ) -> Result<Reply, OutOfMemory>
-    requires ready { (settings : SettingsView) × (zone : ℕ) × (st : State) × IsReady settings zone pool.old st }
+    requires ready { CanStep pool.old }
     ensures { (settings : SettingsView) (zone : ℕ) (st : State) → IsReady settings zone pool.old st
         → Performs settings zone st (BucketRead zone name.now) result pool.new }
 {
@@ -71,7 +71,7 @@ pub(crate) fn shard_make(
     pool: &mut Pool,
     key: ShardKey,
 ) -> Result<Reply, OutOfMemory>
-    requires ready { (settings : SettingsView) × (zone : ℕ) × (st : State) × IsReady settings zone pool.old st }
+    requires ready { CanStep pool.old }
     ensures { (settings : SettingsView) (zone : ℕ) (st : State) → IsReady settings zone pool.old st
         → Performs settings zone st (ShardMake zone key) result pool.new }
 {
@@ -110,7 +110,7 @@ pub(crate) fn complete(
     version: u64,
     row: &EntryRow,
 ) -> Result<Reply, OutOfMemory>
-    requires ready { (settings : SettingsView) × (zone : ℕ) × (st : State) × IsReady settings zone pool.old st }
+    requires ready { CanStep pool.old }
     ensures { (settings : SettingsView) (zone : ℕ) (st : State) → IsReady settings zone pool.old st
         → Performs settings zone st (Complete zone key name.now tag version row.now) result pool.new }
 {
@@ -127,7 +127,7 @@ pub(crate) fn cancel(
     name: &ObjectName,
     tag: u64,
 ) -> Result<Reply, OutOfMemory>
-    requires ready { (settings : SettingsView) × (zone : ℕ) × (st : State) × IsReady settings zone pool.old st }
+    requires ready { CanStep pool.old }
     ensures { (settings : SettingsView) (zone : ℕ) (st : State) → IsReady settings zone pool.old st
         → Performs settings zone st (Cancel zone key name.now tag) result pool.new }
 {
@@ -147,7 +147,7 @@ pub(crate) fn suggest(
     version: u64,
     row: &EntryRow,
 ) -> Result<Reply, OutOfMemory>
-    requires ready { (settings : SettingsView) × (zone : ℕ) × (st : State) × IsReady settings zone pool.old st }
+    requires ready { CanStep pool.old }
     ensures { (settings : SettingsView) (zone : ℕ) (st : State) → IsReady settings zone pool.old st
         → Performs settings zone st (Suggest zone key name.now revision seen version row.now) result pool.new }
 {
@@ -166,7 +166,7 @@ pub(crate) fn page(
     limit: u32,
     clock: u64,
 ) -> Result<Reply, OutOfMemory>
-    requires ready { (settings : SettingsView) × (zone : ℕ) × (st : State) × IsReady settings zone pool.old st }
+    requires ready { CanStep pool.old }
     ensures { (settings : SettingsView) (zone : ℕ) (st : State) → IsReady settings zone pool.old st → clock ≡ st.clock
         → Performs settings zone st (Page zone key after.now limit) result pool.new }
 {
@@ -178,7 +178,7 @@ pub(crate) fn page(
 }
 
 pub(crate) fn stats(pool: &mut Pool, key: ShardKey) -> Result<Reply, OutOfMemory>
-    requires ready { (settings : SettingsView) × (zone : ℕ) × (st : State) × IsReady settings zone pool.old st }
+    requires ready { CanStep pool.old }
     ensures { (settings : SettingsView) (zone : ℕ) (st : State) → IsReady settings zone pool.old st
         → Performs settings zone st (Stats zone key) result pool.new }
 {
@@ -197,7 +197,7 @@ pub(crate) fn head_read(
     number: u64,
     clock: u64,
 ) -> Result<Reply, OutOfMemory>
-    requires ready { (settings : SettingsView) × (zone : ℕ) × (st : State) × IsReady settings zone pool.old st }
+    requires ready { CanStep pool.old }
     ensures { (settings : SettingsView) (zone : ℕ) (st : State) → IsReady settings zone pool.old st → number ≡ number_next st → clock ≡ st.clock
         → Performs settings zone st (HeadRead zone container name.now) result pool.new }
 {
@@ -240,7 +240,7 @@ pub(crate) fn tail_make(
     part: PartNumber,
     bytes: &[u8],
 ) -> Result<Reply, OutOfMemory>
-    requires ready { (settings : SettingsView) × (zone : ℕ) × (st : State) × IsReady settings zone pool.old st }
+    requires ready { CanStep pool.old }
     ensures { (settings : SettingsView) (zone : ℕ) (st : State) → IsReady settings zone pool.old st
         → Performs settings zone st (TailMake zone write part bytes.now) result pool.new }
 {
@@ -259,7 +259,7 @@ pub(crate) fn tail_read(
     count: u64,
     clock: u64,
 ) -> Result<Reply, OutOfMemory>
-    requires ready { (settings : SettingsView) × (zone : ℕ) × (st : State) × IsReady settings zone pool.old st }
+    requires ready { CanStep pool.old }
     ensures { (settings : SettingsView) (zone : ℕ) (st : State) → IsReady settings zone pool.old st → clock ≡ st.clock
         → Performs settings zone st (TailRead zone write part start count) result pool.new }
 {
@@ -277,7 +277,7 @@ pub(crate) fn announce_shard(
     shard: u32,
     bucket: &BucketName,
 ) -> Result<Reply, OutOfMemory>
-    requires ready { (settings : SettingsView) × (zone : ℕ) × (st : State) × IsReady settings zone pool.old st }
+    requires ready { CanStep pool.old }
     ensures { (settings : SettingsView) (zone : ℕ) (st : State) → IsReady settings zone pool.old st
         → Performs settings zone st (Announce zone container instance shard bucket.now) result pool.new }
 {

@@ -1,14 +1,12 @@
 use Rattle.call_words.specs.Streams.{use_of}
-use Rattle.realm_model.specs.Settings.{SettingsView}
-use Rattle.std.proofs.Common.{◌≡◌, Bool, true, false, not, refl, sym, ap, ◌∙◌, subst, arith}
-use Rattle.call_service.specs.Serving.{IsNew}
+use Rattle.std.proofs.Common.{◌≡◌, Bool, true, false, not, refl, sym, ap, ◌∙◌, arith}
 use Rattle.swift_requests.specs.Asks.{asked_of}
 use Rattle.swift_requests.specs.Bodies.{body_use, is_unread, is_awaited}
 use Rattle.swift_requests.specs.declared.asked.Asked.{Asked}
 use Rattle.call_service.specs.Bodies.{dropped_if}
 use Rattle.swift_requests.specs.declared.asked.Asked.TheVariants as asks
 use Rattle.gateway.specs.Calls.{site_of}
-use Rattle.gateway.proofs.Growing.{new_actor}
+use Rattle.gateway.proofs.Growing.{may_serve}
 use Rattle.gateway.proofs.Fates.{waits_so, refused_waits}
 use Rattle.gateway.proofs.Heads.{put_body, put_use, get_bodiless, get_use, list_use, is_refused}
 use Rattle.gateway.proofs.Joining.{asked_served, asked_left}
@@ -31,28 +29,25 @@ serve_put-requires-clause-form g c κs within =
     let e : asked_of c.args.settings.now.largest c.args.head.now ≡ asks.Put c.in-Put.put = sym c.requires.asks ∙ c.in-Put.is in
     c.requires.form ∙ (put_body c.args.settings.now.largest c.args.head.now c.args.intake.now c.in-Put.put e c.requires.behind).1
 
-pub serve_put-requires-clause-new : goal.serve_put-requires-clause-new
-serve_put-requires-clause-new g c κs within told =
-    let settings = c.begin.ensures.settings ∙ c.requires.site.same in
-    subst (λ (s : SettingsView). IsNew s (g.D.Door.told c.begin.new.self)) (sym settings)
-    (subst (IsNew c.args.settings.now) (sym (c.begin.ensures.begins told)) (new_actor c.args.settings.now (g.D.Door.told c.args.door.now) (c.requires.may told)))
+pub serve_put-requires-clause-ready : goal.serve_put-requires-clause-ready
+serve_put-requires-clause-ready g c κs within =
+    let settings = c.begin.ensures.settings ∙ c.requires.goes.site.same in
+    may_serve g.D.Door.tells c.args.settings.now _ _ c.args.zone (g.D.Door.told c.args.door.now) (g.D.Door.told c.begin.new.self) c.args.user.now c.args.intake.now _ c.requires.goes c.requires.behind.failed c.begin.ensures.begins settings
 
 pub serve_get-requires-clause-form : goal.serve_get-requires-clause-form
 serve_get-requires-clause-form g c κs within =
     let e : asked_of c.args.settings.now.largest c.args.head.now ≡ asks.Get c.in-Get.get = sym c.requires.asks ∙ c.in-Get.is in
     c.requires.form ∙ get_bodiless c.args.settings.now.largest c.args.head.now c.in-Get.get e
 
-pub serve_get-requires-clause-new : goal.serve_get-requires-clause-new
-serve_get-requires-clause-new g c κs within told =
-    let settings = c.begin-in-Get.ensures.settings ∙ c.requires.site.same in
-    subst (λ (s : SettingsView). IsNew s (g.D.Door.told c.begin-in-Get.new.self)) (sym settings)
-    (subst (IsNew c.args.settings.now) (sym (c.begin-in-Get.ensures.begins told)) (new_actor c.args.settings.now (g.D.Door.told c.args.door.now) (c.requires.may told)))
+pub serve_get-requires-clause-ready : goal.serve_get-requires-clause-ready
+serve_get-requires-clause-ready g c κs within =
+    let settings = c.begin-in-Get.ensures.settings ∙ c.requires.goes.site.same in
+    may_serve g.D.Door.tells c.args.settings.now _ _ c.args.zone (g.D.Door.told c.args.door.now) (g.D.Door.told c.begin-in-Get.new.self) c.args.user.now c.args.intake.now _ c.requires.goes c.requires.behind.failed c.begin-in-Get.ensures.begins settings
 
-pub serve_listing-requires-clause-new : goal.serve_listing-requires-clause-new
-serve_listing-requires-clause-new g c κs within told =
-    let settings = c.begin-in-Listing.ensures.settings ∙ c.requires.site.same in
-    subst (λ (s : SettingsView). IsNew s (g.D.Door.told c.begin-in-Listing.new.self)) (sym settings)
-    (subst (IsNew c.args.settings.now) (sym (c.begin-in-Listing.ensures.begins told)) (new_actor c.args.settings.now (g.D.Door.told c.args.door.now) (c.requires.may told)))
+pub serve_listing-requires-clause-ready : goal.serve_listing-requires-clause-ready
+serve_listing-requires-clause-ready g c κs within =
+    let settings = c.begin-in-Listing.ensures.settings ∙ c.requires.goes.site.same in
+    may_serve g.D.Door.tells c.args.settings.now _ _ c.args.zone (g.D.Door.told c.args.door.now) (g.D.Door.told c.begin-in-Listing.new.self) c.args.user.now c.args.intake.now _ c.requires.goes c.requires.behind.failed c.begin-in-Listing.ensures.begins settings
 
 pub serve_get-requires-clause-shut : goal.serve_get-requires-clause-shut
 serve_get-requires-clause-shut g c κs within is =
@@ -79,10 +74,10 @@ returns-in-Ok-clause-served g c =
     let waiting = waits_so c.args.settings.now.largest c.args.head.now asks_so ∙ ap (λ (a : Asked). is_awaited (body_use c.args.settings.now.largest c.args.head.now a)) (sym e) in
     asked_served g.D.Door.tells g.D.Door.alone (site_of c.args.settings.now c.args.zone) c.args.head.now c.args.asked asks_so c.args.form _ _
     (use_of c.args.settings.now.largest c.args.head.now) c.in-Put.is c.serve_put.result
-    (put_served_if g.D.Door.tells g.D.Door.alone (site_of c.args.settings.now c.args.zone) c.args.form c.in-Put.put _ (g.D.Door.told c.begin.new.self) _ c.requires.may c.begin.ensures.begins
+    (put_served_if g.D.Door.tells g.D.Door.alone (site_of c.args.settings.now c.args.zone) c.args.form c.in-Put.put _ (g.D.Door.told c.begin.new.self) _ c.requires.goes.may c.begin.ensures.begins
     c.args.head.now c.requires.behind.failed (use_of c.args.settings.now.largest c.args.head.now) c.is_awaited-waits.result (put_use c.args.settings.now.largest c.args.head.now c.in-Put.put e) waiting
     (c.is_awaited-waits.ensures ∙ ap is_awaited c.requires.used)
-    _ c.serve_put.result (site_is (g.D.Door.settings c.begin.new.self) c.args.settings.now c.args.zone c.in-Ok.asker (c.begin.ensures.settings ∙ c.requires.site.same) c.in-Ok.ensures) c.serve_put.ensures.served)
+    _ c.serve_put.result (site_is (g.D.Door.settings c.begin.new.self) c.args.settings.now c.args.zone c.in-Ok.asker (c.begin.ensures.settings ∙ c.requires.goes.site.same) c.in-Ok.ensures) c.serve_put.ensures.served)
 
 pub returns-in-Ok-clause-left : goal.returns-in-Ok-clause-left
 returns-in-Ok-clause-left g c =
@@ -91,10 +86,10 @@ returns-in-Ok-clause-left g c =
     let waiting = waits_so c.args.settings.now.largest c.args.head.now asks_so ∙ ap (λ (a : Asked). is_awaited (body_use c.args.settings.now.largest c.args.head.now a)) (sym e) in
     asked_left g.D.Door.tells g.D.Door.alone (site_of c.args.settings.now c.args.zone) c.args.head.now c.args.asked asks_so c.args.form _ _
     (use_of c.args.settings.now.largest c.args.head.now) c.in-Put.is (g.D.Door.found c.serve_put.new.door) c.serve_put.result
-    (put_stopped_if g.D.Door.tells g.D.Door.alone (site_of c.args.settings.now c.args.zone) c.args.form c.in-Put.put _ (g.D.Door.told c.begin.new.self) _ c.requires.may c.begin.ensures.begins
+    (put_stopped_if g.D.Door.tells g.D.Door.alone (site_of c.args.settings.now c.args.zone) c.args.form c.in-Put.put _ (g.D.Door.told c.begin.new.self) _ c.requires.goes.may c.begin.ensures.begins
     c.args.head.now c.requires.behind.failed (use_of c.args.settings.now.largest c.args.head.now) c.is_awaited-waits.result (put_use c.args.settings.now.largest c.args.head.now c.in-Put.put e) waiting
     (c.is_awaited-waits.ensures ∙ ap is_awaited c.requires.used)
-    _ (g.D.Door.found c.serve_put.new.door) c.serve_put.result (site_is (g.D.Door.settings c.begin.new.self) c.args.settings.now c.args.zone c.in-Ok.asker (c.begin.ensures.settings ∙ c.requires.site.same) c.in-Ok.ensures) c.serve_put.ensures.stopped)
+    _ (g.D.Door.found c.serve_put.new.door) c.serve_put.result (site_is (g.D.Door.settings c.begin.new.self) c.args.settings.now c.args.zone c.in-Ok.asker (c.begin.ensures.settings ∙ c.requires.goes.site.same) c.in-Ok.ensures) c.serve_put.ensures.stopped)
 
 pub returns-in-Ok-asker_of-clause-served : goal.returns-in-Ok-asker_of-clause-served
 returns-in-Ok-asker_of-clause-served g c =
@@ -103,9 +98,9 @@ returns-in-Ok-asker_of-clause-served g c =
     let quiet = sym (waits_so c.args.settings.now.largest c.args.head.now asks_so ∙ ap (λ (a : Asked). is_awaited (body_use c.args.settings.now.largest c.args.head.now a)) (sym e)) in
     asked_served g.D.Door.tells g.D.Door.alone (site_of c.args.settings.now c.args.zone) c.args.head.now c.args.asked asks_so c.args.form _ _
     (use_of c.args.settings.now.largest c.args.head.now) c.in-Get.is c.serve_get.result
-    (unwanted_served g.D.Door.tells g.D.Door.alone (site_of c.args.settings.now c.args.zone) c.args.form asks_so _ (g.D.Door.told c.begin-in-Get.new.self) _ c.requires.may c.begin-in-Get.ensures.begins
+    (unwanted_served g.D.Door.tells g.D.Door.alone (site_of c.args.settings.now c.args.zone) c.args.form asks_so _ (g.D.Door.told c.begin-in-Get.new.self) _ c.requires.goes.may c.begin-in-Get.ensures.begins
     c.args.head.now (use_of c.args.settings.now.largest c.args.head.now) refl quiet _ (ap (λ b. dropped_if (not b)) (c.is_unread-read.ensures ∙ ap is_unread c.requires.used) ∙ get_use c.args.settings.now.largest c.args.head.now c.in-Get.get e)
-    refl (λ shut. c.requires.shut shut) _ c.serve_get.result (site_is (g.D.Door.settings c.begin-in-Get.new.self) c.args.settings.now c.args.zone c.in-Ok-asker_of.asker (c.begin-in-Get.ensures.settings ∙ c.requires.site.same) c.in-Ok-asker_of.ensures) c.serve_get.ensures.served)
+    refl (λ shut. c.requires.shut shut) _ c.serve_get.result (site_is (g.D.Door.settings c.begin-in-Get.new.self) c.args.settings.now c.args.zone c.in-Ok-asker_of.asker (c.begin-in-Get.ensures.settings ∙ c.requires.goes.site.same) c.in-Ok-asker_of.ensures) c.serve_get.ensures.served)
 
 pub returns-in-Ok-asker_of-clause-left : goal.returns-in-Ok-asker_of-clause-left
 returns-in-Ok-asker_of-clause-left g c =
@@ -114,9 +109,9 @@ returns-in-Ok-asker_of-clause-left g c =
     let quiet = sym (waits_so c.args.settings.now.largest c.args.head.now asks_so ∙ ap (λ (a : Asked). is_awaited (body_use c.args.settings.now.largest c.args.head.now a)) (sym e)) in
     asked_left g.D.Door.tells g.D.Door.alone (site_of c.args.settings.now c.args.zone) c.args.head.now c.args.asked asks_so c.args.form _ _
     (use_of c.args.settings.now.largest c.args.head.now) c.in-Get.is (g.D.Door.found c.serve_get.new.door) c.serve_get.result
-    (unwanted_stopped g.D.Door.tells g.D.Door.alone (site_of c.args.settings.now c.args.zone) c.args.form asks_so _ (g.D.Door.told c.begin-in-Get.new.self) _ c.requires.may c.begin-in-Get.ensures.begins
+    (unwanted_stopped g.D.Door.tells g.D.Door.alone (site_of c.args.settings.now c.args.zone) c.args.form asks_so _ (g.D.Door.told c.begin-in-Get.new.self) _ c.requires.goes.may c.begin-in-Get.ensures.begins
     c.args.head.now (use_of c.args.settings.now.largest c.args.head.now) refl quiet _ (ap (λ b. dropped_if (not b)) (c.is_unread-read.ensures ∙ ap is_unread c.requires.used) ∙ get_use c.args.settings.now.largest c.args.head.now c.in-Get.get e)
-    (g.D.Door.found c.serve_get.new.door) (λ fault x. (g.D.Door.told c.begin-in-Get.new.self, c.begin-in-Get.ensures.begins, x)) _ c.serve_get.result (site_is (g.D.Door.settings c.begin-in-Get.new.self) c.args.settings.now c.args.zone c.in-Ok-asker_of.asker (c.begin-in-Get.ensures.settings ∙ c.requires.site.same) c.in-Ok-asker_of.ensures) c.serve_get.ensures.stopped)
+    (g.D.Door.found c.serve_get.new.door) (λ fault x. (g.D.Door.told c.begin-in-Get.new.self, c.begin-in-Get.ensures.begins, x)) _ c.serve_get.result (site_is (g.D.Door.settings c.begin-in-Get.new.self) c.args.settings.now c.args.zone c.in-Ok-asker_of.asker (c.begin-in-Get.ensures.settings ∙ c.requires.goes.site.same) c.in-Ok-asker_of.ensures) c.serve_get.ensures.stopped)
 
 pub returns-in-Ok-asker_of-2-clause-served : goal.returns-in-Ok-asker_of-2-clause-served
 returns-in-Ok-asker_of-2-clause-served g c =
@@ -125,9 +120,9 @@ returns-in-Ok-asker_of-2-clause-served g c =
     let quiet = sym (waits_so c.args.settings.now.largest c.args.head.now asks_so ∙ ap (λ (a : Asked). is_awaited (body_use c.args.settings.now.largest c.args.head.now a)) (sym e)) in
     asked_served g.D.Door.tells g.D.Door.alone (site_of c.args.settings.now c.args.zone) c.args.head.now c.args.asked asks_so c.args.form _ _
     (use_of c.args.settings.now.largest c.args.head.now) c.in-Listing.is c.serve_listing.result
-    (unwanted_served g.D.Door.tells g.D.Door.alone (site_of c.args.settings.now c.args.zone) c.args.form asks_so _ (g.D.Door.told c.begin-in-Listing.new.self) _ c.requires.may c.begin-in-Listing.ensures.begins
+    (unwanted_served g.D.Door.tells g.D.Door.alone (site_of c.args.settings.now c.args.zone) c.args.form asks_so _ (g.D.Door.told c.begin-in-Listing.new.self) _ c.requires.goes.may c.begin-in-Listing.ensures.begins
     c.args.head.now (use_of c.args.settings.now.largest c.args.head.now) refl quiet _ (ap (λ b. dropped_if (not b)) (c.is_unread-read.ensures ∙ ap is_unread c.requires.used) ∙ list_use c.args.settings.now.largest c.args.head.now c.in-Listing.command c.in-Listing.listing e)
-    refl (λ shut. c.requires.shut shut) _ c.serve_listing.result (site_is (g.D.Door.settings c.begin-in-Listing.new.self) c.args.settings.now c.args.zone c.in-Ok-asker_of-2.asker (c.begin-in-Listing.ensures.settings ∙ c.requires.site.same) c.in-Ok-asker_of-2.ensures) c.serve_listing.ensures.served)
+    refl (λ shut. c.requires.shut shut) _ c.serve_listing.result (site_is (g.D.Door.settings c.begin-in-Listing.new.self) c.args.settings.now c.args.zone c.in-Ok-asker_of-2.asker (c.begin-in-Listing.ensures.settings ∙ c.requires.goes.site.same) c.in-Ok-asker_of-2.ensures) c.serve_listing.ensures.served)
 
 pub returns-in-Ok-asker_of-2-clause-left : goal.returns-in-Ok-asker_of-2-clause-left
 returns-in-Ok-asker_of-2-clause-left g c =
@@ -136,9 +131,9 @@ returns-in-Ok-asker_of-2-clause-left g c =
     let quiet = sym (waits_so c.args.settings.now.largest c.args.head.now asks_so ∙ ap (λ (a : Asked). is_awaited (body_use c.args.settings.now.largest c.args.head.now a)) (sym e)) in
     asked_left g.D.Door.tells g.D.Door.alone (site_of c.args.settings.now c.args.zone) c.args.head.now c.args.asked asks_so c.args.form _ _
     (use_of c.args.settings.now.largest c.args.head.now) c.in-Listing.is (g.D.Door.found c.serve_listing.new.door) c.serve_listing.result
-    (unwanted_stopped g.D.Door.tells g.D.Door.alone (site_of c.args.settings.now c.args.zone) c.args.form asks_so _ (g.D.Door.told c.begin-in-Listing.new.self) _ c.requires.may c.begin-in-Listing.ensures.begins
+    (unwanted_stopped g.D.Door.tells g.D.Door.alone (site_of c.args.settings.now c.args.zone) c.args.form asks_so _ (g.D.Door.told c.begin-in-Listing.new.self) _ c.requires.goes.may c.begin-in-Listing.ensures.begins
     c.args.head.now (use_of c.args.settings.now.largest c.args.head.now) refl quiet _ (ap (λ b. dropped_if (not b)) (c.is_unread-read.ensures ∙ ap is_unread c.requires.used) ∙ list_use c.args.settings.now.largest c.args.head.now c.in-Listing.command c.in-Listing.listing e)
-    (g.D.Door.found c.serve_listing.new.door) (λ fault x. (g.D.Door.told c.begin-in-Listing.new.self, c.begin-in-Listing.ensures.begins, x)) _ c.serve_listing.result (site_is (g.D.Door.settings c.begin-in-Listing.new.self) c.args.settings.now c.args.zone c.in-Ok-asker_of-2.asker (c.begin-in-Listing.ensures.settings ∙ c.requires.site.same) c.in-Ok-asker_of-2.ensures) c.serve_listing.ensures.stopped)
+    (g.D.Door.found c.serve_listing.new.door) (λ fault x. (g.D.Door.told c.begin-in-Listing.new.self, c.begin-in-Listing.ensures.begins, x)) _ c.serve_listing.result (site_is (g.D.Door.settings c.begin-in-Listing.new.self) c.args.settings.now c.args.zone c.in-Ok-asker_of-2.asker (c.begin-in-Listing.ensures.settings ∙ c.requires.goes.site.same) c.in-Ok-asker_of-2.ensures) c.serve_listing.ensures.stopped)
 
 pub returns-in_default-clause-served : goal.returns-in_default-clause-served
 returns-in_default-clause-served g c =
@@ -146,7 +141,7 @@ returns-in_default-clause-served g c =
     let plan_by = c.requires.used ∙ ap (body_use c.args.settings.now.largest c.args.head.now) (sym c.requires.asks) in
     refused_served g.D.Door.tells g.D.Door.alone (site_of c.args.settings.now c.args.zone) c.args.head.now c.args.asked refused c.args.settings.now.largest c.args.plan plan_by c.args.form
     (λ unread. c.requires.shut (sym (ap is_unread c.requires.used) ∙ unread))
-    (g.D.Door.told c.args.door.now) c.args.intake.now c.serve_refused-served.new.intake _ _ c.requires.may refl c.args.asked (use_of c.args.settings.now.largest c.args.head.now) c.serve_refused-served.result refl c.requires.used c.serve_refused-served.ensures.served
+    (g.D.Door.told c.args.door.now) c.args.intake.now c.serve_refused-served.new.intake _ _ c.requires.goes.may refl c.args.asked (use_of c.args.settings.now.largest c.args.head.now) c.serve_refused-served.result refl c.requires.used c.serve_refused-served.ensures.served
 
 pub returns-in_default-clause-left : goal.returns-in_default-clause-left
 returns-in_default-clause-left g c =
@@ -154,4 +149,4 @@ returns-in_default-clause-left g c =
     let plan_by = c.requires.used ∙ ap (body_use c.args.settings.now.largest c.args.head.now) (sym c.requires.asks) in
     refused_left g.D.Door.tells g.D.Door.alone (site_of c.args.settings.now c.args.zone) c.args.head.now c.args.asked refused c.args.settings.now.largest c.args.plan plan_by c.args.form
     (λ unread. c.requires.shut (sym (ap is_unread c.requires.used) ∙ unread))
-    (g.D.Door.told c.args.door.now) c.args.intake.now c.serve_refused-served.new.intake _ _ c.requires.may refl (g.D.Door.found c.args.door.now) c.args.asked (use_of c.args.settings.now.largest c.args.head.now) c.serve_refused-served.result refl c.requires.used c.serve_refused-served.ensures.left
+    (g.D.Door.told c.args.door.now) c.args.intake.now c.serve_refused-served.new.intake _ _ c.requires.goes.may refl (g.D.Door.found c.args.door.now) c.args.asked (use_of c.args.settings.now.largest c.args.head.now) c.serve_refused-served.result refl c.requires.used c.serve_refused-served.ensures.left

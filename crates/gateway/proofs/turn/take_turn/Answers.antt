@@ -10,7 +10,7 @@ pub returns-in-Ok-None-clause-turn : goal.returns-in-Ok-None-clause-turn
 returns-in-Ok-None-clause-turn g c =
     let found = rw c.in-Ok-None.field-0-is at (c.in-Ok-None.ensures.found c.requires.ready.0) in
     record {
-      turn = end_served g.D.Door.tells g.D.Door.alone (site_of c.args.settings.now c.args.zone) c.args.k (g.D.Door.told c.args.door.now) c.args.intake.now c.next.new.self _ _ c.requires.may
+      turn = end_served g.D.Door.tells g.D.Door.alone (site_of c.args.settings.now c.args.zone) c.args.k (g.D.Door.told c.args.door.now) c.args.intake.now c.next.new.self _ _ c.requires.goes.may
           found.0 found.1 (Appends-nil (g.C.Clock.told c.args.clock.now)) at_clean found.2.0 found.2.1 (Appends-nil (g.K.Sink.taken c.args.sink.now));
       few = omega arith;
       cause = quiet_cause _ _ _ refl (next_good c.args.intake.now.failed (g.S.Source.faults c.args.source.now) (g.S.Source.faults c.next.new.source) _ c.requires.ready.0 c.in-Ok-None.ensures.cause) refl;
@@ -19,7 +19,7 @@ returns-in-Ok-None-clause-turn g c =
 pub returns-in-Err-clause-turn : goal.returns-in-Err-clause-turn
 returns-in-Err-clause-turn g c =
     let found = c.in-Err.ensures.found c.requires.ready.0 in
-    let both = end_comes_to g.D.Door.tells g.D.Door.alone (site_of c.args.settings.now c.args.zone) c.args.k (g.D.Door.told c.args.door.now) c.args.intake.now c.next.new.self _ _ c.requires.may
+    let both = end_comes_to g.D.Door.tells g.D.Door.alone (site_of c.args.settings.now c.args.zone) c.args.k (g.D.Door.told c.args.door.now) c.args.intake.now c.next.new.self _ _ c.requires.goes.may
     found.0 found.1 (Appends-nil (g.C.Clock.told c.args.clock.now)) (g.D.Door.found c.args.door.now) c.in-Err.fault c.end_heads.result found.2.0 c.end_heads.ensures.ended c.end_heads.ensures.left in
     record {
       turn = both.0;

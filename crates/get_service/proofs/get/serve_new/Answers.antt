@@ -35,10 +35,10 @@ returns-then-read-clause-served g c =
     c.serve_task.ensures.served
 
 pub send_reply-requires-clause-up : goal.send_reply-requires-clause-up
-send_reply-requires-clause-up g c κs within = λ tells. ((c.requires.new tells).legal, c.requires.fits tells)
+send_reply-requires-clause-up g c κs within = λ tells. ((c.requires.ready.new tells).legal, c.requires.ready.fits tells)
 
 pub send_reply-requires-clause-none : goal.send_reply-requires-clause-none
-send_reply-requires-clause-none g c κs within = λ tells. ap (brought (request_of c.args.task.now).get) (c.requires.new tells).events
+send_reply-requires-clause-none g c κs within = λ tells. ap (brought (request_of c.args.task.now).get) (c.requires.ready.new tells).events
 
 pub returns-in_err-send_reply-clause-stopped : goal.returns-in_err-send_reply-clause-stopped
 returns-in_err-send_reply-clause-stopped g c =
@@ -56,8 +56,8 @@ returns-in_err-send_reply-clause-stopped g c =
     let p = err_from_is_err_and c.from_residual.result c.from_residual.ensures.1 in
     subst (λ b. IfErr c.from_residual.result (IsStopped g.D.Door.tells g.D.Door.alone (site_of settings r) c.args.form (Get r.get) (dropped_if b) found x y)) (sym is)
     (rw (p.1, p.2)
-    (reply_stops g.D.Door.tells g.D.Door.alone (site_of settings r) c.args.form (Get r.get) Unread found x y unread tt refl c.requires.intake [] (refl, refl, Consumes-nil left) (shut_form c.args.form (c.requires.shut is)) tt
-    d told (none_asks g.D.Door.tells g.D.Door.alone settings d told (λ tells. (c.requires.new tells).legal)) c.in_err-send_reply.field-0.0 c.in_err-send_reply.ensures.stopped))
+    (reply_stops g.D.Door.tells g.D.Door.alone (site_of settings r) c.args.form (Get r.get) Unread found x y unread tt refl c.requires.ready.failed [] (refl, refl, Consumes-nil left) (shut_form c.args.form (c.requires.shut is)) tt
+    d told (none_asks g.D.Door.tells g.D.Door.alone settings d told (λ tells. (c.requires.ready.new tells).legal)) c.in_err-send_reply.field-0.0 c.in_err-send_reply.ensures.stopped))
 
 pub returns-clause-served : goal.returns-clause-served
 returns-clause-served g c =
@@ -72,5 +72,5 @@ returns-clause-served g c =
     let x = side d c.args.intake.now ends in
     let y = side (g.D.Door.told c.send_reply.new.door) c.args.intake.now later in
     subst (λ b. IsServed g.D.Door.tells g.D.Door.alone (site_of settings r) c.args.form (Get r.get) (dropped_if b) x y services.Replied) (sym is)
-    (replied g.D.Door.tells g.D.Door.alone (site_of settings r) c.args.form (Get r.get) Unread (g.D.Door.found c.send_reply.new.door) x y unread tt refl c.requires.intake [] (refl, refl, Consumes-nil left) (shut_form c.args.form (c.requires.shut is)) tt
-    d told (none_asks g.D.Door.tells g.D.Door.alone settings d told (λ tells. (c.requires.new tells).legal)) c.in_ok-send_reply.ensures.asks c.in_ok-send_reply.ensures.written)
+    (replied g.D.Door.tells g.D.Door.alone (site_of settings r) c.args.form (Get r.get) Unread (g.D.Door.found c.send_reply.new.door) x y unread tt refl c.requires.ready.failed [] (refl, refl, Consumes-nil left) (shut_form c.args.form (c.requires.shut is)) tt
+    d told (none_asks g.D.Door.tells g.D.Door.alone settings d told (λ tells. (c.requires.ready.new tells).legal)) c.in_ok-send_reply.ensures.asks c.in_ok-send_reply.ensures.written)

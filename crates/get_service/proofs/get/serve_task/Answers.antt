@@ -22,7 +22,7 @@ use Rattle.call_service.proofs.Replying.{row_stops, body_stops, reply_stops, rep
 use Rattle.get_service.proofs.get.serve_task.Goals as goal
 
 pub act-requires-clause-up : goal.act-requires-clause-up
-act-requires-clause-up g c κs within = λ tells. ((c.requires.new tells).legal, c.requires.fits tells)
+act-requires-clause-up g c κs within = λ tells. ((c.requires.ready.new tells).legal, c.requires.ready.fits tells)
 
 pub returns-in_err-act-clause-stopped : goal.returns-in_err-act-clause-stopped
 returns-in_err-act-clause-stopped g c =
@@ -35,7 +35,7 @@ returns-in_err-act-clause-stopped g c =
     rw (p.1, p.2)
     (row_stops g.D.Door.tells g.D.Door.alone (site_of (g.D.Door.settings c.args.door.now) (request_of c.args.task.now)) c.args.form (Get (request_of c.args.task.now).get) Dropped (g.D.Door.found c.act.new.door)
     (side (g.D.Door.told c.args.door.now) c.args.intake.now ends) (side (g.D.Door.told c.act.new.door) c.args.intake.now later) c.in_err-act.field-0.0 now.fault
-    (none_begun Dropped c.args.intake.now left c.requires.intake)
+    (none_begun Dropped c.args.intake.now left c.requires.ready.failed)
     (record { unwritten = Appends-nil taken; asks = now.unasked }))
 
 pub returns-in_err-end-clause-stopped : goal.returns-in_err-end-clause-stopped
@@ -74,7 +74,7 @@ returns-in_err-send_reply-in-Whole-clause-stopped g c =
     (subst (λ q. StopsReply tells alone (g.D.Door.settings c.act.new.door) c.args.form q found (stand d taken mid) (stand e now told) fault) before.request c.in_err-send_reply-in-Whole.ensures.stopped) in
     let p = err_from_is_err_and c.from_residual-in_err-send_reply-in-Whole.result c.from_residual-in_err-send_reply-in-Whole.ensures.1 in
     rw (p.1, p.2)
-    (reply_stops tells alone (site_of settings r) c.args.form (Get r.get) Dropped found x y read_whole tt refl c.requires.intake body.0 body.1 refl tt d mid before.asks fault stops)
+    (reply_stops tells alone (site_of settings r) c.args.form (Get r.get) Dropped found x y read_whole tt refl c.requires.ready.failed body.0 body.1 refl tt d mid before.asks fault stops)
 
 pub returns-in_ok-send_reply-in-Whole-clause-served : goal.returns-in_ok-send_reply-in-Whole-clause-served
 returns-in_ok-send_reply-in-Whole-clause-served g c =
@@ -98,7 +98,7 @@ returns-in_ok-send_reply-in-Whole-clause-served g c =
     let reply = subst (λ s. Replies tells s c.args.form r e (Appends taken now)) before.settings
     (subst (λ q. Replies tells (g.D.Door.settings c.act.new.door) c.args.form q e (Appends taken now)) before.request c.in_ok-send_reply-in-Whole.ensures.written) in
     let asks = subst (λ s. Asks tells alone s false d e mid told) before.settings c.in_ok-send_reply-in-Whole.ensures.asks in
-    replied tells alone (site_of settings r) c.args.form (Get r.get) Dropped (g.D.Door.found c.send_reply.new.door) x y read_whole tt refl c.requires.intake body.0 body.1 refl tt d mid before.asks asks reply
+    replied tells alone (site_of settings r) c.args.form (Get r.get) Dropped (g.D.Door.found c.send_reply.new.door) x y read_whole tt refl c.requires.ready.failed body.0 body.1 refl tt d mid before.asks asks reply
 
 pub end_early-requires-clause-wrong : goal.end_early-requires-clause-wrong
 end_early-requires-clause-wrong g c κs within = wrong_of c.in_ok-end.end c.in_default.not-Whole c.in_default.not-Cut
@@ -115,14 +115,14 @@ returns-in_default-clause-served g c =
     let y = side d c.drop_body.new.intake later in
     let stage = stage_of c.act.new.task in
     let wrong = wrong_of c.in_ok-end.end c.in_default.not-Whole c.in_default.not-Cut in
-    let first = before.looked c.requires.looks in
+    let first = before.looked c.requires.ready.looks in
     let right : g.D.Door.tells → BearsOut (site_of settings r) (Get r.get) (broken_off c.in_ok-end.end) [] (end_at_first stage) [] d =
     λ tells. subst (λ (q : GetRequest). IsBorneOut settings.stripe q.zone q.asker (Get q.get) (broken_off c.in_ok-end.end) [] (end_at_first stage) [] (account_at settings d) (events_at d)) before.request
     (right_at_first settings.stripe (request_of c.act.new.task) c.in_ok-end.end stage (account_at settings d) (phase_at settings d) (events_at d) wrong first (before.up tells).1.stage) in
     IfOk-weaker c.end_early.result _ _
     (λ served ended. early_served g.D.Door.tells g.D.Door.alone (site_of settings r) c.args.form r (g.D.Door.found c.act.new.door) x y (g.C.Clock.told c.act.new.clock) before.asks (λ tells. (before.up tells).0)
     c.in_ok-end.end wrong (breaks_so c.args.intake.now c.drop_body.new.intake ends.left later.left c.in_ok-end.end wrong c.in_ok-end.ensures.dropped) stage served first right
-    (subst (λ s. EndsEarly c.args.form s c.in_ok-end.end stage ends.taken later.taken (g.C.Clock.told c.act.new.clock) later.told served) c.requires.span ended))
+    (subst (λ s. EndsEarly c.args.form s c.in_ok-end.end stage ends.taken later.taken (g.C.Clock.told c.act.new.clock) later.told served) c.requires.ready.span_is ended))
     c.end_early.ensures.ended
 
 pub returns-in_default-clause-stopped : goal.returns-in_default-clause-stopped
@@ -137,12 +137,12 @@ returns-in_default-clause-stopped g c =
     let y = side d c.drop_body.new.intake later in
     let stage = stage_of c.act.new.task in
     let wrong = wrong_of c.in_ok-end.end c.in_default.not-Whole c.in_default.not-Cut in
-    let first = before.looked c.requires.looks in
+    let first = before.looked c.requires.ready.looks in
     let right : g.D.Door.tells → BearsOut (site_of settings r) (Get r.get) (broken_off c.in_ok-end.end) [] (end_at_first stage) [] d =
     λ tells. subst (λ (q : GetRequest). IsBorneOut settings.stripe q.zone q.asker (Get q.get) (broken_off c.in_ok-end.end) [] (end_at_first stage) [] (account_at settings d) (events_at d)) before.request
     (right_at_first settings.stripe (request_of c.act.new.task) c.in_ok-end.end stage (account_at settings d) (phase_at settings d) (events_at d) wrong first (before.up tells).1.stage) in
     IfErr-weaker c.end_early.result _ _
     (λ fault left. early_stops g.D.Door.tells g.D.Door.alone (site_of settings r) c.args.form r (g.D.Door.found c.act.new.door) x y (g.C.Clock.told c.act.new.clock) before.asks (λ tells. (before.up tells).0)
     c.in_ok-end.end wrong (breaks_so c.args.intake.now c.drop_body.new.intake ends.left later.left c.in_ok-end.end wrong c.in_ok-end.ensures.dropped) stage fault first right
-    (subst (λ s. LeavesEarly c.args.form s c.in_ok-end.end stage ends.taken later.taken (g.C.Clock.told c.act.new.clock) later.told fault) c.requires.span left))
+    (subst (λ s. LeavesEarly c.args.form s c.in_ok-end.end stage ends.taken later.taken (g.C.Clock.told c.act.new.clock) later.told fault) c.requires.ready.span_is left))
     c.end_early.ensures.left

@@ -26,7 +26,7 @@ use Rattle.call_service.proofs.Replying.{event_stopped, row_stops, body_stops, r
 use Rattle.list_service.proofs.listing.serve_task.Goals as goal
 
 pub act-requires-clause-up : goal.act-requires-clause-up
-act-requires-clause-up g c κs within = λ tells. ((c.requires.new tells).legal, c.requires.fits tells)
+act-requires-clause-up g c κs within = λ tells. ((c.requires.ready.new tells).legal, c.requires.ready.fits tells)
 
 pub returns-in_err-act-clause-stopped : goal.returns-in_err-act-clause-stopped
 returns-in_err-act-clause-stopped g c =
@@ -39,7 +39,7 @@ returns-in_err-act-clause-stopped g c =
     rw (p.1, p.2)
     (row_stops g.D.Door.tells g.D.Door.alone (site_of (g.D.Door.settings c.args.door.now) (request_of c.args.task.now)) c.args.form (asked_by (request_of c.args.task.now) c.args.listing) Dropped (g.D.Door.found c.act.new.door)
     (side (g.D.Door.told c.args.door.now) c.args.intake.now ends) (side (g.D.Door.told c.act.new.door) c.args.intake.now later) (fault_by_door c.in_err-act.field-0.0) (event_stopped g.D.Door.tells (g.D.Door.found c.act.new.door) c.in_err-act.field-0.0 now.worn)
-    (none_begun Dropped c.args.intake.now left c.requires.intake)
+    (none_begun Dropped c.args.intake.now left c.requires.ready.failed)
     (record { unwritten = Appends-nil taken; asks = now.unasked }))
 
 pub returns-in_err-end-clause-stopped : goal.returns-in_err-end-clause-stopped
@@ -78,7 +78,7 @@ returns-in_err-send_reply-in-Whole-clause-stopped g c =
     (subst (λ q. StopsReply tells alone (site_of (g.D.Door.settings c.act.new.door) q) c.args.form (asked_by q c.args.listing) found (stand d taken mid) (stand e now told) fault) before.command c.in_err-send_reply-in-Whole.ensures.stopped) in
     let p = err_from_is_err_and c.from_residual-in_err-send_reply-in-Whole.result c.from_residual-in_err-send_reply-in-Whole.ensures.1 in
     rw (p.1, p.2)
-    (reply_stops tells alone (site_of settings r) c.args.form (asked_by r c.args.listing) Dropped found x y read_whole tt refl c.requires.intake body.0 body.1 refl tt d mid before.asks fault stops)
+    (reply_stops tells alone (site_of settings r) c.args.form (asked_by r c.args.listing) Dropped found x y read_whole tt refl c.requires.ready.failed body.0 body.1 refl tt d mid before.asks fault stops)
 
 pub returns-in_ok-send_reply-in-Whole-clause-served : goal.returns-in_ok-send_reply-in-Whole-clause-served
 returns-in_ok-send_reply-in-Whole-clause-served g c =
@@ -102,7 +102,7 @@ returns-in_ok-send_reply-in-Whole-clause-served g c =
     let reply = subst (λ s. Replies tells (site_of s r) c.args.form (asked_by r c.args.listing) e (Appends taken now)) before.settings
     (subst (λ q. Replies tells (site_of (g.D.Door.settings c.act.new.door) q) c.args.form (asked_by q c.args.listing) e (Appends taken now)) before.command c.in_ok-send_reply-in-Whole.ensures.written) in
     let asks = subst (λ s. Asks tells alone s false d e mid told) before.settings c.in_ok-send_reply-in-Whole.ensures.asks in
-    replied tells alone (site_of settings r) c.args.form (asked_by r c.args.listing) Dropped (g.D.Door.found c.send_reply.new.door) x y read_whole tt refl c.requires.intake body.0 body.1 refl tt d mid before.asks asks reply
+    replied tells alone (site_of settings r) c.args.form (asked_by r c.args.listing) Dropped (g.D.Door.found c.send_reply.new.door) x y read_whole tt refl c.requires.ready.failed body.0 body.1 refl tt d mid before.asks asks reply
 
 pub end_early-requires-clause-wrong : goal.end_early-requires-clause-wrong
 end_early-requires-clause-wrong g c κs within = wrong_of c.in_ok-end.end c.in_default.not-Whole c.in_default.not-Cut
@@ -121,7 +121,7 @@ returns-in_default-clause-served g c =
     let y = side d c.drop_body.new.intake later in
     let stage = stage_of c.act.new.task in
     let wrong = wrong_of c.in_ok-end.end c.in_default.not-Whole c.in_default.not-Cut in
-    let past = before.steps c.requires.looks in
+    let past = before.steps c.requires.ready.looks in
     let broken = breaks_so c.args.intake.now c.drop_body.new.intake ends.left later.left c.in_ok-end.end wrong c.in_ok-end.ensures.dropped in
     let right : is_broken stage ≡ false → g.D.Door.tells → BearsOut (site_of settings r) (asked_by r c.args.listing) (broken_off c.in_ok-end.end) [] (end_at_first stage) [] d =
     λ going tells. subst (λ (q : ListRequest). IsBorneOut settings.stripe q.zone q.asker (asked_by q c.args.listing) (broken_off c.in_ok-end.end) [] (end_at_first stage) [] account events) before.command
@@ -145,7 +145,7 @@ returns-in_default-clause-stopped g c =
     let y = side d c.drop_body.new.intake later in
     let stage = stage_of c.act.new.task in
     let wrong = wrong_of c.in_ok-end.end c.in_default.not-Whole c.in_default.not-Cut in
-    let past = before.steps c.requires.looks in
+    let past = before.steps c.requires.ready.looks in
     let broken = breaks_so c.args.intake.now c.drop_body.new.intake ends.left later.left c.in_ok-end.end wrong c.in_ok-end.ensures.dropped in
     let right : is_broken stage ≡ false → g.D.Door.tells → BearsOut (site_of settings r) (asked_by r c.args.listing) (broken_off c.in_ok-end.end) [] (end_at_first stage) [] d =
     λ going tells. subst (λ (q : ListRequest). IsBorneOut settings.stripe q.zone q.asker (asked_by q c.args.listing) (broken_off c.in_ok-end.end) [] (end_at_first stage) [] account events) before.command

@@ -57,9 +57,9 @@ parts-preserved g c =
       asks = both_ask g.D.Door.tells g.D.Door.alone (g.D.Door.settings c.args.door.now) (g.D.Door.settings c.parts.door) false (g.D.Door.told c.args.door.now) (g.D.Door.told c.parts.door) (g.D.Door.told c.advance.new.door) (g.C.Clock.told c.args.clock.now) (g.C.Clock.told c.parts.clock) (g.C.Clock.told c.advance.new.clock)
           i.settings i.asks
           (subst (λ (p : Pause). Asks g.D.Door.tells g.D.Door.alone (g.D.Door.settings c.parts.door) (is_untold p) (g.D.Door.told c.parts.door) (g.D.Door.told c.advance.new.door) (g.C.Clock.told c.parts.clock) (g.C.Clock.told c.advance.new.clock)) c.in-Wants.is c.in_ok-advance.ensures.asks);
-      settings = c.advance.ensures.settings ∙ i.settings;
-      home = c.advance.ensures.home ∙ i.home;
-      plan = c.advance.ensures.plan ∙ i.plan;
+      settings = c.advance.ensures.stays.settings ∙ i.settings;
+      home = c.advance.ensures.stays.home ∙ i.home;
+      plan = c.advance.ensures.stays.plan ∙ i.plan;
     }
 
 pub returns-in-Over-clause-taken : goal.returns-in-Over-clause-taken

@@ -50,9 +50,9 @@ pieces-init g c =
       );
       up = c.advance.ensures.up;
       asks = subst (λ (p : Pause). Asks g.D.Door.tells g.D.Door.alone (g.D.Door.settings c.args.door.now) (is_untold p) (g.D.Door.told c.args.door.now) (g.D.Door.told c.advance.new.door) (g.C.Clock.told c.args.clock.now) (g.C.Clock.told c.advance.new.clock)) c.in-Wants.is c.in_ok-pause.ensures.asks;
-      settings = c.advance.ensures.settings;
-      home = c.advance.ensures.home;
-      plan = c.advance.ensures.plan;
+      settings = c.advance.ensures.stays.settings;
+      home = c.advance.ensures.stays.home;
+      plan = c.advance.ensures.stays.plan;
     }
 
 pub returns-in_err-feed_all-in-Bytes-clause-fault : goal.returns-in_err-feed_all-in-Bytes-clause-fault
@@ -122,9 +122,9 @@ pieces-preserved g c =
       up = subst (λ (s : SettingsView). IsUp g.D.Door.tells s c.feed_all.new.task (g.D.Door.told c.feed_all.new.door)) i.settings c.feed_all.ensures.up;
       asks = both_ask g.D.Door.tells g.D.Door.alone (g.D.Door.settings c.args.door.now) (g.D.Door.settings c.pieces.door) false (g.D.Door.told c.args.door.now) (g.D.Door.told c.pieces.door) (g.D.Door.told c.feed_all.new.door) (g.C.Clock.told c.args.clock.now) (g.C.Clock.told c.pieces.clock) (g.C.Clock.told c.feed_all.new.clock)
           i.settings i.asks c.in_ok-feed_all-in-Bytes.ensures.asks;
-      settings = c.feed_all.ensures.settings ∙ i.settings;
-      home = c.feed_all.ensures.home ∙ i.home;
-      plan = c.feed_all.ensures.plan ∙ i.plan;
+      settings = c.feed_all.ensures.stays.settings ∙ i.settings;
+      home = c.feed_all.ensures.stays.home ∙ i.home;
+      plan = c.feed_all.ensures.stays.plan ∙ i.plan;
     }
 
 pub returns-in-Ended-clause-taken : goal.returns-in-Ended-clause-taken

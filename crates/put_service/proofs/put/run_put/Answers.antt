@@ -32,7 +32,7 @@ returns-in_err-conclude-in_default-clause-fault g c =
     let y = place (g.D.Door.told c.conclude.new.door) c.take_body.new.intake (g.S.Source.left c.take_body.new.source) (g.C.Clock.told c.conclude.new.clock) in
     let taken = subst (λ (t : Taken). TakesBody c.args.task.now c.take_body.new.task x m t) c.in-Ended.is c.in_ok-take_body.ensures.taken in
     let asks = both_ask g.D.Door.tells g.D.Door.alone (g.D.Door.settings c.args.door.now) (g.D.Door.settings c.take_body.new.door) true x.door m.door y.door x.told m.told y.told
-    c.take_body.ensures.settings c.in_ok-take_body.ensures.asks c.in_err-conclude-in_default.ensures.stopped in
+    c.take_body.ensures.stays.settings c.in_ok-take_body.ensures.asks c.in_err-conclude-in_default.ensures.stopped in
     let stops = step_stops g.D.Door.tells g.D.Door.alone (g.D.Door.settings c.args.door.now) (g.D.Door.found c.conclude.new.door) _ x y
     true c.in_err-conclude-in_default.ensures.fault (begun_to x y taken.0 c.in-Ended.end c.in_default.not-Cut taken.1) asks in
     search (rules, stops)
@@ -46,8 +46,8 @@ returns-in_ok-conclude-in_default-clause-ran g c =
     let end = c.in-Ended.end in
     let told = subst (λ e. EndsSo g.D.Door.tells g.D.Door.alone (g.D.Door.settings c.take_body.new.door) c.conclude.new.task e m.door y.door m.told y.told) c.task_end.ensures c.in_ok-conclude-in_default.ensures.ended in
     concluded g.D.Door.tells g.D.Door.alone (g.D.Door.settings c.args.door.now) (g.D.Door.settings c.take_body.new.door) (request_of c.args.task.now) c.conclude.new.task x y m.door m.told taken.0 end c.in_default.not-Cut
-    c.take_body.ensures.settings taken.1 (c.conclude.ensures.request ∙ ap (λ e. ended_request (request_of c.take_body.new.task) e) c.task_end.ensures ∙ ap (λ r. ended_request r (task_end end)) taken.2.2) c.requires.none c.requires.open c.in_ok-conclude-in_default.ensures.sound
-    (λ tells. subst (λ (s : SettingsView). fits c.conclude.new.task s (g.D.Door.told c.conclude.new.door)) c.take_body.ensures.settings (c.conclude.ensures.up tells).1)
+    c.take_body.ensures.stays.settings taken.1 (c.conclude.ensures.request ∙ ap (λ e. ended_request (request_of c.take_body.new.task) e) c.task_end.ensures ∙ ap (λ r. ended_request r (task_end end)) taken.2.2) c.requires.none c.requires.open c.in_ok-conclude-in_default.ensures.sound
+    (λ tells. subst (λ (s : SettingsView). fits c.conclude.new.task s (g.D.Door.told c.conclude.new.door)) c.take_body.ensures.stays.settings (c.conclude.ensures.up tells).1)
     c.in_ok-take_body.ensures.asks told
 
 pub returns-in-Over-clause-ran : goal.returns-in-Over-clause-ran

@@ -23,7 +23,7 @@ returns-in_err-send_reply-in-Some-clause-stopped g c =
     let old = ends_with (g.S.Source.left c.args.source.now) (g.K.Sink.taken c.args.sink.now) (g.C.Clock.told c.args.clock.now) (g.C.Clock.plan c.args.clock.now) (g.S.Source.faults c.args.source.now) (g.K.Sink.faults c.args.sink.now) in
     let new = ends_with (g.S.Source.left c.run_put.new.source) (g.K.Sink.taken c.send_reply.new.sink) (g.C.Clock.told c.run_put.new.clock) (g.C.Clock.plan c.run_put.new.clock) (g.S.Source.faults c.run_put.new.source) (g.K.Sink.faults c.send_reply.new.sink) in
     let ran = has_run g.D.Door.tells g.D.Door.alone site c.args.form r.command (g.D.Door.told c.args.door.now) (g.D.Door.told c.run_put.new.door) c.args.intake.now c.run_put.new.intake old new
-    c.run_put.new.task r c.in_ok-end.end (first_is r c.requires.fresh.2 c.requires.fresh.3) c.in_default.not-Cut c.in_ok-end.ensures.ran in
+    c.run_put.new.task r c.in_ok-end.end (first_is r c.requires.ready.fresh.2 c.requires.ready.fresh.3) c.in_default.not-Cut c.in_ok-end.ensures.ran in
     let stops = stops_reply g.D.Door.tells g.D.Door.alone site c.args.form r.command (g.D.Door.told c.args.door.now) (g.D.Door.told c.run_put.new.door) c.args.intake.now c.run_put.new.intake old new
     (g.D.Door.found c.run_put.new.door) c.run_put.new.task c.in_ok-end.end c.in-Some.outcome.now _ ran c.in-Some.ensures.stage c.in_err-send_reply-in-Some.ensures.stopped in
     search (rules, stops)
@@ -35,7 +35,7 @@ returns-clause-served g c =
     let old = ends_with (g.S.Source.left c.args.source.now) (g.K.Sink.taken c.args.sink.now) (g.C.Clock.told c.args.clock.now) (g.C.Clock.plan c.args.clock.now) (g.S.Source.faults c.args.source.now) (g.K.Sink.faults c.args.sink.now) in
     let new = ends_with (g.S.Source.left c.run_put.new.source) (g.K.Sink.taken c.send_reply.new.sink) (g.C.Clock.told c.run_put.new.clock) (g.C.Clock.plan c.run_put.new.clock) (g.S.Source.faults c.run_put.new.source) (g.K.Sink.faults c.send_reply.new.sink) in
     let ran = has_run g.D.Door.tells g.D.Door.alone site c.args.form r.command (g.D.Door.told c.args.door.now) (g.D.Door.told c.run_put.new.door) c.args.intake.now c.run_put.new.intake old new
-    c.run_put.new.task r c.in_ok-end.end (first_is r c.requires.fresh.2 c.requires.fresh.3) c.in_default.not-Cut c.in_ok-end.ensures.ran in
+    c.run_put.new.task r c.in_ok-end.end (first_is r c.requires.ready.fresh.2 c.requires.ready.fresh.3) c.in_default.not-Cut c.in_ok-end.ensures.ran in
     rw c.served_so.ensures
     (replied g.D.Door.tells g.D.Door.alone site c.args.form r.command (g.D.Door.told c.args.door.now) (g.D.Door.told c.run_put.new.door) c.args.intake.now c.run_put.new.intake old new
     c.run_put.new.task c.in_ok-end.end c.in-Some.outcome.now c.in_default.not-Cut ran c.in-Some.ensures.stage c.in_ok-send_reply-in-Some.ensures.ok)

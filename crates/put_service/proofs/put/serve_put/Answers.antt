@@ -13,7 +13,7 @@ returns-in_default-clause-stopped g c =
     let site : Site = record { settings = g.D.Door.settings c.args.door.now; zone = c.args.zone; asker = c.args.asker } in
     let old = ends_with (g.S.Source.left c.args.source.now) (g.K.Sink.taken c.args.sink.now) (g.C.Clock.told c.args.clock.now) (g.C.Clock.plan c.args.clock.now) (g.S.Source.faults c.args.source.now) (g.K.Sink.faults c.args.sink.now) in
     nothing_stops c.args.waits g.D.Door.tells g.D.Door.alone site c.args.form c.args.put (g.D.Door.found c.args.door.now) (side (g.D.Door.told c.args.door.now) c.args.intake.now old)
-    c.requires.intake (λ tells. (c.requires.new tells).legal)
+    c.requires.ready.failed (λ tells. (c.requires.ready.new tells).legal)
 
 pub returns-clause-served : goal.returns-clause-served
 returns-clause-served g c =

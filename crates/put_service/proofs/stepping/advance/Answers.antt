@@ -44,7 +44,7 @@ events-preserved g c =
           i.settings i.asks
           (subst (λ (s : Option Pause). Asks g.D.Door.tells g.D.Door.alone (g.D.Door.settings c.events.door) (is_untold_at s) (g.D.Door.told c.events.door) (g.D.Door.told c.take_step.new.door) (g.C.Clock.told c.events.clock) (g.C.Clock.told c.take_step.new.clock)) none c.in_ok-pause.ensures.asks);
       request = c.take_step.ensures.request ∙ i.request;
-      settings = c.take_step.ensures.settings ∙ i.settings;
-      home = c.take_step.ensures.home ∙ i.home;
-      plan = c.take_step.ensures.plan ∙ i.plan;
+      settings = c.take_step.ensures.stays.settings ∙ i.settings;
+      home = c.take_step.ensures.stays.home ∙ i.home;
+      plan = c.take_step.ensures.stays.plan ∙ i.plan;
     }

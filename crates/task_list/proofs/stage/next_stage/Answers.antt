@@ -9,4 +9,4 @@ returns-in-Page-clause-told c =
     IfOk-weaker c.stage_by_page.result _ _
     (λ s told.
     subst (λ stage. TakesTold stage c.args.reply s.0) (sym c.in-Page.is)
-    (subst (λ o. PageTold c.in-Page.merging c.in-Page.next o s.0) c.page_in.ensures told)) c.stage_by_page.ensures.told
+    (subst (λ o. PageTold c.in-Page.merging c.in-Page.next o s.0) c.into_page.ensures told)) c.stage_by_page.ensures.told

@@ -11,15 +11,15 @@ use Rattle.zone_core.proofs.shards.suggest_at.Goals as goal
 
 pub untimely-requires : goal.untimely-requires
 untimely-requires c =
-    let given = c.requires.ready in
-    let here = shard_here given.0 given.1 c.args.pool.now c.args.pool.now given.2 c.args.key.now c.requires.shard given.3.stands (c.in-Some.ensures.found.0 refl) in
+    let given = c.requires.1 in
+    let here = shard_here given.0 given.1 c.args.pool.now c.args.pool.now given.2 c.args.key.now c.requires.0 given.3.stands (c.in-Some.ensures.found.0 refl) in
     (here.0, subst (λ o. IsShard o here.0) (sym c.in-Some.ensures.some.object) here.2)
 
 pub suggest-requires : goal.suggest-requires
 suggest-requires c =
-    let given = c.requires.ready in
+    let given = c.requires.1 in
     let key = c.args.key.now in
-    let here = shard_here given.0 given.1 c.args.pool.now c.args.pool.now given.2 key c.requires.shard given.3.stands (c.in-Some.ensures.found.0 refl) in
+    let here = shard_here given.0 given.1 c.args.pool.now c.args.pool.now given.2 key c.requires.0 given.3.stands (c.in-Some.ensures.found.0 refl) in
     let s = here.0 in
     let is = subst (λ o. IsShard o s) (sym c.in-Some.ensures.some.object) here.2 in (
       s,
@@ -33,7 +33,7 @@ returns c settings zone st ready =
     let p = c.args.pool.now in
     let key = c.args.key.now in
     let name = c.args.name.now in
-    let told = class_replies settings zone p _ st key c.requires.shard ready.stands c.in-Some.shard c.suggest.new.shard (c.in-Some.ensures.found.0 refl) c.in-Some.ensures.some c.suggest.ensures.works (search rules) c.suggest.result
+    let told = class_replies settings zone p _ st key c.requires.0 ready.stands c.in-Some.shard c.suggest.new.shard (c.in-Some.ensures.found.0 refl) c.in-Some.ensures.some c.suggest.ensures.works (search rules) c.suggest.result
     (λ s. suggest_event_refusal s name c.args.revision c.args.seen) (λ s done. Unit {0})
     (λ s. unless_refused (suggest_event_refusal s name c.args.revision c.args.seen) s (suggested s name c.args.revision c.args.seen c.args.version c.args.row.now))
     (λ s found is.

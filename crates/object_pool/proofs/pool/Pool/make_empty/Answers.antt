@@ -1,4 +1,4 @@
-use Rattle.std.proofs.Common.{◌≡◌, ◌+◌, sum_by, ap, ap₂, ◌∙◌}
+use Rattle.std.proofs.Common.{◌≡◌, ◌+◌, sum_by, refl, ap, ap₂, ◌∙◌}
 use Rattle.std.specs.List.{filter}
 use Rattle.std.specs.Map.{set_value}
 use Rattle.object_pool.specs.Parts.{Parts}
@@ -16,16 +16,15 @@ written c =
 pub returns-clause-there : goal.returns-clause-there
 returns-clause-there c = still_there c.args.self.now.slots c.args.key.now c.requires.there _
 
-pub returns-clause-ok : goal.returns-clause-ok
-returns-clause-ok c = ap (λ z. slot_at z c.args.key.now) (written c) ∙ at_key c.args.self.now.slots c.args.key.now c.requires.there nothing
-
-pub returns-clause-objects : goal.returns-clause-objects
-returns-clause-objects c = ap (λ z. filter (λ e. exists e.1) z) (written c) ∙ same_objects c.args.self.now.slots c.args.key.now c.requires.there c.requires.gone
-
-pub returns-clause-all : goal.returns-clause-all
-returns-clause-all c q = ap (λ z. settled (slot_at z q)) (written c) ∙ no_object_changes c.args.self.now.slots c.args.key.now c.requires.there c.requires.gone q
-
-pub returns-clause-sum : goal.returns-clause-sum
-returns-clause-sum c sum =
+pub returns-clause-nothing : goal.returns-clause-nothing
+returns-clause-nothing c =
     let old = c.args.self.now in
-    ap (λ z. old.free + sum_by (λ e. frames_of old.frame e.1) z) (returns-clause-objects c) ∙ sum
+    let slots = old.slots in
+    let same = ap (λ z. filter (λ e. exists e.1) z) (written c) ∙ same_objects slots c.args.key.now c.requires.there c.requires.gone in
+    record {
+      put = ap (λ z. slot_at z c.args.key.now) (written c) ∙ at_key slots c.args.key.now c.requires.there nothing;
+      objects = same;
+      all = λ q. ap (λ z. settled (slot_at z q)) (written c) ∙ no_object_changes slots c.args.key.now c.requires.there c.requires.gone q;
+      counts = record { frame = refl; frames = refl; free = refl };
+      sum = λ sum. ap (λ z. old.free + sum_by (λ e. frames_of old.frame e.1) z) same ∙ sum;
+    }

@@ -10,26 +10,6 @@ use Rattle.task_list.proofs.Telling.{popped_told}
 use Rattle.task_list.proofs.Merged.{done_full, done_none, used_taken, none_taken, popped, read_same}
 use Rattle.task_list.proofs.merging.Merging.advance.Goals as goal
 
-pub returns-then-is_full-clause-fits : goal.returns-then-is_full-clause-fits
-returns-then-is_full-clause-fits c = λ zone events f.
-    let m = c.names.self in
-    done_full zone c.args.command.now m m.used_up events (c.names.invariant.fits zone events f) (sym c.is_full.ensures ∙ c.if-is_full.true)
-
-pub returns-in-Some-clause-fits : goal.returns-in-Some-clause-fits
-returns-in-Some-clause-fits c = λ zone events f.
-    let m = c.names.self in
-    let k = c.args.command.now in
-    let next = c.in-Some.next in
-    let taken = used_taken zone k m next events (sym c.in-Some.ensures.value) (c.names.invariant.fits zone events f) in
-    (subst (λ u. MergingFits zone k (record m { used_up = u }) (Some next) events) (sym c.take.ensures.after) taken, c.take.ensures.after)
-
-pub returns-in_default-pop-clause-fits : goal.returns-in_default-pop-clause-fits
-returns-in_default-pop-clause-fits c = λ zone events f.
-    let m = c.names.self in
-    let k = c.args.command.now in
-    let none = sym c.take.ensures.value ∙ c.in_default.is in
-    done_none zone k m events (subst (λ u. MergingFits zone k m u events) none (c.names.invariant.fits zone events f)) c.names.invariant.read c.in_default-pop.ensures.none
-
 pub names-smaller : goal.names-smaller
 names-smaller c =
     let sum = sum_by_popped (λ (d : Cursor). length (left_of d)) c.in-Some-pop.cursor (cursors_of c.names.self.merge) (cursors_of c.pop.new.self) c.in-Some-pop.ensures.taken in
@@ -53,32 +33,61 @@ names-preserved c =
           (c.in_ok-pass.ensures.fits zone events (popped zone k (record m { used_up = c.take.new.self }) c.pop.new.self c.in-Some-pop.cursor events before c.in-Some-pop.ensures.taken c.in-Some-pop.ensures.least));
     }
 
-pub returns-in-Some-clause-told : goal.returns-in-Some-clause-told
-returns-in-Some-clause-told c = λ t a.
-    let m = c.names.self in
-    subst (λ used. AreTold m.row (cursors_of m.merge) m.unread used t) (sym c.in-Some.ensures.value) (c.names.invariant.told t a)
+pub returns-then-is_full-clause-passes : goal.returns-then-is_full-clause-passes
+returns-then-is_full-clause-passes c = record {
+  fits = λ zone events f.
+      let m = c.names.self in
+      done_full zone c.args.command.now m m.used_up events (c.names.invariant.fits zone events f) (sym c.is_full.ensures ∙ c.if-is_full.true);
+  told = λ t a. tt;
+}
 
-pub returns-in-Head-clause-told : goal.returns-in-Head-clause-told
-returns-in-Head-clause-told c = λ t a.
-    let m = c.names.self in
-    let none = sym c.take.ensures.value ∙ c.in_default.is in
-    subst (λ (p : Passed). PassedTold c.pass.new.self p t) c.in-Head.is
-    (c.in_ok-pass.ensures.told t (popped_told m c.take.new.self c.pop.new.self c.in-Some-pop.cursor t none c.in-Some-pop.ensures.taken (c.names.invariant.told t a)))
+pub returns-in-Some-clause-passes : goal.returns-in-Some-clause-passes
+returns-in-Some-clause-passes c = record {
+  fits = λ zone events f.
+      let m = c.names.self in
+      let k = c.args.command.now in
+      let next = c.in-Some.next in
+      let taken = used_taken zone k m next events (sym c.in-Some.ensures.value) (c.names.invariant.fits zone events f) in
+      (subst (λ u. MergingFits zone k (record m { used_up = u }) (Some next) events) (sym c.take.ensures.after) taken, c.take.ensures.after);
+  told = λ t a.
+      let m = c.names.self in
+      subst (λ used. AreTold m.row (cursors_of m.merge) m.unread used t) (sym c.in-Some.ensures.value) (c.names.invariant.told t a);
+}
 
-pub returns-in-Past-clause-fits : goal.returns-in-Past-clause-fits
-returns-in-Past-clause-fits c = λ zone events f.
-    let m = c.names.self in
-    let k = c.args.command.now in
-    let none = sym c.take.ensures.value ∙ c.in_default.is in
-    let before = none_taken zone k m c.take.new.self events c.take.ensures.after none (c.names.invariant.fits zone events f) in
-    subst (λ (p : Passed). PassedFits zone k c.pass.new.self p events) c.in-Past.is
-    (c.in_ok-pass.ensures.fits zone events (popped zone k (record m { used_up = c.take.new.self }) c.pop.new.self c.in-Some-pop.cursor events before c.in-Some-pop.ensures.taken c.in-Some-pop.ensures.least))
+pub returns-in_default-pop-clause-passes : goal.returns-in_default-pop-clause-passes
+returns-in_default-pop-clause-passes c = record {
+  fits = λ zone events f.
+      let m = c.names.self in
+      let k = c.args.command.now in
+      let none = sym c.take.ensures.value ∙ c.in_default.is in
+      done_none zone k m events (subst (λ u. MergingFits zone k m u events) none (c.names.invariant.fits zone events f)) c.names.invariant.read c.in_default-pop.ensures.none;
+  told = λ t a. tt;
+}
 
-pub returns-in-Head-clause-fits : goal.returns-in-Head-clause-fits
-returns-in-Head-clause-fits c = λ zone events f.
-    let m = c.names.self in
-    let k = c.args.command.now in
-    let none = sym c.take.ensures.value ∙ c.in_default.is in
-    let before = none_taken zone k m c.take.new.self events c.take.ensures.after none (c.names.invariant.fits zone events f) in
-    subst (λ (p : Passed). PassedFits zone k c.pass.new.self p events) c.in-Head.is
-    (c.in_ok-pass.ensures.fits zone events (popped zone k (record m { used_up = c.take.new.self }) c.pop.new.self c.in-Some-pop.cursor events before c.in-Some-pop.ensures.taken c.in-Some-pop.ensures.least))
+pub returns-in-Head-clause-passes : goal.returns-in-Head-clause-passes
+returns-in-Head-clause-passes c = record {
+  fits = λ zone events f.
+      let m = c.names.self in
+      let k = c.args.command.now in
+      let none = sym c.take.ensures.value ∙ c.in_default.is in
+      let before = none_taken zone k m c.take.new.self events c.take.ensures.after none (c.names.invariant.fits zone events f) in
+      subst (λ (p : Passed). PassedFits zone k c.pass.new.self p events) c.in-Head.is
+      (c.in_ok-pass.ensures.fits zone events (popped zone k (record m { used_up = c.take.new.self }) c.pop.new.self c.in-Some-pop.cursor events before c.in-Some-pop.ensures.taken c.in-Some-pop.ensures.least));
+  told = λ t a.
+      let m = c.names.self in
+      let none = sym c.take.ensures.value ∙ c.in_default.is in
+      subst (λ (p : Passed). PassedTold c.pass.new.self p t) c.in-Head.is
+      (c.in_ok-pass.ensures.told t (popped_told m c.take.new.self c.pop.new.self c.in-Some-pop.cursor t none c.in-Some-pop.ensures.taken (c.names.invariant.told t a)));
+}
+
+pub returns-in-Past-clause-passes : goal.returns-in-Past-clause-passes
+returns-in-Past-clause-passes c = record {
+  fits = λ zone events f.
+      let m = c.names.self in
+      let k = c.args.command.now in
+      let none = sym c.take.ensures.value ∙ c.in_default.is in
+      let before = none_taken zone k m c.take.new.self events c.take.ensures.after none (c.names.invariant.fits zone events f) in
+      subst (λ (p : Passed). PassedFits zone k c.pass.new.self p events) c.in-Past.is
+      (c.in_ok-pass.ensures.fits zone events (popped zone k (record m { used_up = c.take.new.self }) c.pop.new.self c.in-Some-pop.cursor events before c.in-Some-pop.ensures.taken c.in-Some-pop.ensures.least));
+  told = λ t a. tt;
+}

@@ -5,15 +5,15 @@ use Rattle.task_list.proofs.Merged.{first_page}
 use Rattle.task_list.proofs.Telling.{told_asked}
 use Rattle.task_list.proofs.merging.Merging.go_on.Goals as goal
 
-pub returns-then-self-shards-clause-fits : goal.returns-then-self-shards-clause-fits
-returns-then-self-shards-clause-fits c = λ zone events f.
-    let m = c.args.self.now in
-    let k = c.args.command.now in
-    let low = subst (λ n. m.unread < n) c.get-shards.ensures.value c.if-self-shards.true in
-    let none = f.waits low in
-    (first_page zone k m (record { shard = m.unread; after = c.in_ok-after.after }) events (subst (λ u. MergingFits zone k m u events) none f) low refl c.in_ok-after.ensures _ refl, none)
-
-pub returns-then-self-shards-clause-told : goal.returns-then-self-shards-clause-told
-returns-then-self-shards-clause-told c = λ t a.
-    let m = c.args.self.now in
-    told_asked m.row (cursors_of m.merge) m.unread _ m.used_up (record { shard = m.unread; after = c.in_ok-after.after }) t refl refl a
+pub returns-then-self-shards-clause-passes : goal.returns-then-self-shards-clause-passes
+returns-then-self-shards-clause-passes c = record {
+  fits = λ zone events f.
+      let m = c.args.self.now in
+      let k = c.args.command.now in
+      let low = subst (λ n. m.unread < n) c.get-shards.ensures.value c.if-self-shards.true in
+      let none = f.waits low in
+      (first_page zone k m (record { shard = m.unread; after = c.in_ok-after.after }) events (subst (λ u. MergingFits zone k m u events) none f) low refl c.in_ok-after.ensures _ refl, none);
+  told = λ t a.
+      let m = c.args.self.now in
+      told_asked m.row (cursors_of m.merge) m.unread _ m.used_up (record { shard = m.unread; after = c.in_ok-after.after }) t refl refl a;
+}
