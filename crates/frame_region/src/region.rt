@@ -1,6 +1,6 @@
-ghost use Rattle.std.specs.Prelude.{◌≡◌, ◌+◌, ◌-◌, ◌*◌, ◌<◌, ◌≤◌, ◌↔◌, length, take, drop, replicate, Some, None, IsErr, IfOk, IfErr, OnOk, OnErr};
+ghost use Rattle.std.specs.Prelude.{◌≡◌, ◌+◌, ◌-◌, ◌*◌, ◌<◌, ◌≤◌, ◌↔◌, [], ◌∷◌, length, take, drop, replicate, Some, None, IsErr, IfOk, IfErr, OnOk, OnErr};
 ghost use Rattle.frame_region.specs.Held.{links_in, bytes_in};
-ghost use Rattle.frame_region.specs.Region.{Owns, AddsRun, KeepsOthers, HasFrameSum, bytes_of, overwritten, with_run};
+ghost use Rattle.frame_region.specs.Region.{Run, Owns, AddsRun, KeepsOthers, HasFrameSum, bytes_of, overwritten, with_run};
 
 use crate::OutOfMemory;
 use crate::cells::Cells;
@@ -120,6 +120,18 @@ impl Region {
         self.cells.set_link(last, NO_FRAME);
         self.free -= n;
         Ok(FrameRun { first, count: n })
+    }
+
+    /// The first byte of the run that begins at this frame. Where none does it is any byte.
+    pub fn first_byte(&self, frame: u32) -> u8
+        ensures { (run : Run) → Owns self.now run → run.first ≡ frame → 0 < run.count → result ∷ [] ≡ take 1 (bytes_of self.now run) }
+    {
+        if frame >= self.cells.count {
+            return 0;
+        }
+        let mut first = [0u8; 1];
+        self.cells.copy_out(frame, 0, &mut first);
+        first[0]
     }
 
     /// Gives the frames of a run back, so that they are free again.

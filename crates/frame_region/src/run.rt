@@ -1,3 +1,5 @@
+ghost use Rattle.std.specs.Prelude.{◌≡◌};
+
 use std::marker::Model;
 
 /// A run of frames that was taken from a region, which has nothing to release it by itself: where it is
@@ -14,4 +16,13 @@ impl Model for FrameRun {
     ghost Value = { Run };
 
     ghost view = { λ r. record { first = r.first; count = r.count } };
+}
+
+impl FrameRun {
+    /// The number of its first frame.
+    pub fn first(&self) -> u32
+        ensures { result ≡ self.now.first }
+    {
+        self.first
+    }
 }

@@ -87,6 +87,11 @@ pub becomes_on_ok : {E : Type 0} (result : Result (Unit {0}) E) (old new : Place
 becomes_on_ok (Ok _) old new is free after key borrow = becomes old new is free after key borrow new.sum old.there
 becomes_on_ok (Err e) old new is free after key borrow = after
 
+-- a later pool that is the same is what that call left
+pub on_ok_same : {T E : Type 0} (result : Result T E) (left now is : PoolView) → OnOk result (left ≡ is) → now ≡ left → OnOk result (now ≡ is)
+on_ok_same (Ok _) left now is done same = same ∙ done
+on_ok_same (Err e) left now is done same = done
+
 -- a call that is not refused was done
 pub done : {E : Type 0} {P : Type 0} (result : Result (Unit {0}) E) (refused : Type 0) → (refused → ⊥) → (IsErr result ↔ refused) → OnOk result P → P
 done (Ok _) refused never only p = p

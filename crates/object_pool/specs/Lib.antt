@@ -1,3 +1,4 @@
+pub mod Labels
 pub mod Lending
 pub mod Objects
 pub mod Parts

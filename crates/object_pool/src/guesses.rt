@@ -3,19 +3,31 @@
 use rgw_types::Key;
 use std::alloc::Global;
 
-// So many guesses stand side by side: with 8 bytes each they fill half a line of a processor's cache.
-const SIDE_BY_SIDE: usize = 4;
+// So many guesses stand side by side: with 12 bytes each they are nearly as long as a line of a processor's cache.
+const SIDE_BY_SIDE: usize = 5;
+
+// Where a key's object may be: its number, and the first of its frames.
+#[derive(Clone, Copy, Debug)]
+pub(crate) struct Spot {
+    pub(crate) number: u32,
+    pub(crate) frame: u32,
+}
 
 #[derive(Clone, Copy, Debug)]
 struct Guess {
     sum: u32,
-    number: u32,
+    spot: Spot,
 }
 
-// No object is guessed to have such a number.
+// No object is guessed to have such a number, nor such a frame.
+const NO_SPOT: Spot = Spot {
+    number: u32::MAX,
+    frame: u32::MAX,
+};
+
 const NO_GUESS: Guess = Guess {
     sum: 0,
-    number: u32::MAX,
+    spot: NO_SPOT,
 };
 
 // The newest guess of a group stands first, and the oldest gives way.
@@ -31,15 +43,15 @@ impl Guesses {
         }
     }
 
-    // The number that the key's object may have.
-    pub(crate) fn number_of(&self, key: &Key) -> usize {
+    // Where the key's object may be.
+    pub(crate) fn spot_of(&self, key: &Key) -> Spot {
         let sum = sum_of(key);
         let Some(group) = self.groups.get(place_of(sum, self.groups.len())) else {
-            return NO_GUESS.number as usize;
+            return NO_SPOT;
         };
         match group.iter().find(|guess| guess.sum == sum) {
-            Some(guess) => guess.number as usize,
-            None => NO_GUESS.number as usize,
+            Some(guess) => guess.spot,
+            None => NO_SPOT,
         }
     }
 
@@ -51,7 +63,22 @@ impl Guesses {
         }
         if let Ok(number) = u32::try_from(number) {
             let sum = sum_of(key);
-            put_first(&mut self.groups, Guess { sum, number });
+            let frame = NO_SPOT.frame;
+            let spot = Spot { number, frame };
+            put_first(&mut self.groups, Guess { sum, spot });
+        }
+    }
+
+    // Guesses this frame from now on, where a number is guessed.
+    pub(crate) fn note_frame(&mut self, key: &Key, frame: u32) {
+        let sum = sum_of(key);
+        let place = place_of(sum, self.groups.len());
+        if let Some(group) = self.groups.get_mut(place) {
+            for guess in group.iter_mut() {
+                if guess.sum == sum {
+                    guess.spot.frame = frame;
+                }
+            }
         }
     }
 
@@ -74,8 +101,8 @@ impl Guesses {
 fn put_first(groups: &mut Vec<[Guess; SIDE_BY_SIDE]>, guess: Guess) {
     let place = place_of(guess.sum, groups.len());
     if let Some(group) = groups.get_mut(place) {
-        let [first, second, third, _] = *group;
-        *group = [guess, first, second, third];
+        let [first, second, third, fourth, _] = *group;
+        *group = [guess, first, second, third, fourth];
     }
 }
 

@@ -3,6 +3,7 @@
 
 mod error;
 mod guesses;
+mod kept_key;
 mod lookup;
 mod object;
 mod place;

@@ -7,13 +7,20 @@ ghost use Rattle.object_pool.specs.Parts.{no_parts};
 use frame_region::FrameRun;
 use omap_pages::{Omap, OutOfMemory};
 use rgw_types::Bytes;
+use smallvec::SmallVec;
 use std::alloc::Global;
 use std::marker::Model;
 
+// Attributes of up to so many bytes stand in place.
+const NEAR_ATTRS: usize = 128;
+
+// The bytes that memory gives at once.
+const LINE: usize = 64;
+
 // The attributes and the rows of an object.
-#[derive(Debug, Drop)]
+#[derive(Drop)]
 pub(crate) struct ObjectParts {
-    attrs: Vec<u8>,
+    attrs: SmallVec<u8, NEAR_ATTRS>,
     rows: Omap,
 }
 
@@ -30,7 +37,7 @@ impl ObjectParts {
         ensures { IfOk result (λ parts. parts ≡ no_parts) }
     {
         Ok(ObjectParts {
-            attrs: Vec::new(alloc),
+            attrs: SmallVec::new(alloc),
             rows: Omap::new(alloc)?,
         })
     }
@@ -46,6 +53,13 @@ impl ObjectParts {
         ensures { result.now ≡ self.now.attrs }
     {
         self.attrs.as_slice()
+    }
+
+    // Reads a byte of each line of memory that short attributes take.
+    pub(crate) fn read_through(&self) -> u8 {
+        let attrs = self.attrs.as_slice();
+        let last = attrs.len().saturating_sub(1);
+        byte_at(attrs, 0) ^ byte_at(attrs, LINE) ^ byte_at(attrs, last)
     }
 
     pub(crate) fn rows(&self) -> &Omap
@@ -64,7 +78,7 @@ impl ObjectParts {
     pub(crate) fn set_attrs(&mut self, attrs: Bytes)
         ensures { self.new ≡ record self.old { attrs = attrs } }
     {
-        self.attrs = attrs.into_vec();
+        self.attrs = kept_attrs(attrs);
     }
 
     pub(crate) fn write_attrs(&mut self, start: usize, bytes: &[u8])
@@ -83,8 +97,24 @@ impl ObjectParts {
     }
 }
 
+// The byte at a place, or 0 past the last one.
+fn byte_at(bytes: &[u8], at: usize) -> u8 {
+    bytes.get(at).copied().unwrap_or(0)
+}
+
+// Attributes to keep, in place where they are short. Takes no memory.
+fn kept_attrs(attrs: Bytes) -> SmallVec<u8, NEAR_ATTRS>
+    ensures { result.items ≡ attrs }
+{
+    let bytes = attrs.into_vec();
+    if bytes.len() > NEAR_ATTRS {
+        return SmallVec::from_vec(bytes);
+    }
+    SmallVec::from_slice(*bytes.allocator(), bytes.as_slice()).unwrap()
+}
+
 // An object as it is kept: the frames with its bytes, how many bytes these are, and the rest.
-#[derive(Debug, Drop)]
+#[derive(Drop)]
 pub(crate) struct Stored {
     pub(crate) run: FrameRun,
     pub(crate) size: u64,
@@ -99,5 +129,10 @@ impl Stored {
         ensures { result ≡ is_stored self.now }
     {
         !(self.size == 0 && self.parts.is_empty())
+    }
+
+    // Reads something of each line of memory that it takes where its attributes are short.
+    pub(crate) fn read_through(&self) -> u8 {
+        (self.size & 0xFF) as u8 ^ self.parts.read_through()
     }
 }

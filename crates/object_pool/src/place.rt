@@ -105,7 +105,9 @@ impl Place<'_> {
         ensures ok { OnOk result (Becomes self.old self.new (record (object_of self.old) { bytes = bytes.now })
             ((pool_of self.old).free - div_ceil (length bytes.now) (pool_of self.old).frame + frames_of (pool_of self.old).frame (object_of self.old))) }
     {
-        self.pool.put_bytes(self.number, self.key, bytes)
+        let done = self.pool.put_bytes(self.number, self.key, bytes);
+        self.pool.note_frame(self.number, self.key);
+        done
     }
 
     /// The attributes, lent.

@@ -34,6 +34,8 @@ pub struct Pool {
     frame: u32,
     objects: Shelf,
     sweep: Sweep,
+    // What was read ahead of a look-up, which says nothing.
+    ahead: u8,
 }
 
 impl Model for Pool {
@@ -67,6 +69,7 @@ impl Pool {
             frame,
             objects: Shelf::new(alloc),
             sweep: Sweep::new(),
+            ahead: 0,
         })
     }
 
@@ -86,11 +89,16 @@ impl Pool {
 
     // The number of the key under which something is kept. The calls below that are told a number try
     // it first, so that with this one they look no key up.
-    pub(crate) fn number_of(&self, key: &Key) -> Option<usize>
-        ensures there { is_some result ≡ is_some (lookup (is_key key.now) self.now.slots) }
-        ensures sum { HasFrameSum self.now }
+    pub(crate) fn number_of(&mut self, key: &Key) -> Option<usize>
+        ensures there { is_some result ≡ is_some (lookup (is_key key.now) self.old.slots) }
+        ensures same { self.new ≡ self.old }
+        ensures sum { HasFrameSum self.old }
     {
-        self.objects.number_of(key)
+        let spot = self.objects.guess(key);
+        let number = spot.number as usize;
+        // Memory gives all pieces of the object at once, where it gave one after another.
+        self.ahead = self.objects.read_through(number) ^ self.region.first_byte(spot.frame);
+        self.objects.number_of(number, key)
     }
 
     // Whether the object exists.
@@ -185,7 +193,7 @@ impl Pool {
             size: 0,
             parts,
         };
-        let number = self.objects.insert(key, object)?;
+        let number = self.objects.insert(alloc, key, object)?;
         Ok(number)
     }
 
@@ -269,6 +277,16 @@ impl Pool {
         let old = replace(&mut object.run, run);
         self.region.give(old);
         Ok(())
+    }
+
+    // Guesses the frame where the bytes at a key begin from now on.
+    pub(crate) fn note_frame(&mut self, number: usize, key: &Key)
+        ensures { self.new ≡ self.old }
+    {
+        if let Some(object) = self.objects.get(number, key) {
+            let frame = object.run.first();
+            self.objects.note_frame(key, frame);
+        }
     }
 
     // Drops the bytes, the attributes and the rows at a key. Spare rows stay.

@@ -13,20 +13,20 @@ ghost use Rattle.object_pool.specs.Stored.{is_stored};
 ghost use Rattle.object_pool.specs.Shelves.{IsShelf, IsSwept, HasKey, is_stored_at, left_of};
 ghost use Rattle.object_pool.specs.ShelfLending.{LendsStored};
 
-use crate::guesses::Guesses;
+use crate::guesses::{Guesses, Spot};
+use crate::kept_key::KeptKey;
 use crate::object::Stored;
 use omap_pages::OutOfMemory;
 use rgw_types::Key;
 use slab::Slab;
 use std::alloc::Global;
-use std::cmp::Ordering;
 use std::collections::BTreeMap;
 use std::marker::Model;
 
 // An object with its key.
-#[derive(Debug, Drop)]
+#[derive(Drop)]
 pub(crate) struct Kept {
-    key: Key,
+    key: KeptKey,
     object: Stored,
 }
 
@@ -67,12 +67,31 @@ impl Shelf {
         self.numbers.len()
     }
 
-    // The number of a key that has something.
-    pub(crate) fn number_of(&self, key: &Key) -> Option<usize>
+    // Where the key's object is guessed to be.
+    pub(crate) fn guess(&self, key: &Key) -> Spot {
+        self.guesses.spot_of(key)
+    }
+
+    // Reads something of each line of memory that what has this number takes.
+    pub(crate) fn read_through(&self, number: usize) -> u8 {
+        match self.kept.get(number) {
+            Some(kept) => kept.object.read_through(),
+            None => 0,
+        }
+    }
+
+    // The number of a key that has something. This one is tried first.
+    pub(crate) fn number_of(&self, number: usize, key: &Key) -> Option<usize>
         ensures { is_some result ≡ is_some (lookup (is_key key.now) self.now) }
     {
-        let guess = self.guesses.number_of(key);
-        locate(&self.numbers, &self.kept, guess, key)
+        locate(&self.numbers, &self.kept, number, key)
+    }
+
+    // Guesses from now on that the key's object begins at this frame.
+    pub(crate) fn note_frame(&mut self, key: &Key, frame: u32)
+        ensures { self.new ≡ self.old }
+    {
+        self.guesses.note_frame(key, frame);
     }
 
     // Looks for the key under this number first from now on.
@@ -105,7 +124,12 @@ impl Shelf {
     }
 
     // Gives a new key an object, and says its number. After an error nothing has changed.
-    pub(crate) fn insert(&mut self, key: &Key, object: Stored) -> Result<usize, OutOfMemory>
+    pub(crate) fn insert(
+        &mut self,
+        alloc: Global,
+        key: &Key,
+        object: Stored,
+    ) -> Result<usize, OutOfMemory>
         requires { IsNone (lookup (is_key key.now) self.old) }
         ensures entries { OnOk result (self.new ≡ insert_entry key_cmp self.old key.now object) }
         ensures found { OnOk result ((q : KeyOf) → lookup (is_key q) self.new
@@ -114,10 +138,10 @@ impl Shelf {
         ensures err { OnErr result (self.new ≡ self.old) }
     {
         self.kept.reserve(1)?;
-        let name = key.clone()?;
+        let own = KeptKey::copy_of(alloc, key)?;
         let number = self.kept.vacant_key();
         self.numbers.insert(key.clone()?, number)?;
-        Ok(self.kept.insert_reserved(Kept { key: name, object }))
+        Ok(self.kept.insert_reserved(Kept { key: own, object }))
     }
 
     // Keeps only the objects that exist. A step for each key, however many numbers there once were.
@@ -165,10 +189,7 @@ fn is_at(kept: &Slab<Kept>, number: usize, key: &Key) -> bool
     ensures { IsTrue result → HasKey kept.now number key.now }
 {
     match kept.get(number) {
-        Some(found) => match key.cmp(&found.key) {
-            Ordering::Equal => true,
-            _ => false,
-        },
+        Some(found) => found.key.is(key),
         None => false,
     }
 }

@@ -377,13 +377,14 @@ fn rows_at_their_greatest(rt: HostRuntime) -> Result<(), Fail> {
     Ok(())
 }
 
-// A guess gives way only where five keys meet in one group, of which there are 512 in the end.
+// A guess gives way only where six keys meet in one group, of which there are 512 in the end.
 #[test]
 fn most_numbers_are_guessed(rt: HostRuntime) {
     let mut guesses = Guesses::new(rt.alloc());
     for number in 0..1_000 {
         guesses.note(rt.alloc(), number, &tail(number as u64), number);
     }
-    let right = (0..1_000).filter(|number| guesses.number_of(&tail(*number as u64)) == *number);
+    let right = (0..1_000).filter(|number| guesses.spot_of(&tail(*number as u64)).number as usize
+        == *number);
     assert!(rt; right.count() >= 900);
 }

@@ -23,6 +23,7 @@ fn show<R: Print>(rt: &R, alloc: Global) -> anyhow::Result<()> {
     let mut rows = SampleRows::new(alloc, 3)?;
     let mut objects = Objects::new(alloc, 3)?;
     println!(rt; "{} rows found", rows.get_some(3))?;
+    println!(rt; "{} objects read", objects.read_some(3)?)?;
     println!(rt; "{} objects changed", objects.change_some(3)?)?;
     Ok(())
 }
@@ -54,13 +55,18 @@ fn measure_rows<R: Clock + Print>(rt: &R, alloc: Global, count: u64) -> anyhow::
 
 fn measure_objects<R: Clock + Print>(rt: &R, alloc: Global, count: u64) -> anyhow::Result<()> {
     let mut objects = Objects::new(alloc, count)?;
-    let mut change = u128::MAX;
+    let (mut read, mut change) = (u128::MAX, u128::MAX);
     for _ in 0..ROUNDS {
+        objects.pick(CALLS)?;
+        let start = Instant::now(rt)?;
+        objects.read_picked()?;
+        read = start.elapsed(rt)?.as_nanos().min(read);
         objects.pick(CALLS)?;
         let start = Instant::now(rt)?;
         objects.change_picked()?;
         change = start.elapsed(rt)?.as_nanos().min(change);
     }
+    println!(rt; "{:>8} read of 5 bytes", read / u128::from(CALLS))?;
     println!(rt;
         "{:>8} find and six calls of the place",
         change / u128::from(CALLS)

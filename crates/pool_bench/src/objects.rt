@@ -26,11 +26,12 @@ pub struct Objects {
 
 impl Objects {
     pub fn new(alloc: Global, count: u64) -> Result<Objects, OutOfMemory> {
-        let mut pool = Pool::new(alloc, 1, 16)?;
+        let count = count.clamp(1, 4_000_000);
+        let mut pool = Pool::new(alloc, count as u32, 16)?;
         for number in 0..count {
             let key = key_of(alloc, number)?;
-            let attrs = Bytes::from_slice(alloc, &[b'a'; 64])?;
-            pool.place(alloc, &key)?.set_attrs(attrs);
+            let attrs = Bytes::from_slice(alloc, &[b'a'; 110])?;
+            put(alloc, &mut pool, &key, attrs)?;
         }
         Ok(Objects {
             alloc,
@@ -63,11 +64,46 @@ impl Objects {
         Ok(changed)
     }
 
+    /// Reads each picked object, and says how many there were.
+    pub fn read_picked(&mut self) -> Result<u64, OutOfMemory> {
+        let mut there = 0_u64;
+        for key in &self.keys {
+            if read(self.alloc, &mut self.pool, key)? {
+                there = there.wrapping_add(1);
+            }
+        }
+        Ok(there)
+    }
+
+    /// Picks some and reads them.
+    pub fn read_some(&mut self, count: u64) -> Result<u64, OutOfMemory> {
+        self.pick(count)?;
+        self.read_picked()
+    }
+
     /// Picks some and changes them.
     pub fn change_some(&mut self, count: u64) -> Result<u64, OutOfMemory> {
         self.pick(count)?;
         self.change_picked()
     }
+}
+
+// Puts an object of five bytes.
+fn put(alloc: Global, pool: &mut Pool, key: &Key, attrs: Bytes) -> Result<(), OutOfMemory> {
+    let mut place = pool.place(alloc, key)?;
+    place.set_attrs(attrs);
+    let _ = place.put_bytes(b"hello");
+    Ok(())
+}
+
+// Copies of the attributes and of the bytes. Are there five of these?
+fn read(alloc: Global, pool: &mut Pool, key: &Key) -> Result<bool, OutOfMemory> {
+    let Some(place) = pool.find(key) else {
+        return Ok(false);
+    };
+    let attrs = Bytes::from_slice(alloc, place.attrs())?;
+    let bytes = place.bytes(alloc, 0, place.size())?;
+    Ok(!attrs.is_empty() && bytes.len() == 5)
 }
 
 // One find and six calls of the place.

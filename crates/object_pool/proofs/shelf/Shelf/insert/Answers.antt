@@ -14,11 +14,11 @@ invariant_of-self c = reserved_shelf c.self.inside.kept c.reserve.new.self _ c.r
 pub returns-in_err-reserve-clause-in_order : goal.returns-in_err-reserve-clause-in_order
 returns-in_err-reserve-clause-in_order c = entries_in_order c.reserve.new.self c.self.inside.numbers.entries c.self.invariant.in_order
 
-pub invariant_of-self-in_err-name : goal.invariant_of-self-in_err-name
-invariant_of-self-in_err-name c = reserved_shelf c.self.inside.kept c.reserve.new.self _ c.reserve.ensures.rest_kept c.self.invariant
+pub invariant_of-self-in_err-own : goal.invariant_of-self-in_err-own
+invariant_of-self-in_err-own c = reserved_shelf c.self.inside.kept c.reserve.new.self _ c.reserve.ensures.rest_kept c.self.invariant
 
-pub returns-in_err-name-clause-in_order : goal.returns-in_err-name-clause-in_order
-returns-in_err-name-clause-in_order c = entries_in_order c.reserve.new.self c.self.inside.numbers.entries c.self.invariant.in_order
+pub returns-in_err-own-clause-in_order : goal.returns-in_err-own-clause-in_order
+returns-in_err-own-clause-in_order c = entries_in_order c.reserve.new.self c.self.inside.numbers.entries c.self.invariant.in_order
 
 pub invariant_of-self-in_err-clone : goal.invariant_of-self-in_err-clone
 invariant_of-self-in_err-clone c = reserved_shelf c.self.inside.kept c.reserve.new.self _ c.reserve.ensures.rest_kept c.self.invariant
@@ -43,8 +43,8 @@ module _ (c : goal.After-insert_reserved) where
   updates : Updates c.reserve.new.self c.insert_reserved.new.self c.vacant_key-number.result (Some (record { key = c.args.key.now; object = c.args.object }))
   updates =
       let number : c.insert_reserved.result ≡ c.vacant_key-number.result = c.insert_reserved.ensures.key ∙ sym c.vacant_key-number.ensures.value in
-      subst (λ k. Updates c.reserve.new.self c.insert_reserved.new.self c.vacant_key-number.result (Some (record { key = k; object = c.args.object }))) c.in_ok-name.ensures.cases
-      (subst (λ m. Updates c.reserve.new.self c.insert_reserved.new.self m (Some (record { key = c.in_ok-name.name; object = c.args.object }))) number c.insert_reserved.ensures.updates)
+      subst (λ k. Updates c.reserve.new.self c.insert_reserved.new.self c.vacant_key-number.result (Some (record { key = k; object = c.args.object }))) c.in_ok-own.ensures
+      (subst (λ m. Updates c.reserve.new.self c.insert_reserved.new.self m (Some (record { key = c.in_ok-own.own; object = c.args.object }))) number c.insert_reserved.ensures.updates)
 
   entries : c.insert.new.self.entries ≡ insert_entry key_cmp c.self.inside.numbers.entries c.args.key.now c.vacant_key-number.result
   entries = c.in_ok-insert.ensures.entries ∙ ap (λ k. insert_entry key_cmp c.self.inside.numbers.entries k c.vacant_key-number.result) c.in_ok-clone.ensures.cases
