@@ -11,7 +11,7 @@ built=$(rt run 2>&1) || {
 }
 [ $# -gt 0 ] || set -- 1000 1000000
 # As `rgw` does: the C library's memory in large pages, where the system gives them to who asks.
-GLIBC_TUNABLES=${GLIBC_TUNABLES-glibc.malloc.hugetlb=1:glibc.malloc.top_pad=67108864}
+GLIBC_TUNABLES=${GLIBC_TUNABLES-glibc.malloc.hugetlb=1:glibc.malloc.top_pad=67108864:glibc.malloc.mmap_threshold=4294967296}
 export GLIBC_TUNABLES
 for heads; do
     ./out/realm_bench "$heads"
