@@ -88,7 +88,7 @@ fn has_counts(stats: &ShardStats, objects: u64, bytes: u64, tags: u64) -> bool {
 
 fn is_meta(pairs: &Pairs, meta: usize) -> bool {
     if meta == 0 {
-        return pairs.is_empty();
+        return pairs.len() == 0;
     }
     let (name, value, size) = meta_pairs(meta);
     let first = pairs.get(name).is_some_and(|text| text.is(value));

@@ -1,5 +1,5 @@
 -- A shard after tags were taken from an entry, and its row was kept or stored.
-use Rattle.std.proofs.Common.{◌≡◌, ℕ, ◌+◌, ◌-◌, ◌≤◌, ◌<◌, ◌^◌, Bool, true, false, cond, List, Some, sym, ap, ◌∙◌, subst, arith}
+use Rattle.std.proofs.Common.{refl, nat_lt, ◌≡◌, ℕ, ◌+◌, ◌-◌, ◌≤◌, ◌<◌, ◌^◌, Bool, true, false, cond, List, Some, sym, ap, ◌∙◌, subst, arith}
 use Rattle.omap_pages.specs.Contents.{Contents, KeepsOtherRooms, KeepsRooms}
 use Rattle.omap_pages.specs.Rows.{value_at}
 use Rattle.omap_pages.specs.Rows as rows
@@ -11,6 +11,7 @@ use Rattle.object_words.specs.Entries.{EntryView, with_tags}
 use Rattle.object_words.specs.Logs.{logged}
 use Rattle.object_words.specs.Names.{with_name}
 use Rattle.object_words.specs.Numbers.{next}
+use Rattle.object_words.specs.ShardCalls.{settled}
 use Rattle.object_words.specs.Shards.{Shard, byte_count, entry_at, object_count, sum_over, tag_count, with_entry}
 use Rattle.index_entry.specs.declared.entry.EntryFront.{EntryFront}
 use Rattle.index_entry.specs.declared.header.ShardHeader.{ShardHeader}
@@ -120,3 +121,8 @@ stored_shard o d m s name tags h g f taken version row is fits bytes attrs count
       rows = logged_rows m d.rows s' name (left_rows o m s name tags h f taken e is here others rooms) (left_named o s name tags h f taken is) (omega (arith, is.small.last)) stored.row stored.others stored.rooms;
       spare = omega (arith, less, is.spare, is.some, spare, stored.spare);
     }
+
+-- a row of a greater version is stored and logged
+pub newer_settled : (s : Shard) (name : List ℕ) (tags : List Tag) (version : ℕ) (row : RowView) → nat_lt (entry_at s name).version version ≡ true
+    → with_entry (record s { log = logged s.log (Name name) }) name (record (with_tags (entry_at s name) tags) { version = version; row = row }) ≡ settled s name tags version row
+newer_settled s name tags version row newer = rw newer refl

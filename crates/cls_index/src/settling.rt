@@ -66,44 +66,8 @@ pub(crate) fn keep_row(
     put_header(shard, &counted);
 }
 
-/// Stores the row of a change in an entry of which tags were taken, and logs it. Takes no memory.
-fn store_row(
-    shard: &mut Place<'_>,
-    name: &ObjectName,
-    header: &ShardHeader,
-    front: &EntryFront,
-    taken: u64,
-    version: u64,
-    row: &EntryRow,
-)
-    requires { (s : ShardOf) × (tags : List TagOf) × IsLeft (object_of shard.old) s name.now tags header.now front.now taken }
-    ensures works { Works shard.old shard.new }
-    ensures shard { (s : ShardOf) (tags : List TagOf) → IsLeft (object_of shard.old) s name.now tags header.now front.now taken
-        → IsShard (object_of shard.new) (with_entry (record s { log = logged s.log (AName name.now) }) name.now (record (with_tags (entry_at s name.now) tags) { version = version; row = row.now })) }
-{
-    let text = bytes_of(name);
-    put_front(
-        shard,
-        text,
-        front,
-        version,
-        front.revision.saturating_add(1),
-        row,
-    );
-    drop_if_empty(shard, text, row.exists, front.tags);
-    log_change(shard, name, header.last + 1);
-    let counted = ShardHeader {
-        objects: header.objects - u64::from(front.exists) + u64::from(row.exists),
-        bytes: header.bytes - u128::from(front.size) + u128::from(row.size),
-        tags: header.tags - taken,
-        last: header.last + 1,
-        ..*header
-    };
-    put_header(shard, &counted);
-}
-
-/// Stores the row of a change in an entry of which tags were taken, where its version is greater than the
-/// entry's. Takes no memory.
+/// Stores the row of a change in an entry of which tags were taken, and logs it, where its version is greater
+/// than the entry's; else stores nothing. Takes no memory.
 pub(crate) fn settle(
     shard: &mut Place<'_>,
     name: &ObjectName,
@@ -118,9 +82,21 @@ pub(crate) fn settle(
     ensures shard { (s : ShardOf) (tags : List TagOf) → IsLeft (object_of shard.old) s name.now tags header.now front.now taken
         → IsShard (object_of shard.new) (settled s name.now tags version row.now) }
 {
+    let text = bytes_of(name);
     if version > front.version {
-        store_row(shard, name, header, front, taken, version, row);
+        let revision = front.revision.saturating_add(1);
+        put_front(shard, text, front, version, revision, row);
+        drop_if_empty(shard, text, row.exists, front.tags);
+        log_change(shard, name, header.last + 1);
+        let counted = ShardHeader {
+            objects: header.objects - u64::from(front.exists) + u64::from(row.exists),
+            bytes: header.bytes - u128::from(front.size) + u128::from(row.size),
+            tags: header.tags - taken,
+            last: header.last + 1,
+            ..*header
+        };
+        put_header(shard, &counted);
     } else {
-        keep_row(shard, bytes_of(name), header, front, taken);
+        keep_row(shard, text, header, front, taken);
     }
 }

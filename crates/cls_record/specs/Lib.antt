@@ -1,2 +1,3 @@
 pub mod BucketRows
+pub mod Changes
 pub mod RootObjects

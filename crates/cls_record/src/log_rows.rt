@@ -6,6 +6,7 @@ ghost use Rattle.object_words.specs.Roots.{Root as RootOf};
 ghost use Rattle.index_entry.specs.Numbers.{number_bytes};
 ghost use Rattle.class_words.specs.LogRows.{log_attrs};
 ghost use Rattle.class_words.specs.Works.{Works};
+ghost use Rattle.cls_record.specs.Changes.{MayLog};
 ghost use Rattle.cls_record.specs.RootObjects.{IsRoot, with_log_row};
 
 use crate::OutOfMemory;
@@ -26,7 +27,7 @@ pub(crate) struct NextRow {
 
 /// Takes the memory for one row more of the log.
 pub(crate) fn ready_log(alloc: Global, root: &mut Place<'_>) -> Result<NextRow, OutOfMemory>
-    requires { (r : RootOf) × IsRoot (object_of root.old) r × (r.log.last < 2 ^ 63) }
+    requires { MayLog root.old }
     ensures readied { Readies root.old root.new }
     ensures next { IfOk result (λ next. (r : RootOf) → IsRoot (object_of root.old) r → r.log.last < 2 ^ 63
         → (next.position ≡ r.log.last + 1) × (next.attrs ≡ number_bytes (r.log.last + 1))) }

@@ -6,6 +6,7 @@ ghost use Rattle.object_words.specs.Names.{at};
 ghost use Rattle.object_words.specs.Roots.{Root as RootOf, swap_refusal, swapped};
 ghost use Rattle.class_words.specs.Works.{Works};
 ghost use Rattle.cls_record.specs.BucketRows.{IsBucket, bucket_bytes};
+ghost use Rattle.cls_record.specs.Changes.{LeavesRoot, MayLog};
 ghost use Rattle.cls_record.specs.RootObjects.{IsBucketName, IsRoot, renewed, with_log_row, with_row};
 
 use crate::OutOfMemory;
@@ -53,7 +54,7 @@ pub fn swap(
     master: bool,
     number: u64,
 ) -> Result<(), ClassFault>
-    requires { (r : RootOf) × IsRoot (object_of root.old) r × (r.log.last < 2 ^ 63) }
+    requires { MayLog root.old }
     ensures works { Works root.old root.new }
     ensures answers { (r : RootOf) → IsRoot (object_of root.old) r → r.log.last < 2 ^ 63
         → Answers result (swap_refusal r name.now expected) (λ _. Unit {0}) (IsRoot (object_of root.new)) r
@@ -78,11 +79,8 @@ fn renew(
     master: bool,
     number: u64,
 ) -> Result<(), OutOfMemory>
-    requires { (r : RootOf) × IsRoot (object_of root.old) r × (r.log.last < 2 ^ 63) }
-    ensures works { Works root.old root.new }
-    ensures ok { OnOk result ((r : RootOf) → IsRoot (object_of root.old) r → r.log.last < 2 ^ 63
-        → IsRoot (object_of root.new) (renewed r name.now (option_map (λ b. b.now) new.entry) master number)) }
-    ensures err { OnErr result ((r : RootOf) → IsRoot (object_of root.old) r → IsRoot (object_of root.new) r) }
+    requires { MayLog root.old }
+    ensures { LeavesRoot root.old root.new result (λ r. renewed r name.now (option_map (λ b. b.now) new.entry) master number) }
 {
     match new {
         Some(new) => put_bucket(alloc, root, name, new, master, number),
@@ -99,11 +97,8 @@ fn put_bucket(
     master: bool,
     number: u64,
 ) -> Result<(), OutOfMemory>
-    requires { (r : RootOf) × IsRoot (object_of root.old) r × (r.log.last < 2 ^ 63) }
-    ensures works { Works root.old root.new }
-    ensures ok { OnOk result ((r : RootOf) → IsRoot (object_of root.old) r → r.log.last < 2 ^ 63
-        → IsRoot (object_of root.new) (renewed r name.now (Some new.now) master number)) }
-    ensures err { OnErr result ((r : RootOf) → IsRoot (object_of root.old) r → IsRoot (object_of root.new) r) }
+    requires { MayLog root.old }
+    ensures { LeavesRoot root.old root.new result (λ r. renewed r name.now (Some new.now) master number) }
 {
     let key = key_of(name);
     let part = shared_bytes(alloc, new)?;
@@ -166,7 +161,7 @@ fn take_bucket(
     name: &BucketName,
     master: bool,
 ) -> Result<(), OutOfMemory>
-    requires { (r : RootOf) × IsRoot (object_of root.old) r × (r.log.last < 2 ^ 63) }
+    requires { MayLog root.old }
     ensures works { Works root.old root.new }
     ensures ok { OnOk result ((number : ℕ) (r : RootOf) → IsRoot (object_of root.old) r → r.log.last < 2 ^ 63
         → IsRoot (object_of root.new) (renewed r name.now None master number)) }

@@ -1,5 +1,5 @@
 // The key of an object that is kept.
-ghost use Rattle.std.specs.Prelude.{◌≡◌, IsTrue, IfOk};
+ghost use Rattle.std.specs.Prelude.{◌≡◌, ◌↔◌, IsTrue, IfOk};
 
 use omap_pages::OutOfMemory;
 use rgw_types::Key;
@@ -51,7 +51,7 @@ impl KeptKey {
 
     // Whether it is a copy of this key.
     pub(crate) fn is(&self, key: &Key) -> bool
-        ensures { IsTrue result → self.now ≡ key.now }
+        ensures { IsTrue result ↔ (self.now ≡ key.now) }
     {
         match (&self.label, key) {
             (

@@ -259,14 +259,14 @@ impl Place<'_> {
     /// nothing has changed.
     #[tactic(auto, using(crate::proofs::PlaceLemmas::rows_now))]
     pub fn reserve_rows(&mut self, _alloc: Global, count: u64) -> Result<(), OutOfMemory>
+        ensures readied { Readies self.old self.new }
         ensures change { ChangesRows self.old self.new }
+        ensures rows { (rows_of self.new).rows ≡ (rows_of self.old).rows }
+        ensures rooms { KeepsRooms (rows_of self.old) (rows_of self.new) }
+        ensures kept { (rows_of self.old).spare ≤ (rows_of self.new).spare }
         ensures ok { OnOk result (count ≤ (rows_of self.new).spare) }
         ensures exact { OnOk result ((rows_of self.new).spare ≡ max (rows_of self.old).spare count) }
         ensures enough { count ≤ (rows_of self.old).spare → IsOk result }
-        ensures kept { (rows_of self.old).spare ≤ (rows_of self.new).spare }
-        ensures rows { (rows_of self.new).rows ≡ (rows_of self.old).rows }
-        ensures rooms { KeepsRooms (rows_of self.old) (rows_of self.new) }
-        ensures readied { Readies self.old self.new }
         ensures err { OnErr result (Stays self.old self.new) }
         ensures in_order { IsInOrder (rows_of self.new).rows }
     {

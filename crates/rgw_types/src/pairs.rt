@@ -82,13 +82,6 @@ impl Pairs {
     {
         self.items.len()
     }
-
-    /// Whether there are none.
-    pub fn is_empty(&self) -> bool
-        ensures { result ≡ (length self.now == 0) }
-    {
-        self.items.is_empty()
-    }
 }
 
 /// Whether each name is above the one before.

@@ -9,7 +9,7 @@ ghost use Rattle.realm_model.specs.Settings.{SettingsView};
 ghost use Rattle.realm_model.specs.States.{State, at_shard, number_next, touched};
 ghost use Rattle.realm_model.specs.Steps.{change_at, suggest_event_refusal};
 ghost use Rattle.zone_core.specs.Bounds.{IsReady, IsShardReady};
-ghost use Rattle.zone_core.specs.Calls.{refusal_at};
+ghost use Rattle.zone_core.specs.Calls.{AnswersAt, refusal_at};
 ghost use Rattle.zone_core.specs.Stands.{Stands};
 
 use cls_hold::make;
@@ -67,10 +67,8 @@ pub(crate) fn complete_at(
     row: &EntryRow,
 ) -> Result<(), Why>
     requires { IsShardReady key.now pool.old }
-    ensures { (settings : SettingsView) (zone : ℕ) (st : State) → IsReady settings zone pool.old st
-        → let found = st.shards zone key.now in
-        Replies result (refusal_at found (λ s. complete_refusal s name.now tag)) (λ _. Unit {0})
-        (Stands settings zone pool.new) (touched settings st (at_shard zone key.now (change_at found (λ s. completed s name.now tag version row.now)))) }
+    ensures { AnswersAt key.now pool.old pool.new result (λ s. complete_refusal s name.now tag)
+        (λ s. completed s name.now tag version row.now) }
 {
     let Some(mut shard) = pool.find(key) else {
         return Err(Why::Closed);
@@ -81,10 +79,8 @@ pub(crate) fn complete_at(
 /// Cancels a change of a name in the shard of a key.
 pub(crate) fn cancel_at(pool: &mut Pool, key: &Key, name: &ObjectName, tag: u64) -> Result<(), Why>
     requires { IsShardReady key.now pool.old }
-    ensures { (settings : SettingsView) (zone : ℕ) (st : State) → IsReady settings zone pool.old st
-        → let found = st.shards zone key.now in
-        Replies result (refusal_at found (λ s. complete_refusal s name.now tag)) (λ _. Unit {0})
-        (Stands settings zone pool.new) (touched settings st (at_shard zone key.now (change_at found (λ s. cancelled s name.now tag)))) }
+    ensures { AnswersAt key.now pool.old pool.new result (λ s. complete_refusal s name.now tag)
+        (λ s. cancelled s name.now tag) }
 {
     let Some(mut shard) = pool.find(key) else {
         return Err(Why::Closed);
@@ -103,11 +99,9 @@ pub(crate) fn suggest_at(
     row: &EntryRow,
 ) -> Result<(), Why>
     requires { IsShardReady key.now pool.old }
-    ensures { (settings : SettingsView) (zone : ℕ) (st : State) → IsReady settings zone pool.old st
-        → let found = st.shards zone key.now in
-        Replies result (refusal_at found (λ s. suggest_event_refusal s name.now revision seen)) (λ _. Unit {0})
-        (Stands settings zone pool.new) (touched settings st (at_shard zone key.now (change_at found (λ s.
-        unless_refused (suggest_event_refusal s name.now revision seen) s (suggested s name.now revision seen version row.now))))) }
+    ensures { AnswersAt key.now pool.old pool.new result (λ s. suggest_event_refusal s name.now revision seen)
+        (λ s.
+        unless_refused (suggest_event_refusal s name.now revision seen) s (suggested s name.now revision seen version row.now)) }
 {
     let Some(mut shard) = pool.find(key) else {
         return Err(Why::Closed);

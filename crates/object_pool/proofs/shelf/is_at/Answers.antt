@@ -8,4 +8,4 @@ pub returns-in-Some : goal.returns-in-Some
 returns-in-Some c told =
     let x = c.in-Some.found.now in
     let at : get c.args.kept.now c.args.number ≡ Some x = sym c.get.ensures ∙ ap option_copied c.in-Some.is in
-    record { object = x.object; there = at ∙ ap (λ k. let p : Option Kept = Some (record { key = k; object = x.object }) in p) (c.is.ensures told) }
+    record { object = x.object; there = at ∙ ap (λ k. let p : Option Kept = Some (record { key = k; object = x.object }) in p) (c.is.ensures.0 told) }
