@@ -21,6 +21,7 @@ use Rattle.task_list.specs.declared.task.ListTask.{ListTask}
 use Rattle.task_repair.specs.Stages as repair_stages
 use Rattle.task_repair.specs.Tasks as repair
 use Rattle.task_repair.specs.declared.task.RepairTask.{RepairTask}
+use Rattle.call_service.specs.Serving.{IsNew}
 use Rattle.put_service.specs.Standing.{IsSteady}
 use Rattle.script_words.specs.Bodies.{body_bytes}
 use Rattle.script_words.specs.declared.line.Verb.{Verb}
@@ -71,6 +72,15 @@ asked_by (actings.Check t) = asked_check t
 
 abbrev pub asked : Player → Asked
 asked p = asked_by p.acting
+
+-- ---- at the beginning
+
+-- this is asked, no step stopped, and no event was made
+pub record IsBegun (is want : Asked) (Stands Ended : Type 0) (Fits : SettingsView → DoorView → Type 0) : Type 0 where
+  pub asked : is ≡ want
+  pub stands : Stands
+  pub going : Ended → ⊥
+  pub fits : (settings : SettingsView) (d : DoorView) → 1 ≤ want.zone → want.zone ≤ settings.zones → IsNew settings d → Fits settings d
 
 -- ---- whatever the door tells
 

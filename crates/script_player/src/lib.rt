@@ -7,6 +7,7 @@ mod check;
 mod get;
 mod laws;
 mod list;
+mod play;
 mod player;
 mod put;
 mod stat;

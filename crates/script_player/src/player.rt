@@ -5,16 +5,17 @@ ghost use Rattle.realm_model.specs.Settings.{SettingsView};
 ghost use Rattle.realm_model.specs.Doors.{DoorView};
 ghost use Rattle.realm_model.specs.Histories.{Legal};
 ghost use Rattle.call_service.specs.Serving.{IsNew};
-ghost use Rattle.script_player.specs.Going.{GoesUpTo, Steps, HasGone};
+ghost use Rattle.script_player.specs.Going.{GoesUpTo, HasGone};
 ghost use Rattle.script_player.specs.Meanings.{Means};
-ghost use Rattle.script_player.specs.Plays.{asked, StandsBy, IsPlaying, IsEnded, StandsAs, shown_of, fits};
+ghost use Rattle.script_player.specs.Plays.{asked, IsPlaying, IsEnded, StandsAs, shown_of, fits};
 ghost use Rattle.script_player.specs.Requests.{HasFewBytes};
 
-use crate::check::{check, checked, new_check};
+use crate::check::new_check;
 use crate::get::GetPlay;
-use crate::list::{list, listed, new_list};
+use crate::list::new_list;
+use crate::play::{EndingPlay, Play};
 use crate::put::PutPlay;
-use crate::stat::{count, counted, new_stat};
+use crate::stat::new_stat;
 use job_words::Job;
 use realm_door::Door;
 use realm_model::Settings;
@@ -81,29 +82,6 @@ impl Player {
         Ok(Player { acting })
     }
 
-    /// Makes the event that comes next; none where the outcome is there without one.
-    fn event<D: Door>(&mut self, alloc: Global, door: &mut D, moment: u64) -> Result<(), DoorFault>
-        requires playing { IsPlaying self.old }
-        requires legal { D.tells → Legal (D.settings door.old) (D.told door.old).seen }
-        requires fits { D.tells → fits self.old (D.settings door.old) (D.told door.old) }
-        ensures stands { OnOk result (StandsBy self.new.acting) }
-        ensures fits { OnOk result (D.tells → fits self.new (D.settings door.old) (D.told door.new)) }
-        ensures steps { OnOk result (D.tells → Steps D.alone (D.settings door.old) moment (IsEnded self.new) (D.told door.old) (D.told door.new)) }
-        ensures stopped { OnErr result (D.tells → GoesUpTo D.alone (D.settings door.old) moment 1 (D.told door.old) (D.told door.new)) }
-        ensures worn { IfErr result (λ f. D.tells → f ≡ Worn → length (D.found door.new) ≡ 2 ^ 62) }
-        ensures asked { asked self.new ≡ asked self.old }
-        ensures settings { D.settings door.new ≡ D.settings door.old }
-        ensures home { D.home door.new ≡ D.home door.old }
-    {
-        match &mut self.acting {
-            Acting::Put(play) => play.event(alloc, door, moment),
-            Acting::Get(play) => play.event(alloc, door, moment),
-            Acting::Stat(task) => count(alloc, task, door, moment),
-            Acting::List(task) => list(alloc, task, door, moment),
-            Acting::Check(task) => check(alloc, task, door, moment),
-        }
-    }
-
     /// Makes events as the door's present actor, each at this moment, until there are `most` of them or the
     /// outcome is there. After an error the actor is not to go on.
     ///
@@ -129,7 +107,7 @@ impl Player {
     {
         let mut made = 0_u64;
         'events: while made < most {
-            self.event(alloc, door, moment)?;
+            self.act(alloc, door, moment)?;
             if self.outcome().is_some() {
                 return Ok(Gone::Ended);
             }
@@ -145,11 +123,11 @@ impl Player {
             → Means (asked self.now).zone (asked self.now).verb outcome (shown_of self.now) settings d) }
     {
         match &self.acting {
-            Acting::Put(play) => Some(ActorOutcome::Request(play.outcome()?)),
-            Acting::Get(play) => Some(ActorOutcome::Request(play.outcome()?)),
-            Acting::Stat(task) => Some(ActorOutcome::Request(counted(task)?)),
-            Acting::List(task) => Some(ActorOutcome::Request(listed(task)?)),
-            Acting::Check(task) => Some(ActorOutcome::Job(checked(task)?)),
+            Acting::Put(play) => Some(ActorOutcome::Request(play.end()?)),
+            Acting::Get(play) => Some(ActorOutcome::Request(play.end()?)),
+            Acting::Stat(task) => Some(ActorOutcome::Request(task.end()?)),
+            Acting::List(task) => Some(ActorOutcome::Request(task.end()?)),
+            Acting::Check(task) => Some(ActorOutcome::Job(task.end()?)),
         }
     }
 
@@ -160,6 +138,28 @@ impl Player {
         match &self.acting {
             Acting::Get(play) => play.shown(),
             _ => &[],
+        }
+    }
+}
+
+impl Play for Player {
+    ghost use Rattle.script_player.specs.Plays.{asked, StandsBy, IsEnded, fits};
+
+    ghost asked = { asked };
+
+    ghost stands = { λ p. StandsBy p.acting };
+
+    ghost is_ended = { IsEnded };
+
+    ghost fits = { fits };
+
+    fn act<D: Door>(&mut self, alloc: Global, door: &mut D, moment: u64) -> Result<(), DoorFault> {
+        match &mut self.acting {
+            Acting::Put(play) => play.act(alloc, door, moment),
+            Acting::Get(play) => play.act(alloc, door, moment),
+            Acting::Stat(task) => task.act(alloc, door, moment),
+            Acting::List(task) => task.act(alloc, door, moment),
+            Acting::Check(task) => task.act(alloc, door, moment),
         }
     }
 }

@@ -1,9 +1,7 @@
 //! A PUT, to which its body is fed as it wants it.
-ghost use Rattle.std.specs.Prelude.{◌≡◌, ◌↔◌, ◌≤◌, ◌<◌, ◌^◌, [], true, false, length, IsSome, IfSome, IfOk, IfErr, OnOk, OnErr};
-ghost use Rattle.turn_cell.specs.declared.machine.DoorFault.TheVariants.{Worn};
+ghost use Rattle.std.specs.Prelude.{◌≡◌, ◌≤◌, ◌<◌, true, false, length, IfOk, OnOk, OnErr};
 ghost use Rattle.realm_model.specs.Settings.{SettingsView};
 ghost use Rattle.realm_model.specs.Doors.{DoorView};
-ghost use Rattle.realm_model.specs.Histories.{Legal};
 ghost use Rattle.call_service.specs.Serving.{IsNew};
 ghost use Rattle.task_put.specs.Bodies.{most_bytes};
 ghost use Rattle.task_put.specs.Stages.{IsOver, IsReady};
@@ -11,11 +9,10 @@ ghost use Rattle.task_put.specs.Tasks.{stage_of, fits};
 ghost use Rattle.task_put.specs.Taking.{WantsBytes};
 ghost use Rattle.script_words.specs.Bodies.{body_bytes};
 ghost use Rattle.script_words.specs.declared.line.Verb.TheVariants.{Put};
-ghost use Rattle.script_player.specs.Going.{GoesUpTo, Steps};
-ghost use Rattle.script_player.specs.Meanings.{MeansRequest};
 ghost use Rattle.script_player.specs.Plays.{asked_put, TakesNext, PutStands, PutEnded, FitsPut, left_of};
 
 use crate::asker::standard_asker;
+use crate::play::{EndingPlay, Play};
 use object_words::{BucketName, Conditions, ObjectName};
 use realm_door::{Door, EventTask, Task};
 use realm_model::Settings;
@@ -141,26 +138,20 @@ impl PutPlay {
             }
         }
     }
+}
 
-    /// Makes the event that comes next.
-    pub(crate) fn event<D: Door>(
-        &mut self,
-        alloc: Global,
-        door: &mut D,
-        moment: u64,
-    ) -> Result<(), DoorFault>
-        requires stands { PutStands self.old }
-        requires legal { D.tells → Legal (D.settings door.old) (D.told door.old).seen }
-        requires fits { D.tells → FitsPut self.old (D.settings door.old) (D.told door.old) }
-        ensures stands { OnOk result (PutStands self.new) }
-        ensures fits { OnOk result (D.tells → FitsPut self.new (D.settings door.old) (D.told door.new)) }
-        ensures steps { OnOk result (D.tells → Steps D.alone (D.settings door.old) moment (PutEnded self.new) (D.told door.old) (D.told door.new)) }
-        ensures stopped { OnErr result (D.tells → GoesUpTo D.alone (D.settings door.old) moment 1 (D.told door.old) (D.told door.new)) }
-        ensures worn { IfErr result (λ f. D.tells → f ≡ Worn → length (D.found door.new) ≡ 2 ^ 62) }
-        ensures asked { asked_put self.new ≡ asked_put self.old }
-        ensures settings { D.settings door.new ≡ D.settings door.old }
-        ensures home { D.home door.new ≡ D.home door.old }
-    {
+impl Play for PutPlay {
+    ghost use Rattle.script_player.specs.Plays.{asked_put, PutStands, PutEnded, FitsPut};
+
+    ghost asked = { asked_put };
+
+    ghost stands = { PutStands };
+
+    ghost is_ended = { PutEnded };
+
+    ghost fits = { FitsPut };
+
+    fn act<D: Door>(&mut self, alloc: Global, door: &mut D, moment: u64) -> Result<(), DoorFault> {
         let Ok(ready) = self.make_ready() else {
             return Err(DoorFault::OutOfMemory);
         };
@@ -169,13 +160,19 @@ impl PutPlay {
         }
         Ok(())
     }
+}
 
-    /// The outcome, from its event on.
-    pub(crate) fn outcome(&self) -> Option<&Outcome>
-        ensures there { IsSome result ↔ PutEnded self.now }
-        ensures right { IfSome result (λ outcome. (settings : SettingsView) (d : DoorView) → FitsPut self.now settings d
-            → MeansRequest (asked_put self.now).zone (asked_put self.now).verb outcome.now [] settings d) }
-    {
+impl EndingPlay for PutPlay {
+    ghost use Rattle.std.specs.Prelude.{[]};
+    ghost use Rattle.script_player.specs.Meanings.{MeansRequest};
+
+    type Outcome = Outcome;
+
+    ghost shown = { λ x. [] };
+
+    ghost means = { MeansRequest };
+
+    fn end(&self) -> Option<&Outcome> {
         self.task.outcome()
     }
 }

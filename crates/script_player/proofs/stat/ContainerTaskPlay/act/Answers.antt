@@ -1,5 +1,5 @@
 use Rattle.script_player.proofs.Counting.{steps_if}
-use Rattle.script_player.proofs.stat.count.Goals as goal
+use Rattle.script_player.proofs.stat.ContainerTaskPlay.act.Goals as goal
 
 pub returns-clause-steps : goal.returns-clause-steps
 returns-clause-steps g c =

@@ -1,6 +1,6 @@
 use Rattle.std.proofs.lemmas.Option.{IfSome_then}
 use Rattle.script_player.proofs.Putting.{put_means}
-use Rattle.script_player.proofs.put.PutPlay.outcome.Goals as goal
+use Rattle.script_player.proofs.put.PutPlayEndingPlay.end.Goals as goal
 
 pub returns-clause-right : goal.returns-clause-right
 returns-clause-right c =

@@ -2,7 +2,7 @@ use Rattle.std.proofs.Common.{rules, inl}
 use Rattle.script_player.specs.Going.{GoesUpTo}
 use Rattle.script_player.proofs.Going.{goes_once, up_to_still}
 use Rattle.script_player.proofs.Putting.{next_stands}
-use Rattle.script_player.proofs.put.PutPlay.event.Goals as goal
+use Rattle.script_player.proofs.put.PutPlayPlay.act.Goals as goal
 
 pub returns-in_err-event-clause-stopped : goal.returns-in_err-event-clause-stopped
 returns-in_err-event-clause-stopped g c =

@@ -2,7 +2,7 @@ use Rattle.std.proofs.Common.{rules, inl}
 use Rattle.script_player.specs.Going.{GoesUpTo}
 use Rattle.script_player.proofs.Going.{goes_once, up_to_still, up_to_once}
 use Rattle.script_player.proofs.Getting.{event_made}
-use Rattle.script_player.proofs.get.GetPlay.event.Goals as goal
+use Rattle.script_player.proofs.get.GetPlayPlay.act.Goals as goal
 
 pub returns-in_err-event-clause-stopped : goal.returns-in_err-event-clause-stopped
 returns-in_err-event-clause-stopped g c =

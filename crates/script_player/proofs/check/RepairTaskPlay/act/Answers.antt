@@ -1,5 +1,5 @@
 use Rattle.script_player.proofs.Checking.{check_steps_if}
-use Rattle.script_player.proofs.check.check.Goals as goal
+use Rattle.script_player.proofs.check.RepairTaskPlay.act.Goals as goal
 
 pub returns-clause-steps : goal.returns-clause-steps
 returns-clause-steps g c =

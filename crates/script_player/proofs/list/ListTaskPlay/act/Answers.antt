@@ -1,5 +1,5 @@
 use Rattle.script_player.proofs.Listing.{list_steps_if}
-use Rattle.script_player.proofs.list.list.Goals as goal
+use Rattle.script_player.proofs.list.ListTaskPlay.act.Goals as goal
 
 pub returns-clause-steps : goal.returns-clause-steps
 returns-clause-steps g c =
