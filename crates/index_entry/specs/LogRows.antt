@@ -1,6 +1,6 @@
 -- How the rows of a log are written: the key, which begins with byte 0 as no name does, then the position; and what the
 -- row names: what the bytes are and their layout in two bytes, then of which kind it is, then its numbers and its name.
-use Rattle.std.specs.Prelude.{◌≡◌, ℕ, ◌^◌, ◌<◌, true, List, ◌∷◌, ◌++◌}
+use Rattle.std.specs.Prelude.{◌≡◌, ℕ, ◌^◌, ◌<◌, ◌≤◌, true, List, ◌∷◌, ◌++◌, length, drop}
 use Rattle.std.specs.Str.{IsUtf8}
 use Rattle.object_words.specs.Limits.{is_name}
 use Rattle.object_words.specs.declared.log.LogWhat.{LogWhat}
@@ -30,3 +30,10 @@ abbrev pub IsWhat : LogWhat → Type 0
 IsWhat (Name name) = IsNameText 1024 name
 IsWhat (Shard container instance shard bucket) = (container < 2 ^ 64) × (instance < 2 ^ 64) × (shard < 2 ^ 32) × IsNameText 256 bucket
 IsWhat (Bucket name) = IsNameText 256 name
+
+-- so many bytes, and no more than the limit, are now what names this; the bytes behind are what they were
+pub record WritesWhat (what : LogWhat) (limit count : ℕ) (old new : List ℕ) : Type 0 where
+  pub len : count ≡ length (what_bytes what)
+  pub most : count ≤ limit
+  pub written : new ≡ what_bytes what ++ drop count old
+  pub bounds : IsWhat what

@@ -3,7 +3,7 @@ ghost use Rattle.std.specs.Str.{IsUtf8};
 ghost use Rattle.object_words.specs.Limits.{is_name};
 ghost use Rattle.object_words.specs.declared.log.LogWhat.{LogWhat as WhatOf};
 ghost use Rattle.object_words.specs.declared.log.LogWhat.TheVariants.{Name as AName, Shard as AShard, Bucket as ABucket};
-ghost use Rattle.index_entry.specs.LogRows.{IsNameText, IsWhat, log_key, shard_bytes, what_bytes};
+ghost use Rattle.index_entry.specs.LogRows.{IsNameText, IsWhat, WritesWhat, log_key, shard_bytes, what_bytes};
 
 use crate::OutOfMemory;
 use crate::numbers::{put, u32_at, u64_at};
@@ -58,10 +58,7 @@ pub fn position_of(key: &[u8]) -> Option<u64>
 
 /// Writes the value of a row of a shard's log, and gives how many bytes it is. Takes no memory.
 pub fn write_name_row(name: &ObjectName, out: &mut [u8; 1040]) -> usize
-    ensures len { result ≡ length (what_bytes (AName name.now)) }
-    ensures most { result ≤ 1027 }
-    ensures written { out.new ≡ what_bytes (AName name.now) ++ drop result out.old }
-    ensures bounds { IsWhat (AName name.now) }
+    ensures { WritesWhat (AName name.now) 1027 result out.old out.new }
 {
     put_name(out, NAME, name)
 }
@@ -69,10 +66,7 @@ pub fn write_name_row(name: &ObjectName, out: &mut [u8; 1040]) -> usize
 /// Writes the value of a row of the log of a zone's containers, and gives how many bytes it is. Takes no
 /// memory.
 pub fn write_bucket_row(name: &BucketName, out: &mut [u8; 1040]) -> usize
-    ensures len { result ≡ length (what_bytes (ABucket name.now)) }
-    ensures most { result ≤ 259 }
-    ensures written { out.new ≡ what_bytes (ABucket name.now) ++ drop result out.old }
-    ensures bounds { IsWhat (ABucket name.now) }
+    ensures { WritesWhat (ABucket name.now) 259 result out.old out.new }
 {
     put_name(out, BUCKET, name)
 }
@@ -87,10 +81,7 @@ pub fn write_shard_row(
     bucket: &BucketName,
     out: &mut [u8; 1040],
 ) -> usize
-    ensures len { result ≡ length (what_bytes (AShard container instance shard bucket.now)) }
-    ensures most { result ≤ 279 }
-    ensures written { out.new ≡ what_bytes (AShard container instance shard bucket.now) ++ drop result out.old }
-    ensures bounds { IsWhat (AShard container instance shard bucket.now) }
+    ensures { WritesWhat (AShard container instance shard bucket.now) 279 result out.old out.new }
 {
     let name = bucket.as_text().as_str();
     let at = put(out, 0, &[KIND, LAYOUT, SHARD]);
@@ -102,10 +93,7 @@ pub fn write_shard_row(
 
 /// Writes the value of a row that names this, and gives how many bytes it is. Takes no memory.
 pub fn write_what(what: &LogWhat, out: &mut [u8; 1040]) -> usize
-    ensures len { result ≡ length (what_bytes what.now) }
-    ensures most { result ≤ 1027 }
-    ensures written { out.new ≡ what_bytes what.now ++ drop result out.old }
-    ensures bounds { IsWhat what.now }
+    ensures { WritesWhat what.now 1027 result out.old out.new }
 {
     match what {
         LogWhat::Name(name) => write_name_row(name, out),

@@ -5,3 +5,4 @@ pub mod Leaves
 pub mod LeavesLending
 pub mod Places
 pub mod Rows
+pub mod Spares

@@ -1,4 +1,5 @@
-ghost use Rattle.std.specs.Prelude.{◌≡◌, ◌+◌, ◌^◌, ◌<◌, ◌≤◌, [], length, max, vec_len, vec_capacity, IsOk, IfOk, OnOk, OnErr};
+ghost use Rattle.std.specs.Prelude.{◌≡◌, ◌^◌, ◌<◌, ◌≤◌, [], length, max, vec_len, vec_capacity, IsOk, IfOk, OnOk, OnErr};
+ghost use Rattle.omap_pages.specs.Spares.{MadeOfSpare, SuitsSpare, TakesSpare};
 ghost use Rattle.omap_pages.specs.declared.spares.TheConstants.{SPARE_KEY_LEN, SPARE_VALUE_LEN};
 
 use crate::leaf::Leaf;
@@ -31,11 +32,8 @@ impl SpareRow {
 
     // A row with this key and value.
     fn into_row(self, key: &[u8], value: &[u8]) -> Row
-        requires key_fits { length key.now ≤ SPARE_KEY_LEN }
-        requires value_fits { length value.now ≤ SPARE_VALUE_LEN }
-        ensures key { result.0 ≡ key.now }
-        ensures value { result.1.value ≡ value.now }
-        ensures fits { length value.now ≤ result.1.room }
+        requires { SuitsSpare key.now value.now }
+        ensures { MadeOfSpare key.now value.now result }
     {
         Row::new(filled(self.key, key), filled(self.value, value))
     }
@@ -98,12 +96,8 @@ impl Spares {
     // One of them as a row with this key and value. Takes no memory.
     pub(crate) fn make_row(&mut self, key: &[u8], value: &[u8]) -> Row
         requires some { 0 < self.old }
-        requires key_fits { length key.now ≤ SPARE_KEY_LEN }
-        requires value_fits { length value.now ≤ SPARE_VALUE_LEN }
-        ensures fewer { self.new + 1 ≡ self.old }
-        ensures key { result.0 ≡ key.now }
-        ensures value { result.1.value ≡ value.now }
-        ensures fits { length value.now ≤ result.1.room }
+        requires suits { SuitsSpare key.now value.now }
+        ensures { TakesSpare self.old self.new key.now value.now result }
     {
         let spare = self.rows.pop().unwrap();
         spare.into_row(key, value)
@@ -112,12 +106,8 @@ impl Spares {
     // One of them as a row with this key and value, and a leaf for it. Takes no memory.
     pub(crate) fn make_row_and_leaf(&mut self, key: &[u8], value: &[u8]) -> (Row, Leaf)
         requires some { 0 < self.old }
-        requires key_fits { length key.now ≤ SPARE_KEY_LEN }
-        requires value_fits { length value.now ≤ SPARE_VALUE_LEN }
-        ensures fewer { self.new + 1 ≡ self.old }
-        ensures key { result.0.0 ≡ key.now }
-        ensures value { result.0.1.value ≡ value.now }
-        ensures fits { length value.now ≤ result.0.1.room }
+        requires suits { SuitsSpare key.now value.now }
+        ensures row { TakesSpare self.old self.new key.now value.now result.0 }
         ensures leaf { result.1 ≡ [] }
     {
         let spare = self.rows.pop().unwrap();

@@ -1,4 +1,4 @@
-use Rattle.std.proofs.Common.{◌≡◌, ◌++◌, ◌∷◌, [], length, drop, refl, sym, ap, ◌∙◌, arith}
+use Rattle.std.proofs.Common.{rules, ◌≡◌, ◌++◌, ◌∷◌, [], length, drop, refl, sym, ap, ◌∙◌, arith}
 use Rattle.object_words.specs.declared.log.LogWhat.TheVariants.{Shard}
 use Rattle.index_entry.specs.Numbers.{number_bytes, word_bytes}
 use Rattle.index_entry.specs.LogRows.{what_bytes}
@@ -6,9 +6,9 @@ use Rattle.index_entry.proofs.PieceLemmas.{next_long, put_as, put_long, put_more
 use Rattle.index_entry.proofs.LogRowLemmas.{length-shard_bytes, shard_flat}
 use Rattle.index_entry.proofs.log_row.write_shard_row.Goals as goal
 
-pub returns-clause-len : goal.returns-clause-len
+written_len : (c : goal.After-put) → c.put.result ≡ length (what_bytes (Shard c.args.container c.args.instance c.args.shard c.args.bucket.now))
 unfolding number_bytes word_bytes
-returns-clause-len c =
+written_len c =
     omega (
       arith,
       c.put-at.ensures.end,
@@ -23,9 +23,9 @@ returns-clause-len c =
       ap length (c.as_bytes.ensures.value ∙ c.as_str-name.ensures ∙ c.as_text.ensures.text),
     )
 
-pub returns-clause-written : goal.returns-clause-written
+written : (c : goal.After-put) → c.put.new.out ≡ what_bytes (Shard c.args.container c.args.instance c.args.shard c.args.bucket.now) ++ drop c.put.result c.args.out.now
 unfolding number_bytes word_bytes
-returns-clause-written c =
+written c =
     let q = c.args.out.now in
     let row = what_bytes (Shard c.args.container c.args.instance c.args.shard c.args.bucket.now) in
     let r1 = 236 ∷ 1 ∷ 1 ∷ [] in
@@ -50,4 +50,12 @@ returns-clause-written c =
     let shard : r4 ≡ word_bytes c.args.shard = c.to_be_bytes-3.ensures in
     let name : r5 ≡ c.args.bucket.now = c.as_bytes.ensures.value ∙ c.as_str-name.ensures ∙ c.as_text.ensures.text in
     let flat : d4 ++ r5 ≡ row = shard_flat 236 1 1 r2 r3 r4 r5 ∙ (λ i. 236 ∷ 1 ∷ 1 ∷ (container i ++ (instance i ++ (shard i ++ name i)))) in
-    put_as [] q (d4 ++ r5) row _ flat g5 ∙ ap (λ n. row ++ drop n q) (sym (returns-clause-len c))
+    put_as [] q (d4 ++ r5) row _ flat g5 ∙ ap (λ n. row ++ drop n q) (sym (written_len c))
+
+pub returns : goal.returns
+returns c = record {
+  len = written_len c;
+  most = search rules;
+  written = written c;
+  bounds = search rules;
+}

@@ -16,7 +16,7 @@ gap_for-place-requires c = record {
 
 -- the row goes into the gap for its key
 into : (c : goal.After-insert) → flat c.insert.new.self.leaves ≡ put key_cmp c.args.key.now c.make_row-row.result.1 (flat c.self.inside.leaves.leaves)
-into c = put_in c.as_slice.result.now c.self.inside.leaves.leaves c.as_slice.ensures.leaves c.args.key.now c.args.key.now refl c.gap_for-place.result c.gap_for-place.ensures.gap c.insert.new.self.leaves c.make_row-row.result c.insert.ensures.leaves c.make_row-row.ensures.key
+into c = put_in c.as_slice.result.now c.self.inside.leaves.leaves c.as_slice.ensures.leaves c.args.key.now c.args.key.now refl c.gap_for-place.result c.gap_for-place.ensures.gap c.insert.new.self.leaves c.make_row-row.result c.insert.ensures.leaves c.make_row-row.ensures.made.key
 
 pub invariant_of-self : goal.invariant_of-self
 invariant_of-self c = (sorted_put (flat c.self.inside.leaves.leaves) _ c.self.invariant.0 _ _ (into c), omega (arith, c.insert.ensures.free, c.make_row-row.ensures.fewer, c.self.invariant.1))
@@ -25,13 +25,13 @@ pub returns-then-has_room : goal.returns-then-has_room
 returns-then-has_room c =
     let cells = flat c.self.inside.leaves.leaves in
     let spare = c.self.inside.spares in
-    let seen = is_put cells spare c.args.self.now c.self.view_is (flat c.insert.new.self.leaves) c.args.key.now c.args.value.now c.make_row-row.result.1 c.make_row-row.ensures.value (into c) in
+    let seen = is_put cells spare c.args.self.now c.self.view_is (flat c.insert.new.self.leaves) c.args.key.now c.args.value.now c.make_row-row.result.1 c.make_row-row.ensures.made.value (into c) in
     let none = room_seen cells spare c.args.self.now c.self.view_is c.args.key.now _ (none_seen cells spare c.args.self.now c.self.view_is c.args.key.now c.requires.absent) in
     record {
       rows = seen.rows;
       at_key = seen.at_key;
       others = seen.others;
-      fits = omega (arith, seen.room, c.make_row-row.ensures.fits);
+      fits = omega (arith, seen.room, c.make_row-row.ensures.made.fits);
       rooms = seen.all_rooms (omega (arith, none));
       spare = omega (arith, ap (λ o. o.spare) c.self.view_is, c.make_row-row.ensures.fewer);
       in_order = order_seen (flat c.insert.new.self.leaves) c.make_row-row.new.self (contents_of (flat c.insert.new.self.leaves) c.make_row-row.new.self) refl (sorted_put (flat c.self.inside.leaves.leaves) _ c.self.invariant.0 _ _ (into c));
@@ -39,23 +39,23 @@ returns-then-has_room c =
 
 -- it does so with a spare leaf
 into_new : (c : goal.After-insert_with) → flat c.insert_with.new.self.leaves ≡ put key_cmp c.args.key.now c.make_row_and_leaf-row.result.0.1 (flat c.self.inside.leaves.leaves)
-into_new c = put_in c.as_slice.result.now c.self.inside.leaves.leaves c.as_slice.ensures.leaves c.args.key.now c.args.key.now refl c.gap_for-place.result c.gap_for-place.ensures.gap c.insert_with.new.self.leaves c.make_row_and_leaf-row.result.0 c.insert_with.ensures.leaves c.make_row_and_leaf-row.ensures.key
+into_new c = put_in c.as_slice.result.now c.self.inside.leaves.leaves c.as_slice.ensures.leaves c.args.key.now c.args.key.now refl c.gap_for-place.result c.gap_for-place.ensures.gap c.insert_with.new.self.leaves c.make_row_and_leaf-row.result.0 c.insert_with.ensures.leaves c.make_row_and_leaf-row.ensures.row.made.key
 
 pub invariant_of-self-else-has_room : goal.invariant_of-self-else-has_room
-invariant_of-self-else-has_room c = (sorted_put (flat c.self.inside.leaves.leaves) _ c.self.invariant.0 _ _ (into_new c), omega (arith, c.insert_with.ensures.free, c.make_row_and_leaf-row.ensures.fewer, c.self.invariant.1))
+invariant_of-self-else-has_room c = (sorted_put (flat c.self.inside.leaves.leaves) _ c.self.invariant.0 _ _ (into_new c), omega (arith, c.insert_with.ensures.free, c.make_row_and_leaf-row.ensures.row.fewer, c.self.invariant.1))
 
 pub returns-else-has_room : goal.returns-else-has_room
 returns-else-has_room c =
     let cells = flat c.self.inside.leaves.leaves in
     let spare = c.self.inside.spares in
-    let seen = is_put cells spare c.args.self.now c.self.view_is (flat c.insert_with.new.self.leaves) c.args.key.now c.args.value.now c.make_row_and_leaf-row.result.0.1 c.make_row_and_leaf-row.ensures.value (into_new c) in
+    let seen = is_put cells spare c.args.self.now c.self.view_is (flat c.insert_with.new.self.leaves) c.args.key.now c.args.value.now c.make_row_and_leaf-row.result.0.1 c.make_row_and_leaf-row.ensures.row.made.value (into_new c) in
     let none = room_seen cells spare c.args.self.now c.self.view_is c.args.key.now _ (none_seen cells spare c.args.self.now c.self.view_is c.args.key.now c.requires.absent) in
     record {
       rows = seen.rows;
       at_key = seen.at_key;
       others = seen.others;
-      fits = omega (arith, seen.room, c.make_row_and_leaf-row.ensures.fits);
+      fits = omega (arith, seen.room, c.make_row_and_leaf-row.ensures.row.made.fits);
       rooms = seen.all_rooms (omega (arith, none));
-      spare = omega (arith, ap (λ o. o.spare) c.self.view_is, c.make_row_and_leaf-row.ensures.fewer);
+      spare = omega (arith, ap (λ o. o.spare) c.self.view_is, c.make_row_and_leaf-row.ensures.row.fewer);
       in_order = order_seen (flat c.insert_with.new.self.leaves) c.make_row_and_leaf-row.new.self (contents_of (flat c.insert_with.new.self.leaves) c.make_row_and_leaf-row.new.self) refl (sorted_put (flat c.self.inside.leaves.leaves) _ c.self.invariant.0 _ _ (into_new c));
     }
