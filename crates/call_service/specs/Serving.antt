@@ -219,6 +219,21 @@ pub record HasServeCause {T : Type 0} (old new : EndsState) (result : Result T S
 
 -- ---- what stays
 
+-- the door's settings and home, and the clock's plan
+pub record Outside : Type 0 where
+  pub settings : SettingsView
+  pub home : ℕ
+  pub plan : Option (ℕ → ℕ)
+
+abbrev pub outside : SettingsView → ℕ → Option (ℕ → ℕ) → Outside
+outside settings home plan = record { settings = settings; home = home; plan = plan }
+
+-- none of these changes
+pub record Stays (old new : Outside) : Type 0 where
+  pub settings : new.settings ≡ old.settings
+  pub home : new.home ≡ old.home
+  pub plan : new.plan ≡ old.plan
+
 -- what stands around a call that serves a request: the ends of the connection, the door's settings and home, and how long
 -- the buffer for pieces of the body is
 pub record Around : Type 0 where

@@ -52,6 +52,14 @@ pub record IsReady (tells : Type 0) (settings : SettingsView) (t : GetTask) (spa
 abbrev pub brought_at : GetRequest → DoorView → List ℕ
 brought_at r d = brought r.get (events_at d)
 
+-- the reply may be written: no step stopped with a fault, the task stands where the events of the door's actor bring it, these
+-- brought no bytes, and it is the span of the request
+pub record MaySend (tells : Type 0) (settings : SettingsView) (t : GetTask) (wanted : Option Span) (d : DoorView) : Type 0 where
+  pub sound : fault_of t ≡ None
+  pub up : IsUpTo tells settings t d
+  pub none : tells → brought_at (request_of t) d ≡ []
+  pub span : wanted ≡ span_of (request_of t).get
+
 -- the bytes that come with a turn
 abbrev pub piece_in : TaskTurn → List ℕ → List ℕ
 piece_in Gives piece = piece

@@ -4,15 +4,14 @@ ghost use Rattle.swift_requests.specs.declared.asked.Asked.TheVariants.{Get};
 ghost use Rattle.swift_requests.specs.declared.body.BodyUse.TheVariants.{Dropped};
 ghost use Rattle.call_service.specs.Bodies.{dropped_if};
 ghost use Rattle.task_words.specs.declared.reply.MapReply.{MapReply as MapReplyOf};
-ghost use Rattle.task_words.specs.Answers.{span_of};
 ghost use Rattle.call_words.specs.Bodies.{IsWrong};
 ghost use Rattle.task_get.specs.Stages.{IsOpen, IsOver, IsBehindRow};
 ghost use Rattle.task_get.specs.declared.stage.Stage.TheVariants.{Look};
 ghost use Rattle.task_get.specs.Tasks.{request_of, stage_of, fault_of, bytes_of, shown_of, events_at};
-ghost use Rattle.call_service.specs.Serving.{MayServe, IsServed, IsStopped, StaysAround, WritesAtFault, around, side};
+ghost use Rattle.call_service.specs.Serving.{MayServe, IsServed, IsStopped, Stays, StaysAround, WritesAtFault, around, outside, side};
 ghost use Rattle.door_moments.specs.Acts.{Asks};
 ghost use Rattle.call_service.specs.Replying.{StopsEvent, stand, AsksFrom};
-ghost use Rattle.get_service.specs.Getting.{IsReady, IsUpTo, brought_at, piece_in, HasWritten, Replies, StopsReply, EndsEarly, LeavesEarly};
+ghost use Rattle.get_service.specs.Getting.{IsReady, IsUpTo, MaySend, brought_at, piece_in, HasWritten, Replies, StopsReply, EndsEarly, LeavesEarly};
 
 use crate::write::{send_end, send_piece, span_in};
 use call_service::{ServeFault, Served, closing, drop_body, fault_of, send_broken_body};
@@ -73,10 +72,7 @@ fn send_pieces<D: Door, C: Clock, K: Sink>(
     span: Option<Span>,
     form: ReplyForm,
 ) -> Result<bool, ServeFault>
-    requires sound { fault_of task.old ≡ None }
-    requires up { IsUpTo D.tells (D.settings door.old) task.old (D.told door.old) }
-    requires none { D.tells → brought_at (request_of task.old) (D.told door.old) ≡ [] }
-    requires span { span ≡ span_of (request_of task.old).get }
+    requires { MaySend D.tells (D.settings door.old) task.old span (D.told door.old) }
     ensures up { IsUpTo D.tells (D.settings door.old) task.new (D.told door.new) }
     ensures over { OnOk result (IsOver (stage_of task.new) × (fault_of task.new ≡ None)) }
     ensures written { IfOk result (λ begun. HasWritten D.tells form task.new (D.told door.new) begun (K.taken sink.old) (K.taken sink.new)) }
@@ -86,9 +82,7 @@ fn send_pieces<D: Door, C: Clock, K: Sink>(
         (stand (D.told door.old) (K.taken sink.old) (C.told clock.old)) (stand (D.told door.new) (K.taken sink.new) (C.told clock.new))) }
     ensures cause { WritesAtFault (K.faults sink.old) (K.faults sink.new) result }
     ensures request { request_of task.new ≡ request_of task.old }
-    ensures settings { D.settings door.new ≡ D.settings door.old }
-    ensures home { D.home door.new ≡ D.home door.old }
-    ensures plan { C.plan clock.new ≡ C.plan clock.old }
+    ensures stays { Stays (outside (D.settings door.old) (D.home door.old) (C.plan clock.old)) (outside (D.settings door.new) (D.home door.new) (C.plan clock.new)) }
 {
     let mut begun = false;
     'events: while task.outcome().is_none() {
@@ -110,10 +104,7 @@ fn send_reply<D: Door, C: Clock, K: Sink>(
     span: Option<Span>,
     form: ReplyForm,
 ) -> Result<(), ServeFault>
-    requires sound { fault_of task.old ≡ None }
-    requires up { IsUpTo D.tells (D.settings door.old) task.old (D.told door.old) }
-    requires none { D.tells → brought_at (request_of task.old) (D.told door.old) ≡ [] }
-    requires span { span ≡ span_of (request_of task.old).get }
+    requires { MaySend D.tells (D.settings door.old) task.old span (D.told door.old) }
     ensures written { OnOk result (Replies D.tells (D.settings door.old) form (request_of task.old) (D.told door.new)
         (Appends (K.taken sink.old) (K.taken sink.new))) }
     ensures asks { OnOk result (Asks D.tells D.alone (D.settings door.old) false
@@ -121,9 +112,7 @@ fn send_reply<D: Door, C: Clock, K: Sink>(
     ensures stopped { IfErr result (StopsReply D.tells D.alone (D.settings door.old) form (request_of task.old) (D.found door.new)
         (stand (D.told door.old) (K.taken sink.old) (C.told clock.old)) (stand (D.told door.new) (K.taken sink.new) (C.told clock.new))) }
     ensures cause { WritesAtFault (K.faults sink.old) (K.faults sink.new) result }
-    ensures settings { D.settings door.new ≡ D.settings door.old }
-    ensures home { D.home door.new ≡ D.home door.old }
-    ensures plan { C.plan clock.new ≡ C.plan clock.old }
+    ensures stays { Stays (outside (D.settings door.old) (D.home door.old) (C.plan clock.old)) (outside (D.settings door.new) (D.home door.new) (C.plan clock.new)) }
 {
     let begun = send_pieces(alloc, task, door, clock, sink, out, span, form)?;
     match task.outcome() {

@@ -5,7 +5,7 @@ ghost use Rattle.swift_requests.specs.declared.body.BodyUse.TheVariants.{Dropped
 ghost use Rattle.call_service.specs.Bodies.{dropped_if};
 ghost use Rattle.task_list.specs.Tasks.{request_of, stage_of, fault_of, fits};
 ghost use Rattle.call_words.specs.Bodies.{IsWrong};
-ghost use Rattle.call_service.specs.Serving.{MayServe, IsServed, IsStopped, StaysAround, WritesAtFault, around, side};
+ghost use Rattle.call_service.specs.Serving.{MayServe, IsServed, IsStopped, StaysAround, WritesAtFault, around, side, Stays, outside};
 ghost use Rattle.door_moments.specs.Acts.{Asks, IsUpTo};
 ghost use Rattle.call_service.specs.Replying.{Replies, StopsReply, stand};
 ghost use Rattle.list_service.specs.Early.{EndsEarly, LeavesEarly};
@@ -44,9 +44,7 @@ fn send_reply<D: Door, C: Clock, K: Sink>(
         (asked_by (request_of task.old) listing) (D.found door.new)
         (stand (D.told door.old) (K.taken sink.old) (C.told clock.old)) (stand (D.told door.new) (K.taken sink.new) (C.told clock.new))) }
     ensures cause { WritesAtFault (K.faults sink.old) (K.faults sink.new) result }
-    ensures settings { D.settings door.new ≡ D.settings door.old }
-    ensures home { D.home door.new ≡ D.home door.old }
-    ensures plan { C.plan clock.new ≡ C.plan clock.old }
+    ensures stays { Stays (outside (D.settings door.old) (D.home door.old) (C.plan clock.old)) (outside (D.settings door.new) (D.home door.new) (C.plan clock.new)) }
 {
     act_to_end(alloc, task, door, clock)?;
     match task.outcome() {

@@ -24,7 +24,7 @@ use Rattle.task_put.specs.Taking.{WantsBytes}
 use Rattle.task_put.specs.Tasks.{request_of, stage_of, fault_of, fits}
 use Rattle.call_service.specs.Bodies.{ReadsAtFault, most_due}
 use Rattle.call_service.specs.declared.fault.ServeFault.{ServeFault}
-use Rattle.call_service.specs.Serving.{is_by_end}
+use Rattle.call_service.specs.Serving.{Outside, is_by_end, outside}
 use Rattle.put_service.specs.declared.stepping.Pause.{Pause}
 use Rattle.put_service.specs.declared.stepping.Pause.TheVariants as pauses
 
@@ -83,6 +83,12 @@ IsSteadyAt r stage = Unit {0}
 abbrev pub IsSteady : PutTask → Type 0
 IsSteady task = IsSteadyAt (request_of task) (stage_of task)
 
+-- no step stopped with a fault, and it stands where the events of the door's actor bring it
+pub record IsGoing (tells : Type 0) (settings : SettingsView) (task : PutTask) (d : DoorView) : Type 0 where
+  pub sound : fault_of task ≡ None
+  pub steady : IsSteady task
+  pub up : IsUp tells settings task d
+
 -- the task met no fault, took no byte of its body, and did not see its end
 abbrev pub IsFresh : PutTask → Type 0
 IsFresh task = (fault_of task ≡ None) × IsSteady task × ((request_of task).bytes ≡ []) × ((request_of task).end ≡ None)
@@ -101,21 +107,7 @@ pub record IsReady (tells : Type 0) (settings : SettingsView) (task : PutTask) (
 
 -- ---- what stays
 
--- the door's settings and home, and the clock's plan
-pub record Outside : Type 0 where
-  pub settings : SettingsView
-  pub home : ℕ
-  pub plan : Option (ℕ → ℕ)
-
-abbrev pub outside : SettingsView → ℕ → Option (ℕ → ℕ) → Outside
-outside settings home plan = record { settings = settings; home = home; plan = plan }
-
-pub record Stays (old new : Outside) : Type 0 where
-  pub settings : new.settings ≡ old.settings
-  pub home : new.home ≡ old.home
-  pub plan : new.plan ≡ old.plan
-
--- with these, the source's count of faults, and how long the buffer for pieces is
+-- the door's settings and home, the clock's plan, the source's count of faults, and how long the buffer for pieces is
 pub record Reading : Type 0 where
   pub outside : Outside
   pub faults : ℕ

@@ -5,7 +5,8 @@ ghost use Rattle.task_put.specs.Taking.{WantsBytes};
 ghost use Rattle.task_put.specs.Tasks.{request_of, stage_of, fault_of};
 ghost use Rattle.call_service.specs.Bodies.{most_due};
 ghost use Rattle.door_moments.specs.Acts.{Asks};
-ghost use Rattle.put_service.specs.Standing.{IsUp, IsSteady, Stays, StaysReading, outside, reading};
+ghost use Rattle.call_service.specs.Serving.{Stays, outside};
+ghost use Rattle.put_service.specs.Standing.{IsGoing, IsUp, StaysReading, reading};
 ghost use Rattle.call_service.specs.Replying.{StopsEvent};
 ghost use Rattle.put_service.specs.Parts.{TakesBytes, TakesBody, StopsBody, place};
 
@@ -36,12 +37,10 @@ fn feed_all<D: Door, C: Clock>(
     clock: &mut C,
     bytes: &[u8],
 ) -> Result<bool, ServeFault>
-    requires sound { fault_of task.old ≡ None }
-    requires steady { IsSteady task.old }
+    requires going { IsGoing D.tells (D.settings door.old) task.old (D.told door.old) }
     requires wants { WantsBytes (stage_of task.old) }
     requires open { (request_of task.old).end ≡ None }
     requires few { length ((request_of task.old).bytes) + length bytes.now ≤ most_bytes }
-    requires up { IsUp D.tells (D.settings door.old) task.old (D.told door.old) }
     ensures up { IsUp D.tells (D.settings door.old) task.new (D.told door.new) }
     ensures taken { IfOk result (TakesBytes task.old task.new bytes.now) }
     ensures asks { OnOk result (Asks D.tells D.alone (D.settings door.old) false (D.told door.old) (D.told door.new) (C.told clock.old) (C.told clock.new)) }
@@ -75,12 +74,10 @@ pub(crate) fn take_body<D: Door, C: Clock, S: Source>(
     buffer: &mut [u8],
 ) -> Result<Taken, ServeFault>
     requires room { 0 < length buffer.old }
-    requires sound { fault_of task.old ≡ None }
-    requires steady { IsSteady task.old }
+    requires going { IsGoing D.tells (D.settings door.old) task.old (D.told door.old) }
     requires open { (request_of task.old).end ≡ None }
     requires intake { intake.old.failed ≡ None }
     requires few { length ((request_of task.old).bytes) + most_due intake.old ≤ most_bytes }
-    requires up { IsUp D.tells (D.settings door.old) task.old (D.told door.old) }
     ensures up { IsUp D.tells (D.settings door.old) task.new (D.told door.new) }
     ensures taken { IfOk result (TakesBody task.old task.new
         (place (D.told door.old) intake.old (S.left source.old) (C.told clock.old))

@@ -10,9 +10,9 @@ ghost use Rattle.task_put.specs.Bodies.{most_bytes};
 ghost use Rattle.task_put.specs.Taking.{ended_request};
 ghost use Rattle.task_put.specs.Tasks.{request_of, stage_of, fault_of};
 ghost use Rattle.call_service.specs.Bodies.{most_due};
-ghost use Rattle.call_service.specs.Serving.{MayServe, WritesAtFault, IsServed, IsStopped, StaysAround, around, form_at, side, LeavesText};
+ghost use Rattle.call_service.specs.Serving.{MayServe, WritesAtFault, IsServed, IsStopped, StaysAround, around, form_at, side, LeavesText, Stays, outside};
 ghost use Rattle.door_moments.specs.Acts.{Asks};
-ghost use Rattle.put_service.specs.Standing.{IsReady, IsUp, IsSteady, IsEndAt, Stays, StaysReading, outside, reading};
+ghost use Rattle.put_service.specs.Standing.{IsReady, IsGoing, IsUp, IsSteady, IsEndAt, StaysReading, reading};
 ghost use Rattle.call_service.specs.Replying.{StopsEvent};
 ghost use Rattle.put_service.specs.Parts.{StopsBody, EndsSo, RunsTask, fate_of, task_end, text_of, served_so, site_at, place};
 
@@ -38,10 +38,8 @@ fn conclude<D: Door, C: Clock>(
     door: &mut D,
     clock: &mut C,
 ) -> Result<(), ServeFault>
-    requires sound { fault_of task.old ≡ None }
-    requires steady { IsSteady task.old }
+    requires going { IsGoing D.tells (D.settings door.old) task.old (D.told door.old) }
     requires open { (request_of task.old).end ≡ None }
-    requires up { IsUp D.tells (D.settings door.old) task.old (D.told door.old) }
     ensures up { IsUp D.tells (D.settings door.old) task.new (D.told door.new) }
     ensures ended { OnOk result (EndsSo D.tells D.alone (D.settings door.old) task.new end (D.told door.old) (D.told door.new) (C.told clock.old) (C.told clock.new)) }
     ensures stopped { OnErr result (Asks D.tells D.alone (D.settings door.old) true (D.told door.old) (D.told door.new) (C.told clock.old) (C.told clock.new)) }
@@ -80,13 +78,11 @@ fn run_put<D: Door, C: Clock, S: Source>(
     buffer: &mut [u8],
 ) -> Result<BodyEnd, ServeFault>
     requires room { 0 < length buffer.old }
-    requires sound { fault_of task.old ≡ None }
-    requires steady { IsSteady task.old }
+    requires going { IsGoing D.tells (D.settings door.old) task.old (D.told door.old) }
     requires none { (request_of task.old).bytes ≡ [] }
     requires open { (request_of task.old).end ≡ None }
     requires intake { intake.old.failed ≡ None }
     requires few { most_due intake.old ≤ most_bytes }
-    requires up { IsUp D.tells (D.settings door.old) task.old (D.told door.old) }
     ensures ran { IfOk result (RunsTask D.tells D.alone (D.settings door.old) (request_of task.old) task.new
         (place (D.told door.old) intake.old (S.left source.old) (C.told clock.old))
         (place (D.told door.new) intake.new (S.left source.new) (C.told clock.new))) }

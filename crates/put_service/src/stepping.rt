@@ -2,7 +2,8 @@
 ghost use Rattle.std.specs.Prelude.{◌≡◌, ◌<◌, ◌≤◌, ◌^◌, Ok, None, true, IfOk, OnOk, IfErr, OnErr};
 ghost use Rattle.task_put.specs.Tasks.{request_of, fault_of};
 ghost use Rattle.door_moments.specs.Acts.{Asks};
-ghost use Rattle.put_service.specs.Standing.{IsUp, IsSteady, Stays, outside, PausesAt, StandsAfter, is_untold, is_untold_at};
+ghost use Rattle.call_service.specs.Serving.{Stays, outside};
+ghost use Rattle.put_service.specs.Standing.{IsGoing, IsUp, PausesAt, StandsAfter, is_untold, is_untold_at};
 ghost use Rattle.call_service.specs.Replying.{StopsEvent};
 
 use call_service::ServeFault;
@@ -31,9 +32,7 @@ fn take_step<D: Door, C: Clock>(
     door: &mut D,
     clock: &mut C,
 ) -> Result<Option<Pause>, ServeFault>
-    requires sound { fault_of task.old ≡ None }
-    requires steady { IsSteady task.old }
-    requires up { IsUp D.tells (D.settings door.old) task.old (D.told door.old) }
+    requires going { IsGoing D.tells (D.settings door.old) task.old (D.told door.old) }
     ensures up { IsUp D.tells (D.settings door.old) task.new (D.told door.new) }
     ensures asks { IfOk result (λ step. Asks D.tells D.alone (D.settings door.old) (is_untold_at step) (D.told door.old) (D.told door.new) (C.told clock.old) (C.told clock.new)) }
     ensures stopped { OnErr result (Asks D.tells D.alone (D.settings door.old) true (D.told door.old) (D.told door.new) (C.told clock.old) (C.told clock.new)) }
@@ -67,9 +66,7 @@ pub(crate) fn advance<D: Door, C: Clock>(
     door: &mut D,
     clock: &mut C,
 ) -> Result<Pause, ServeFault>
-    requires sound { fault_of task.old ≡ None }
-    requires steady { IsSteady task.old }
-    requires up { IsUp D.tells (D.settings door.old) task.old (D.told door.old) }
+    requires going { IsGoing D.tells (D.settings door.old) task.old (D.told door.old) }
     ensures up { IsUp D.tells (D.settings door.old) task.new (D.told door.new) }
     ensures asks { IfOk result (λ pause. Asks D.tells D.alone (D.settings door.old) (is_untold pause) (D.told door.old) (D.told door.new) (C.told clock.old) (C.told clock.new)) }
     ensures stopped { OnErr result (Asks D.tells D.alone (D.settings door.old) true (D.told door.old) (D.told door.new) (C.told clock.old) (C.told clock.new)) }

@@ -1,11 +1,10 @@
-use Rattle.std.proofs.Common.{rules, ◌≡◌, [], false, true, refl, sym, ap, subst}
+use Rattle.std.proofs.Common.{rules, ◌≡◌, [], false, true, refl, sym, subst}
 use Rattle.std.proofs.KnownBytes.{Consumes-nil}
 use Rattle.std.proofs.lemmas.Result.{err_from_is_err_and}
 use Rattle.std.specs.Prelude.{IfOk, IfErr}
 use Rattle.gw_io.specs.Ends.{EndsState}
 use Rattle.swift_requests.specs.declared.asked.Asked.TheVariants.{Get}
 use Rattle.swift_requests.specs.declared.body.BodyUse.TheVariants.{Unread}
-use Rattle.task_get.specs.Pieces.{brought}
 use Rattle.task_get.specs.Tasks.{request_of}
 use Rattle.call_words.specs.Bodies.{unread}
 use Rattle.call_service.specs.Bodies.{dropped_if}
@@ -33,12 +32,6 @@ returns-then-read-clause-served g c =
     subst (λ b. IfOk c.serve_task.result (IsServed g.D.Door.tells g.D.Door.alone (site_of (g.D.Door.settings c.args.door.now) (request_of c.args.task.now)) c.args.form (Get (request_of c.args.task.now).get) (dropped_if b)
     (side (g.D.Door.told c.args.door.now) c.args.intake.now ends) (side (g.D.Door.told c.serve_task.new.door) c.serve_task.new.intake later))) (sym is)
     c.serve_task.ensures.served
-
-pub send_reply-requires-clause-up : goal.send_reply-requires-clause-up
-send_reply-requires-clause-up g c κs within = λ tells. ((c.requires.ready.new tells).legal, c.requires.ready.fits tells)
-
-pub send_reply-requires-clause-none : goal.send_reply-requires-clause-none
-send_reply-requires-clause-none g c κs within = λ tells. ap (brought (request_of c.args.task.now).get) (c.requires.ready.new tells).events
 
 pub returns-in_err-send_reply-clause-stopped : goal.returns-in_err-send_reply-clause-stopped
 returns-in_err-send_reply-clause-stopped g c =

@@ -10,13 +10,13 @@ use Rattle.put_service.proofs.feeding.feed_all.Goals as goal
 
 pub parts-init : goal.parts-init
 parts-init g c = record {
-  sound = c.requires.sound;
-  steady = c.requires.steady;
+  sound = c.requires.going.sound;
+  steady = c.requires.going.steady;
   wants = c.requires.wants;
   few = c.requires.few;
   so_far = ([], refl, sym (fed_none (request_of c.args.task.now)));
-  up = c.requires.up;
-  asks = none_asks g.D.Door.tells g.D.Door.alone (g.D.Door.settings c.args.door.now) (g.D.Door.told c.args.door.now) (g.C.Clock.told c.args.clock.now) (λ tells. (c.requires.up tells).0);
+  up = c.requires.going.up;
+  asks = none_asks g.D.Door.tells g.D.Door.alone (g.D.Door.settings c.args.door.now) (g.D.Door.told c.args.door.now) (g.C.Clock.told c.args.clock.now) (λ tells. (c.requires.going.up tells).0);
   settings = refl;
   home = refl;
   plan = refl;

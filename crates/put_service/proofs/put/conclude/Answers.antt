@@ -4,12 +4,8 @@ use Rattle.task_put.specs.Bodies.{first_end}
 use Rattle.task_put.specs.Tasks.{request_of}
 use Rattle.put_service.specs.declared.stepping.Pause.{Pause}
 use Rattle.put_service.specs.Standing.{PausesAt, is_untold}
-use Rattle.put_service.proofs.Pausing.{steady_ended}
 use Rattle.put_service.proofs.Ending.{ends_by_event, ends_by_body}
 use Rattle.put_service.proofs.put.conclude.Goals as goal
-
-pub advance-requires-clause-steady : goal.advance-requires-clause-steady
-advance-requires-clause-steady g c κs within = steady_ended c.args.task.now c.finish.new.self c.args.end c.finish.ensures.task c.requires.steady
 
 pub returns-in-Over-clause-ended : goal.returns-in-Over-clause-ended
 returns-in-Over-clause-ended g c =

@@ -11,12 +11,12 @@ use Rattle.put_service.proofs.Joining.{step_stops}
 use Rattle.put_service.proofs.Ending.{concluded, begun_to, drops_behind, leaves_behind}
 use Rattle.put_service.proofs.put.run_put.Goals as goal
 
-pub conclude-requires-clause-steady : goal.conclude-requires-clause-steady
-conclude-requires-clause-steady g c κs within =
+pub conclude-requires-clause-going : goal.conclude-requires-clause-going
+conclude-requires-clause-going g c κs within =
     let x = place (g.D.Door.told c.args.door.now) c.args.intake.now (g.S.Source.left c.args.source.now) (g.C.Clock.told c.args.clock.now) in
     let m = place (g.D.Door.told c.take_body.new.door) c.take_body.new.intake (g.S.Source.left c.take_body.new.source) (g.C.Clock.told c.take_body.new.clock) in
     let taken = subst (λ (t : Taken). TakesBody c.args.task.now c.take_body.new.task x m t) c.in-Ended.is c.in_ok-take_body.ensures.taken in
-    taken.2.0
+    record { sound = search rules; steady = taken.2.0; up = search rules }
 
 pub conclude-requires-clause-open : goal.conclude-requires-clause-open
 conclude-requires-clause-open g c κs within =

@@ -8,10 +8,10 @@ use Rattle.put_service.proofs.stepping.advance.Goals as goal
 
 pub events-init : goal.events-init
 events-init g c = record {
-  sound = c.requires.sound;
-  steady = c.requires.steady;
-  up = c.requires.up;
-  asks = none_asks g.D.Door.tells g.D.Door.alone (g.D.Door.settings c.args.door.now) (g.D.Door.told c.args.door.now) (g.C.Clock.told c.args.clock.now) (λ tells. (c.requires.up tells).0);
+  sound = c.requires.going.sound;
+  steady = c.requires.going.steady;
+  up = c.requires.going.up;
+  asks = none_asks g.D.Door.tells g.D.Door.alone (g.D.Door.settings c.args.door.now) (g.D.Door.told c.args.door.now) (g.C.Clock.told c.args.clock.now) (λ tells. (c.requires.going.up tells).0);
   request = refl;
   settings = refl;
   home = refl;

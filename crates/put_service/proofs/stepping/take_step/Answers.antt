@@ -6,31 +6,31 @@ use Rattle.put_service.proofs.stepping.take_step.Goals as goal
 
 pub returns-then-is_some-clause-asks : goal.returns-then-is_some-clause-asks
 returns-then-is_some-clause-asks g c =
-    none_asks g.D.Door.tells g.D.Door.alone (g.D.Door.settings c.args.door.now) (g.D.Door.told c.args.door.now) (g.C.Clock.told c.args.clock.now) (λ tells. (c.requires.up tells).0)
+    none_asks g.D.Door.tells g.D.Door.alone (g.D.Door.settings c.args.door.now) (g.D.Door.told c.args.door.now) (g.C.Clock.told c.args.clock.now) (λ tells. (c.requires.going.up tells).0)
 
 pub returns-in-Wants-clause-asks : goal.returns-in-Wants-clause-asks
 returns-in-Wants-clause-asks g c =
-    none_asks g.D.Door.tells g.D.Door.alone (g.D.Door.settings c.args.door.now) (g.D.Door.told c.args.door.now) (g.C.Clock.told c.args.clock.now) (λ tells. (c.requires.up tells).0)
+    none_asks g.D.Door.tells g.D.Door.alone (g.D.Door.settings c.args.door.now) (g.D.Door.told c.args.door.now) (g.C.Clock.told c.args.clock.now) (λ tells. (c.requires.going.up tells).0)
 
 pub returns-in-Wants-clause-up : goal.returns-in-Wants-clause-up
 returns-in-Wants-clause-up g c =
-    up_decided g.D.Door.tells (g.D.Door.settings c.args.door.now) c.args.task.now c.settle.new.self (g.D.Door.told c.args.door.now) c.settle.ensures.task c.requires.up
+    up_decided g.D.Door.tells (g.D.Door.settings c.args.door.now) c.args.task.now c.settle.new.self (g.D.Door.told c.args.door.now) c.settle.ensures.task c.requires.going.up
 
 pub returns-in-Done-clause-asks : goal.returns-in-Done-clause-asks
 returns-in-Done-clause-asks g c =
     untold_asks g.D.Door.tells g.D.Door.alone (g.D.Door.settings c.args.door.now) (g.D.Door.told c.args.door.now) (g.D.Door.told c.args.door.now) (g.C.Clock.told c.args.clock.now) (g.C.Clock.told c.now-moment.new.self) c.now-moment.result
-    (λ tells. (c.requires.up tells).0) (λ tells. refl) c.now-moment.ensures.told
+    (λ tells. (c.requires.going.up tells).0) (λ tells. refl) c.now-moment.ensures.told
 
 pub returns-in-Done-clause-up : goal.returns-in-Done-clause-up
 returns-in-Done-clause-up g c =
-    up_decided g.D.Door.tells (g.D.Door.settings c.args.door.now) c.args.task.now c.settle.new.self (g.D.Door.told c.args.door.now) c.settle.ensures.task c.requires.up
+    up_decided g.D.Door.tells (g.D.Door.settings c.args.door.now) c.args.task.now c.settle.new.self (g.D.Door.told c.args.door.now) c.settle.ensures.task c.requires.going.up
 
 pub act-requires-clause-up : goal.act-requires-clause-up
 act-requires-clause-up g c κs within =
-    up_decided g.D.Door.tells (g.D.Door.settings c.args.door.now) c.args.task.now c.settle.new.self (g.D.Door.told c.args.door.now) c.settle.ensures.task c.requires.up
+    up_decided g.D.Door.tells (g.D.Door.settings c.args.door.now) c.args.task.now c.settle.new.self (g.D.Door.told c.args.door.now) c.settle.ensures.task c.requires.going.up
 
 pub returns-in_ok-act-in-Event-clause-stands : goal.returns-in_ok-act-in-Event-clause-stands
 returns-in_ok-act-in-Event-clause-stands g c =
     steady_after c.settle.new.self c.act.new.task (c.in-Event.ensures.ready refl)
-    (steady_ready c.args.task.now c.settle.new.self c.settle.ensures.task c.requires.steady (c.in-Event.ensures.ready refl))
+    (steady_ready c.args.task.now c.settle.new.self c.settle.ensures.task c.requires.going.steady (c.in-Event.ensures.ready refl))
     c.in_ok-act-in-Event.ensures.steps
