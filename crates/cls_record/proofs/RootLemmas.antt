@@ -69,7 +69,7 @@ pub readied : (old new : Place) (r : Root) → Readies old new → IsRoot (objec
 readied old new r ready is = record {
   bytes = ap (λ (o : Object). o.bytes) ready.change.object ∙ is.bytes;
   attrs = ap (λ (o : Object). o.attrs) ready.change.object ∙ is.attrs;
-  rows = λ key. ap (λ rows. value_at rows key) ready.rows ∙ is.rows key;
+  rows = λ key. ap (λ rows. value_at rows key) ready.kept.rows ∙ is.rows key;
   named = is.named;
   bucket = is.bucket;
   log = is.log;

@@ -1,6 +1,6 @@
 ghost use Rattle.std.specs.Prelude.{◌≡◌, ◌+◌, ◌-◌, ◌*◌, ◌<◌, ◌≤◌, ◌↔◌, [], ◌∷◌, length, take, drop, replicate, Some, None, IsErr, IfOk, IfErr, OnOk, OnErr};
 ghost use Rattle.frame_region.specs.Held.{links_in, bytes_in};
-ghost use Rattle.frame_region.specs.Region.{Run, Owns, AddsRun, KeepsOthers, HasFrameSum, bytes_of, overwritten, with_run};
+ghost use Rattle.frame_region.specs.Region.{Run, SuitsRegion, Owns, AddsRun, KeepsOthers, HasFrameSum, bytes_of, overwritten, with_run};
 
 use crate::OutOfMemory;
 use crate::cells::Cells;
@@ -70,10 +70,7 @@ impl Model for Region {
 impl Region {
     /// A region of `frames` frames of `frame` bytes each, all of them free. It fails only for want of memory.
     pub fn new(alloc: Global, frames: u32, frame: u32) -> Result<Region, OutOfMemory>
-        requires some_frames { 1 ≤ frames }
-        requires not_too_many { frames ≤ 4194304 }
-        requires not_too_small { 16 ≤ frame }
-        requires not_too_large { frame ≤ 65536 }
+        requires { SuitsRegion frames frame }
         ensures { IfOk result (λ region. region ≡ record { frame = frame; frames = frames; free = frames; runs = replicate frames None }) }
     {
         let cells = Cells::new(alloc, frames, frame)?;

@@ -1,8 +1,9 @@
 -- What a place is where the object at it is changed.
-use Rattle.std.proofs.Common.{◌≡◌, ℕ, ◌≤◌, List, Some, IsSome, Result, Ok, Err, IsErr, OnOk, OnErr, ◌↔◌, refl, sym, ◌∙◌, ap, ap₂, subst}
+use Rattle.std.proofs.Common.{◌≡◌, ℕ, List, Some, IsSome, Result, Ok, Err, IsErr, OnOk, OnErr, ◌↔◌, refl, sym, ◌∙◌, ap, ap₂, subst}
 use Rattle.std.specs.Map.{lookup, set_value}
 use Rattle.std.proofs.lemmas.Map.Steps.{set_value_same}
-use Rattle.omap_pages.specs.Contents.{Contents, KeepsRooms}
+use Rattle.omap_pages.specs.Contents.{Contents}
+use Rattle.omap_pages.specs.Contents as contents
 use Rattle.object_pool.specs.declared.place.Place.{Place}
 use Rattle.object_pool.specs.Parts.{Parts}
 use Rattle.object_pool.specs.Lending.{with_parts}
@@ -57,12 +58,10 @@ rows_change old new w after key borrow attrs =
     subst (λ z. Becomes old new z (pool_of old).free) is change
 
 -- where rows, and rooms and spare rows that are no lower, are written
-pub readied : (old new : Place) (before after : Contents) → ChangesRows old new → rows_of new ≡ after → before ≡ rows_of old → after.rows ≡ before.rows → KeepsRooms before after → before.spare ≤ after.spare → Readies old new
-readied old new before after change now was rows rooms spare = record {
+pub readied : (old new : Place) (before after : Contents) → ChangesRows old new → rows_of new ≡ after → before ≡ rows_of old → contents.Readies before after → Readies old new
+readied old new before after change now was is = record {
   change = change;
-  rows = ap (λ (c : Contents). c.rows) now ∙ rows ∙ ap (λ (c : Contents). c.rows) was;
-  rooms = subst (λ c. KeepsRooms c (rows_of new)) was (subst (λ c. KeepsRooms before c) (sym now) rooms);
-  spare = subst (λ (c : Contents). c.spare ≤ (rows_of new).spare) was (subst (λ (c : Contents). before.spare ≤ c.spare) (sym now) spare);
+  kept = subst (λ c. contents.Readies c (rows_of new)) was (subst (λ c. contents.Readies before c) (sym now) is);
 }
 
 -- after an error nothing has changed

@@ -3,7 +3,8 @@ use Rattle.std.specs.Prelude.{◌≡◌, ℕ, ◌≤◌, Option, Result}
 use Rattle.std.specs.Borrow.{Fml, GName, MutBor, RestsIfErr, RestsIfNone}
 use Rattle.rgw_types.specs.declared.pool_key.Key.{Key}
 use Rattle.omap_pages.specs.declared.error.OutOfMemory.{OutOfMemory}
-use Rattle.omap_pages.specs.Contents.{Contents, KeepsRooms}
+use Rattle.omap_pages.specs.Contents.{Contents}
+use Rattle.omap_pages.specs.Contents as contents
 use Rattle.object_pool.specs.Objects.{Object, PoolView, slot_at, objects, with_object, KeepsAll, KeepsCounts, KeepsOthers, HasFrameSum}
 use Rattle.object_pool.specs.declared.place.Place.{Place}
 use Rattle.object_pool.specs.contracts.pool.Pool.{the_row}
@@ -55,9 +56,7 @@ ChangesRows old new = Changes old new (record (object_of old) { rows = rows_of n
 -- the object is as it was, but for rooms and spare rows that are no lower
 pub record Readies (old new : Place) : Type 0 where
   pub change : ChangesRows old new
-  pub rows : (rows_of new).rows ≡ (rows_of old).rows
-  pub rooms : KeepsRooms (rows_of old) (rows_of new)
-  pub spare : (rows_of old).spare ≤ (rows_of new).spare
+  pub kept : contents.Readies (rows_of old) (rows_of new)
 
 -- nothing changes
 pub record Stays (old new : Place) : Type 0 where

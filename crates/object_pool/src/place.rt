@@ -209,17 +209,13 @@ impl Place<'_> {
     #[tactic(auto, using(crate::proofs::PlaceLemmas::rows_now))]
     pub fn widen_row(&mut self, _alloc: Global, key: &[u8], room: u64) -> Result<(), OutOfMemory>
         requires { IsSome (value_at (rows_of self.old).rows key.now) }
-        ensures change { ChangesRows self.old self.new }
+        ensures readied { Readies self.old self.new }
         ensures ok { OnOk result (room ≤ room_at (rows_of self.new).rooms key.now) }
         ensures exact { OnOk result (
             room_at (rows_of self.new).rooms key.now ≡ max (room_at (rows_of self.old).rooms key.now) room) }
         ensures enough { room ≤ room_at (rows_of self.old).rooms key.now → IsOk result }
-        ensures rows { (rows_of self.new).rows ≡ (rows_of self.old).rows }
-        ensures rooms { KeepsRooms (rows_of self.old) (rows_of self.new) }
         ensures spare { (rows_of self.new).spare ≡ (rows_of self.old).spare }
-        ensures readied { Readies self.old self.new }
         ensures err { OnErr result (Stays self.old self.new) }
-        ensures in_order { IsInOrder (rows_of self.new).rows }
     {
         self.pool
             .parts_mut(self.number, self.key)
@@ -260,15 +256,10 @@ impl Place<'_> {
     #[tactic(auto, using(crate::proofs::PlaceLemmas::rows_now))]
     pub fn reserve_rows(&mut self, _alloc: Global, count: u64) -> Result<(), OutOfMemory>
         ensures readied { Readies self.old self.new }
-        ensures change { ChangesRows self.old self.new }
-        ensures rows { (rows_of self.new).rows ≡ (rows_of self.old).rows }
-        ensures rooms { KeepsRooms (rows_of self.old) (rows_of self.new) }
-        ensures kept { (rows_of self.old).spare ≤ (rows_of self.new).spare }
         ensures ok { OnOk result (count ≤ (rows_of self.new).spare) }
         ensures exact { OnOk result ((rows_of self.new).spare ≡ max (rows_of self.old).spare count) }
         ensures enough { count ≤ (rows_of self.old).spare → IsOk result }
         ensures err { OnErr result (Stays self.old self.new) }
-        ensures in_order { IsInOrder (rows_of self.new).rows }
     {
         self.pool
             .parts_mut(self.number, self.key)

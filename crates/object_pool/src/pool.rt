@@ -1,6 +1,7 @@
 ghost use Rattle.std.specs.Prelude.{◌≡◌, ◌↔◌, ◌+◌, ◌-◌, ◌^◌, ◌<◌, ◌≤◌, [], IfOk, IfErr, OnOk, OnErr, IsErr, IsOk, IsTrue, IsSome, IsNone, is_some, false, min, length, take, drop};
 ghost use Rattle.std.specs.Borrow.{sem};
 ghost use Rattle.std.specs.Int.{div_ceil};
+ghost use Rattle.frame_region.specs.Region.{SuitsRegion};
 ghost use Rattle.std.specs.Map.{lookup};
 ghost use Rattle.rgw_types.specs.declared.pool_key.Key.{Key as KeyOf};
 ghost use Rattle.object_pool.specs.Objects.{HasFrameSum, IsMap, KeepsAll, KeepsCounts, dropped, exists, frames_of, is_key, nothing, object_at, objects, slot_at, with_object};
@@ -58,10 +59,7 @@ impl Pool {
     /// A pool without objects, of `frames` frames of `frame` bytes each. It fails only for want of
     /// memory.
     pub fn new(alloc: Global, frames: u32, frame: u32) -> Result<Pool, OutOfMemory>
-        requires some_frames { 1 ≤ frames }
-        requires not_too_many { frames ≤ 4194304 }
-        requires not_too_small { 16 ≤ frame }
-        requires not_too_large { frame ≤ 65536 }
+        requires { SuitsRegion frames frame }
         ensures { IfOk result (λ pool. pool ≡ record { frame = frame; frames = frames; free = frames; slots = [] }) }
     {
         Ok(Pool {

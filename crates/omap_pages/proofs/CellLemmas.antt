@@ -10,7 +10,7 @@ use Rattle.std.proofs.lemmas.Float.{T_from_true}
 use Rattle.std.proofs.lemmas.List.{length-map}
 use Rattle.std.proofs.lemmas.Cmp.{nat_list_cmp_total, tied_itself}
 use Rattle.omap_pages.specs.Cells.{Cell, Cells, values_of, rooms_of, contents_of}
-use Rattle.omap_pages.specs.Contents.{Contents, room_at}
+use Rattle.omap_pages.specs.Contents.{Contents, Readies, room_at}
 use Rattle.omap_pages.specs.Rows.{Rows, IsInOrder, key_cmp, value_at, with_row}
 
 -- each entry with f of its value
@@ -154,6 +154,15 @@ module _ (cells : Cells) (spare : ℕ) (old : Contents) (view : contents_of cell
 
   pub none_seen : (key : List ℕ) → value_at old.rows key ≡ None → find key_cmp key cells ≡ None
   none_seen key none = none_from_test (find key_cmp key cells) (sym (is_some_seen key) ∙ ap is_some none)
+
+  -- the same cells, beside no fewer spare rows
+  pub readied : (new : Cells) (more : ℕ) → new ≡ cells → spare ≤ more → is_sorted key_cmp cells ≡ true → Readies old (contents_of new more)
+  readied new more same le sorted = record {
+    rows = ap values_of same ∙ same_rows;
+    rooms = λ q. let room = ap (λ r. room_at r q) (ap rooms_of same ∙ same_rooms) in omega (arith, room);
+    spare = let was = ap (λ o. o.spare) view in omega (arith, was, le);
+    in_order = ap (λ z. is_sorted key_cmp (values_of z)) same ∙ is_sorted-over key_cmp (λ (c : Cell). c.value) cells ∙ sorted;
+  }
 
   pub is_put : (new : Cells) (key value : List ℕ) (cell : Cell) → cell.value ≡ value → new ≡ put key_cmp key cell cells → IsPut old new key value cell.room
   is_put new key value cell same_value is =

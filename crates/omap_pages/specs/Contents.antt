@@ -1,7 +1,7 @@
 -- What an ordered map contains: its rows, the room of each, and how many spare rows it has ready.
 use Rattle.std.specs.Prelude.{◌≡◌, ◌≢◌, ℕ, ◌≤◌, false, List, unwrap_or}
 use Rattle.std.specs.FinMap.Entries.{find}
-use Rattle.omap_pages.specs.Rows.{Rows, key_cmp, is_within}
+use Rattle.omap_pages.specs.Rows.{Rows, key_cmp, is_within, IsInOrder}
 
 pub record Contents : Type 0 where
   pub rows : Rows
@@ -24,3 +24,10 @@ KeepsOtherRooms old new key = (q : List ℕ) → q ≢ key → room_at old.rooms
 -- no room of a key outside the range is lowered
 abbrev pub KeepsRoomsOutside : Contents → Contents → List ℕ → List ℕ → Type 0
 KeepsRoomsOutside old new from to = (q : List ℕ) → is_within from to q ≡ false → room_at old.rooms q ≤ room_at new.rooms q
+
+-- The rows, which are in order, are what they were. No room is lowered, and there are no fewer spare rows.
+pub record Readies (old new : Contents) : Type 0 where
+  pub rows : new.rows ≡ old.rows
+  pub rooms : KeepsRooms old new
+  pub spare : old.spare ≤ new.spare
+  pub in_order : IsInOrder new.rows

@@ -1,6 +1,9 @@
 -- Where a key is in a list of rows in order, or would go.
-use Rattle.std.specs.Prelude.{◌≡◌, ℕ, ◌<◌, ◌≤◌, Bool, true, false, List, length, slice_index_or}
+use Rattle.std.specs.Prelude.{◌≡◌, ℕ, ◌<◌, ◌≤◌, Bool, true, false, IsTrue, List, length, slice_index_or}
+use Rattle.std.specs.FinMap.Entries.{is_sorted}
 use Rattle.std.specs.declared.cmp.Ordering.TheVariants.{Less, Equal, Greater}
+use Rattle.omap_pages.specs.declared.place.Place.{Place}
+use Rattle.omap_pages.specs.Leaves.{flat, position, AreLeaves, IsPlace}
 use Rattle.omap_pages.specs.Rows.{key_cmp}
 
 -- the row at place i has the key
@@ -21,3 +24,14 @@ pub record IsPartedAt {X : Type 0} (test : List ℕ → Bool) (rows : List (List
   pub in_range : i ≤ length rows
   pub before : (j : ℕ) (d : List ℕ × X) → j < i → test (slice_index_or rows j d).0 ≡ false
   pub after : (j : ℕ) (d : List ℕ × X) → i ≤ j → j < length rows → test (slice_index_or rows j d).0 ≡ true
+
+-- leaves whose rows are in order of their keys
+pub record AreOrdered {X : Type 0} (all : List (List (List ℕ × X))) : Type 0 where
+  pub in_order : IsTrue (is_sorted key_cmp (flat all))
+  pub leaves : AreLeaves all
+
+-- the place parts the rows of the leaves: the keys before it fail the test, those from there on pass it
+pub record Parts {X : Type 0} (test : List ℕ → Bool) (all : List (List (List ℕ × X))) (at : Place) : Type 0 where
+  pub parted : IsPartedAt test (flat all) (position all at)
+  pub place : IsPlace all at
+  pub leaf : 0 < length all → at.leaf < length all

@@ -1,9 +1,9 @@
 // Where keys are in leaves whose rows are in order of their keys.
-ghost use Rattle.std.specs.Prelude.{◌≡◌, ◌<◌, length, IsTrue, IsSome, IfOk, IfErr};
-ghost use Rattle.std.specs.FinMap.Entries.{find, is_sorted};
+ghost use Rattle.std.specs.Prelude.{◌≡◌, ◌<◌, length, IsSome, IfOk, IfErr};
+ghost use Rattle.std.specs.FinMap.Entries.{find};
 ghost use Rattle.std.specs.Ordering.{is_lt, is_le};
-ghost use Rattle.omap_pages.specs.Leaves.{flat, position, AreLeaves, IsPlace, IsRow};
-ghost use Rattle.omap_pages.specs.Places.{IsAt, IsGapFor, IsPartedAt};
+ghost use Rattle.omap_pages.specs.Leaves.{flat, position, IsPlace, IsRow};
+ghost use Rattle.omap_pages.specs.Places.{AreOrdered, IsAt, IsGapFor, Parts};
 ghost use Rattle.omap_pages.specs.Rows.{key_cmp};
 
 use crate::leaf::Leaf;
@@ -12,8 +12,7 @@ use byte_order::head_of;
 
 // The place of the key, or the place where it would go.
 pub(crate) fn search(leaves: &[Leaf], key: &[u8]) -> Result<Place, Place>
-    requires in_order { IsTrue (is_sorted key_cmp (flat leaves.now)) }
-    requires leaves { AreLeaves leaves.now }
+    requires { AreOrdered leaves.now }
     ensures found { IfOk result (λ place.
         IsAt (flat leaves.now) key.now (position leaves.now place)) }
     ensures row { IfOk result (IsRow leaves.now) }
@@ -39,8 +38,7 @@ pub(crate) fn search(leaves: &[Leaf], key: &[u8]) -> Result<Place, Place>
 
 // The place of a key that is there.
 pub(crate) fn place_of(leaves: &[Leaf], key: &[u8]) -> Place
-    requires in_order { IsTrue (is_sorted key_cmp (flat leaves.now)) }
-    requires leaves { AreLeaves leaves.now }
+    requires ordered { AreOrdered leaves.now }
     requires there { IsSome (find key_cmp key.now (flat leaves.now)) }
     ensures at { IsAt (flat leaves.now) key.now (position leaves.now result) }
     ensures row { IsRow leaves.now result }
@@ -53,8 +51,7 @@ pub(crate) fn place_of(leaves: &[Leaf], key: &[u8]) -> Place
 
 // The place where a key that is not there would go.
 pub(crate) fn gap_for(leaves: &[Leaf], key: &[u8]) -> Place
-    requires in_order { IsTrue (is_sorted key_cmp (flat leaves.now)) }
-    requires leaves { AreLeaves leaves.now }
+    requires ordered { AreOrdered leaves.now }
     requires absent { find key_cmp key.now (flat leaves.now) ≡ None }
     ensures gap { IsGapFor (flat leaves.now) key.now (position leaves.now result) }
     ensures place { IsPlace leaves.now result }
@@ -67,13 +64,8 @@ pub(crate) fn gap_for(leaves: &[Leaf], key: &[u8]) -> Place
 
 // The place of the first key that is not below this one.
 pub(crate) fn start_from(leaves: &[Leaf], key: &[u8]) -> Place
-    requires in_order { IsTrue (is_sorted key_cmp (flat leaves.now)) }
-    requires leaves { AreLeaves leaves.now }
-    ensures parted { IsPartedAt (λ k. is_le (key_cmp key.now k))
-        (flat leaves.now)
-        (position leaves.now result) }
-    ensures place { IsPlace leaves.now result }
-    ensures leaf { 0 < length leaves.now → result.leaf < length leaves.now }
+    requires { AreOrdered leaves.now }
+    ensures { Parts (λ k. is_le (key_cmp key.now k)) leaves.now result }
 {
     match search(leaves, key) {
         Ok(place) | Err(place) => place,
@@ -82,12 +74,8 @@ pub(crate) fn start_from(leaves: &[Leaf], key: &[u8]) -> Place
 
 // The place of the first key above this one.
 pub(crate) fn start_after(leaves: &[Leaf], key: &[u8]) -> Place
-    requires in_order { IsTrue (is_sorted key_cmp (flat leaves.now)) }
-    requires leaves { AreLeaves leaves.now }
-    ensures parted { IsPartedAt (λ k. is_lt (key_cmp key.now k))
-        (flat leaves.now)
-        (position leaves.now result) }
-    ensures place { IsPlace leaves.now result }
+    requires { AreOrdered leaves.now }
+    ensures { Parts (λ k. is_lt (key_cmp key.now k)) leaves.now result }
 {
     match search(leaves, key) {
         Ok(place) => Place {

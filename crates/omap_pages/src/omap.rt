@@ -2,7 +2,7 @@ ghost use Rattle.std.specs.Prelude.{◌≡◌, ◌≢◌, ◌↔◌, ℕ, ◌+�
 ghost use Rattle.std.specs.Bool.{OnFalse};
 ghost use Rattle.std.specs.List.{splice};
 ghost use Rattle.std.specs.Option.{ForSome};
-ghost use Rattle.omap_pages.specs.Contents.{room_at, KeepsRooms, KeepsOtherRooms, KeepsRoomsOutside};
+ghost use Rattle.omap_pages.specs.Contents.{room_at, KeepsRooms, KeepsOtherRooms, KeepsRoomsOutside, Readies};
 ghost use Rattle.omap_pages.specs.Rows.{IsInOrder, value_at, with_row, without_row, rows_after, rows_within, rows_outside, KeepsOthers, HasNoneWithin, KeepsOutside};
 
 use crate::error::OutOfMemory;
@@ -162,11 +162,9 @@ impl Omap {
         ensures exact { OnOk result (
             room_at self.new.rooms key.now ≡ max (room_at self.old.rooms key.now) room) }
         ensures enough { room ≤ room_at self.old.rooms key.now → IsOk result }
-        ensures rows { self.new.rows ≡ self.old.rows }
-        ensures rooms { KeepsRooms self.old self.new }
+        ensures readied { Readies self.old self.new }
         ensures spare { self.new.spare ≡ self.old.spare }
         ensures err { OnErr result (self.new ≡ self.old) }
-        ensures in_order { IsInOrder self.new.rows }
     {
         let place = place_of(self.leaves.as_slice(), key);
         self.leaves.row_mut(place).widen(room as usize)?;
@@ -204,11 +202,8 @@ impl Omap {
         ensures ok { OnOk result (rows ≤ self.new.spare) }
         ensures exact { OnOk result (self.new.spare ≡ max self.old.spare rows) }
         ensures enough { rows ≤ self.old.spare → IsOk result }
-        ensures kept { self.old.spare ≤ self.new.spare }
-        ensures rows { self.new.rows ≡ self.old.rows }
-        ensures rooms { KeepsRooms self.old self.new }
+        ensures readied { Readies self.old self.new }
         ensures err { OnErr result (self.new ≡ self.old) }
-        ensures in_order { IsInOrder self.new.rows }
     {
         let count = self.spares.len().max(rows as usize);
         self.leaves.reserve(count)?;

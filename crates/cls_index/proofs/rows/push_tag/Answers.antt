@@ -16,7 +16,7 @@ pub splice-requires : goal.splice-requires
 splice-requires c =
     let r = c.requires.there in
     let e = r.0 in
-    let has = roomier (rows_of c.args.shard.now) (rows_of c.widen_row.new.self) c.args.name.now (Some e) c.widen_row.ensures.rows c.widen_row.ensures.rooms r.1 in
+    let has = roomier (rows_of c.args.shard.now) (rows_of c.widen_row.new.self) c.args.name.now (Some e) c.widen_row.ensures.readied.kept.rows c.widen_row.ensures.readied.kept.rooms r.1 in
     let at = tags_at c.args.front.now e r.2 in
     let tags = tags_in c.args.front.now e r.2 in
     let most = row_most e.row r.1.entry.row_fits in
@@ -28,7 +28,7 @@ splice-requires-2 c =
     let r = c.requires.there in
     let e = r.0 in
     let t = c.args.tag.now in
-    let has = roomier (rows_of c.args.shard.now) (rows_of c.widen_row.new.self) c.args.name.now (Some e) c.widen_row.ensures.rows c.widen_row.ensures.rooms r.1 in
+    let has = roomier (rows_of c.args.shard.now) (rows_of c.widen_row.new.self) c.args.name.now (Some e) c.widen_row.ensures.readied.kept.rows c.widen_row.ensures.readied.kept.rooms r.1 in
     let at = tags_at c.args.front.now e r.2 in
     let tags = tags_in c.args.front.now e r.2 in
     let most = row_most e.row r.1.entry.row_fits in
@@ -43,7 +43,7 @@ returns-clause-ok c e has read below =
     let at = tags_at c.args.front.now e read in
     let tags = tags_in c.args.front.now e read in
     let long = length-with_tag e.tags t in
-    let wide = roomier (rows_of c.args.shard.now) (rows_of c.widen_row.new.self) c.args.name.now (Some e) c.widen_row.ensures.rows c.widen_row.ensures.rooms has in
+    let wide = roomier (rows_of c.args.shard.now) (rows_of c.widen_row.new.self) c.args.name.now (Some e) c.widen_row.ensures.readied.kept.rows c.widen_row.ensures.readied.kept.rooms has in
     let row = more_row (rows_of c.widen_row.new.self) (rows_of c.splice.new.shard) c.args.name.now e t c.write_tag.result _ _ wide c.write_tag.ensures.form (omega (arith, at, tags)) (omega arith) c.splice.ensures.row in
     let counted = count_row (rows_of c.splice.new.shard) (rows_of c.splice-2.new.shard) c.args.name.now e (length e.tags) (c.args.front.now.tags + 1) (with_tag t e.tags) c.number-count.result _ _ row c.number-count.ensures (omega (arith, at)) (omega arith) c.splice-2.ensures.row in
     let count : c.args.front.now.tags + 1 ≡ length (with_tag t e.tags) = omega (arith, tags, long) in
@@ -57,9 +57,9 @@ pub returns-clause-only : goal.returns-clause-only
 returns-clause-only c =
     let name = c.args.name.now in
     let widened : KeepsToName c.args.shard.now c.widen_row.new.self name = record {
-      works = works_on_rows c.args.shard.now c.widen_row.new.self c.widen_row.ensures.change;
-      others = λ q differs. ap (λ r. value_at r q) c.widen_row.ensures.rows;
-      rooms = λ q differs. c.widen_row.ensures.rooms q;
+      works = works_on_rows c.args.shard.now c.widen_row.new.self c.widen_row.ensures.readied.change;
+      others = λ q differs. ap (λ r. value_at r q) c.widen_row.ensures.readied.kept.rows;
+      rooms = λ q differs. c.widen_row.ensures.readied.kept.rooms q;
       spare = c.widen_row.ensures.spare;
     } in
     keeps_then _ _ _ name widened (keeps_then _ _ _ name c.splice.ensures.only c.splice-2.ensures.only)

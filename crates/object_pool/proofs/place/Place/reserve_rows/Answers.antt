@@ -9,14 +9,12 @@ invariant_of-self c =
     let old = c.args.self.now in
     record { there = parts_there old (record { attrs = c.parts_mut.result.now.attrs; rows = c.reserve.new.self }); sum = parts_sum old (record { attrs = c.parts_mut.result.now.attrs; rows = c.reserve.new.self }) }
 
-pub returns-clause-change : goal.returns-clause-change
-returns-clause-change c = rows_change c.args.self.now _ (record { attrs = c.parts_mut.result.now.attrs; rows = c.reserve.new.self }) refl refl refl c.parts_mut.ensures.attrs
-
 pub returns-clause-err : goal.returns-clause-err
 returns-clause-err c = stays_on_err c.reserve.result c.args.self.now _ c.reserve.new.self c.parts_mut.result.now.attrs refl refl refl c.parts_mut.ensures.attrs (subst (λ z. OnErr c.reserve.result (c.reserve.new.self ≡ z)) (c.rows_mut.ensures.value ∙ c.parts_mut.ensures.rows) c.reserve.ensures.err)
 
 pub returns-clause-readied : goal.returns-clause-readied
 returns-clause-readied c =
     let old = c.args.self.now in
+    let change = rows_change old _ (record { attrs = c.parts_mut.result.now.attrs; rows = c.reserve.new.self }) refl refl refl c.parts_mut.ensures.attrs in
     let rows = rows_now old (record (object_of old) { attrs = c.parts_mut.result.now.attrs; rows = c.reserve.new.self }) in
-    readied old _ c.rows_mut.result.now c.reserve.new.self (returns-clause-change c) (ap (λ (o : Object). o.rows) rows) (c.rows_mut.ensures.value ∙ c.parts_mut.ensures.rows) c.reserve.ensures.rows c.reserve.ensures.rooms (c.reserve.ensures.kept)
+    readied old _ c.rows_mut.result.now c.reserve.new.self change (ap (λ (o : Object). o.rows) rows) (c.rows_mut.ensures.value ∙ c.parts_mut.ensures.rows) c.reserve.ensures.readied

@@ -9,8 +9,10 @@ use Rattle.omap_pages.proofs.omap.Omap.put_spare.Goals as goal
 
 pub gap_for-place-requires : goal.gap_for-place-requires
 gap_for-place-requires c = record {
-  in_order = ap (λ z. is_sorted key_cmp (flat z)) c.as_slice.ensures.leaves ∙ c.self.invariant.0;
-  leaves = c.as_slice.ensures.sizes;
+  ordered = record {
+    in_order = ap (λ z. is_sorted key_cmp (flat z)) c.as_slice.ensures.leaves ∙ c.self.invariant.0;
+    leaves = c.as_slice.ensures.sizes;
+  };
   absent = ap (λ z. find key_cmp c.args.key.now (flat z)) c.as_slice.ensures.leaves ∙ none_seen (flat c.self.inside.leaves.leaves) c.self.inside.spares c.args.self.now c.self.view_is c.args.key.now c.requires.absent;
 }
 

@@ -10,8 +10,10 @@ use Rattle.omap_pages.proofs.omap.Omap.splice.Goals as goal
 
 pub place_of-place-requires : goal.place_of-place-requires
 place_of-place-requires c = record {
-  in_order = ap (λ z. is_sorted key_cmp (flat z)) c.as_slice.ensures.leaves ∙ c.self.invariant.0;
-  leaves = c.as_slice.ensures.sizes;
+  ordered = record {
+    in_order = ap (λ z. is_sorted key_cmp (flat z)) c.as_slice.ensures.leaves ∙ c.self.invariant.0;
+    leaves = c.as_slice.ensures.sizes;
+  };
   there = ap (λ z. is_some (find key_cmp c.args.key.now (flat z))) c.as_slice.ensures.leaves ∙ sym (is_some_seen (flat c.self.inside.leaves.leaves) c.self.inside.spares c.args.self.now c.self.view_is c.args.key.now) ∙ c.requires.there;
 }
 
