@@ -3,7 +3,7 @@
 use rgw_types::Key;
 use std::alloc::Global;
 
-// So many guesses stand side by side: with 12 bytes each they are nearly as long as a line of a processor's cache.
+// So many guesses stand side by side: with the place of the next one they take a line of a processor's cache.
 const SIDE_BY_SIDE: usize = 5;
 
 // Where a key's object may be: its number, and the first of its frames.
@@ -30,10 +30,50 @@ const NO_GUESS: Guess = Guess {
     spot: NO_SPOT,
 };
 
-// The newest guess of a group stands first, and the oldest gives way.
+// Guesses side by side, and which of them gives way next.
+#[derive(Clone, Copy, Debug)]
+struct Group {
+    guesses: [Guess; SIDE_BY_SIDE],
+    oldest: u32,
+}
+
+const NO_GUESSES: Group = Group {
+    guesses: [NO_GUESS; SIDE_BY_SIDE],
+    oldest: 0,
+};
+
+impl Group {
+    fn spot_of(&self, sum: u32) -> Spot {
+        match self.guesses.iter().find(|guess| guess.sum == sum) {
+            Some(guess) => guess.spot,
+            None => NO_SPOT,
+        }
+    }
+
+    // In the place of what was guessed for the same sum, or else of the oldest.
+    fn put(&mut self, guess: Guess) {
+        for held in self.guesses.iter_mut() {
+            if held.sum == guess.sum {
+                *held = guess;
+                return;
+            }
+        }
+        let oldest = self.oldest as usize;
+        if let Some(place) = self.guesses.get_mut(oldest) {
+            *place = guess;
+        }
+        self.oldest = if oldest + 1 < SIDE_BY_SIDE {
+            self.oldest + 1
+        } else {
+            0
+        };
+    }
+}
+
+// The number of groups is a power of two, or none.
 #[derive(Debug, Drop)]
 pub(crate) struct Guesses {
-    groups: Vec<[Guess; SIDE_BY_SIDE]>,
+    groups: Vec<Group>,
 }
 
 impl Guesses {
@@ -46,26 +86,23 @@ impl Guesses {
     // Where the key's object may be.
     pub(crate) fn spot_of(&self, key: &Key) -> Spot {
         let sum = sum_of(key);
-        let Some(group) = self.groups.get(place_of(sum, self.groups.len())) else {
-            return NO_SPOT;
-        };
-        match group.iter().find(|guess| guess.sum == sum) {
-            Some(guess) => guess.spot,
+        match self.groups.get(place_of(sum, self.groups.len())) {
+            Some(group) => group.spot_of(sum),
             None => NO_SPOT,
         }
     }
 
-    // Guesses this number from now on. There is room for twice as many guesses as there are
-    // objects, unless memory is wanting.
+    // Guesses this number from now on. There are as many groups as objects, unless memory is
+    // wanting, so that hardly any guess gives way.
     pub(crate) fn note(&mut self, alloc: Global, objects: usize, key: &Key, number: usize) {
-        if objects / 2 >= self.groups.len() {
+        if objects >= self.groups.len() {
             self.grow(alloc);
         }
         if let Ok(number) = u32::try_from(number) {
             let sum = sum_of(key);
             let frame = NO_SPOT.frame;
             let spot = Spot { number, frame };
-            put_first(&mut self.groups, Guess { sum, spot });
+            put(&mut self.groups, Guess { sum, spot });
         }
     }
 
@@ -74,7 +111,7 @@ impl Guesses {
         let sum = sum_of(key);
         let place = place_of(sum, self.groups.len());
         if let Some(group) = self.groups.get_mut(place) {
-            for guess in group.iter_mut() {
+            for guess in group.guesses.iter_mut() {
                 if guess.sum == sum {
                     guess.spot.frame = frame;
                 }
@@ -85,30 +122,36 @@ impl Guesses {
     // Twice as many groups, with the same guesses.
     fn grow(&mut self, alloc: Global) {
         let groups = self.groups.len().saturating_mul(2).max(1);
-        let Ok(mut grown) = vec![in alloc; [NO_GUESS; SIDE_BY_SIDE]; groups] else {
+        let Ok(mut grown) = vec![in alloc; NO_GUESSES; groups] else {
             return;
         };
         for group in self.groups.iter() {
-            for guess in group.iter().rev() {
-                put_first(&mut grown, *guess);
-            }
+            put_held(&mut grown, group);
         }
         self.groups = grown;
     }
 }
 
-// Puts a guess first in its group.
-fn put_first(groups: &mut Vec<[Guess; SIDE_BY_SIDE]>, guess: Guess) {
+// Puts the guesses that a group holds.
+fn put_held(groups: &mut Vec<Group>, held: &Group) {
+    for guess in held.guesses.iter() {
+        if guess.spot.number != NO_SPOT.number {
+            put(groups, *guess);
+        }
+    }
+}
+
+// Puts a guess in its group.
+fn put(groups: &mut Vec<Group>, guess: Guess) {
     let place = place_of(guess.sum, groups.len());
     if let Some(group) = groups.get_mut(place) {
-        let [first, second, third, fourth, _] = *group;
-        *group = [guess, first, second, third, fourth];
+        group.put(guess);
     }
 }
 
 // The group of a sum among so many.
 fn place_of(sum: u32, groups: usize) -> usize {
-    sum as usize % groups.max(1)
+    sum as usize & groups.saturating_sub(1)
 }
 
 // What a key comes to.
