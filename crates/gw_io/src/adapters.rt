@@ -1,10 +1,10 @@
 // The adapters over std's readers, writers and clock. They are trusted to be what they are over:
 // no contract says what a terminal, a pipe or the system's clock does.
-ghost use Rattle.std.specs.Prelude.{◌≡◌, ◌-◌, ◌/◌, ◌^◌, ◌<◌, IfOk, MatchResult, [], ◌∷◌, is_err, if◌then◌else◌, length, min};
+ghost use Rattle.std.specs.Prelude.{◌≡◌, ◌-◌, ◌/◌, ◌^◌, MatchResult, [], ◌∷◌, is_err, if◌then◌else◌, min};
 ghost use Rattle.std.specs.Duration.{as_nanos};
 ghost use Rattle.std.specs.Io.{ReadsAtMost, WritesAtMost};
 ghost use Rattle.std.specs.Io.KnownBytes.{Appends, ReadConsumes, WriteAppends};
-ghost use Rattle.gw_io.specs.Outside.{HasCause, IsAsPlanned, raised};
+ghost use Rattle.gw_io.specs.Outside.{IsAsPlanned, Reads, Writes, raised};
 ghost use Rattle.gw_io.specs.Adapters.{source_reader, source_faults, sink_writer, sink_faults, last_told, moments_told, no_plan};
 
 use crate::{Clock, Failed, Sink, Source};
@@ -77,10 +77,8 @@ impl<R: Read> Source for ReaderSource<R> {
     ghost faults = { source_faults };
 
     fn read(&mut self, buf: &mut [u8]) -> Result<usize, Failed>
-        ensures bound { ReadsAtMost result buf.new }
-        ensures bytes { ReadConsumes (R.remaining (source_reader self.old))
-            (R.remaining (source_reader self.new)) result buf.new }
-        ensures cause { HasCause (source_faults self.old) (source_faults self.new) result }
+        ensures read { Reads (R.remaining (source_reader self.old)) (R.remaining (source_reader self.new))
+            (source_faults self.old) (source_faults self.new) result buf.new }
 
         ensures counted { source_faults self.new ≡
             (if is_err result then raised (source_faults self.old) else source_faults self.old) }
@@ -125,11 +123,8 @@ impl<W: Write> Sink for WriterSink<W> {
     ghost faults = { sink_faults };
 
     fn write(&mut self, bytes: &[u8]) -> Result<usize, Failed>
-        ensures bound { WritesAtMost result bytes.now }
-        ensures progress { IfOk result (λ n. 0 < length bytes.now → 0 < n) }
-        ensures bytes { WriteAppends (W.contents (sink_writer self.old))
-            (W.contents (sink_writer self.new)) result bytes.now }
-        ensures cause { HasCause (sink_faults self.old) (sink_faults self.new) result }
+        ensures written { Writes (W.contents (sink_writer self.old)) (W.contents (sink_writer self.new))
+            (sink_faults self.old) (sink_faults self.new) result bytes.now }
 
         ensures counted { sink_faults self.new ≡
             (if is_err result then raised (sink_faults self.old) else sink_faults self.old) }

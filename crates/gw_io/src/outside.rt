@@ -1,9 +1,8 @@
 // The traits that stand for the outside.
-ghost use Rattle.std.specs.Prelude.{◌≡◌, ◌<◌, ℕ, List, [], ◌∷◌, IfOk, None, Some, codes, length};
+ghost use Rattle.std.specs.Prelude.{◌≡◌, ℕ, List, [], ◌∷◌, None, Some, codes};
 ghost use Rattle.std.specs.declared.option.Option.{Option};
-ghost use Rattle.std.specs.Io.{ReadsAtMost, WritesAtMost};
-ghost use Rattle.std.specs.Io.KnownBytes.{Appends, ReadConsumes, WriteAppends};
-ghost use Rattle.gw_io.specs.Outside.{HasCause, IsAsPlanned};
+ghost use Rattle.std.specs.Io.KnownBytes.{Appends};
+ghost use Rattle.gw_io.specs.Outside.{IsAsPlanned, Reads, Writes};
 
 use std::error::Error;
 use std::fmt;
@@ -34,9 +33,7 @@ pub trait Source {
     /// Moves the next bytes to the front of `buf` and answers their number. Into a `buf` that is
     /// not empty, 0 is the end of input. A call that fails takes no byte.
     fn read(&mut self, buf: &mut [u8]) -> Result<usize, Failed>
-        ensures bound { ReadsAtMost result buf.new }
-        ensures bytes { ReadConsumes (left self.old) (left self.new) result buf.new }
-        ensures cause { HasCause (faults self.old) (faults self.new) result };
+        ensures { Reads (left self.old) (left self.new) (faults self.old) (faults self.new) result buf.new };
 }
 
 /// Takes bytes, as a file, a connection or standard output does.
@@ -51,10 +48,7 @@ pub trait Sink {
     /// Takes some first bytes of a piece and answers their number: at least one, unless the piece
     /// is empty. A call that fails takes none.
     fn write(&mut self, bytes: &[u8]) -> Result<usize, Failed>
-        ensures bound { WritesAtMost result bytes.now }
-        ensures progress { IfOk result (λ n. 0 < length bytes.now → 0 < n) }
-        ensures bytes { WriteAppends (taken self.old) (taken self.new) result bytes.now }
-        ensures cause { HasCause (faults self.old) (faults self.new) result };
+        ensures { Writes (taken self.old) (taken self.new) (faults self.old) (faults self.new) result bytes.now };
 }
 
 /// Tells moments, in microseconds since 1970. They may stand still, and may go back.

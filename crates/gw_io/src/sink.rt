@@ -1,8 +1,6 @@
 // Sinks in memory.
 ghost use Rattle.std.specs.Prelude.{◌≡◌, ◌⊎◌, ◌+◌, ◌-◌, ◌^◌, ◌<◌, ◌≤◌, [], ◌++◌, IfOk, OnErr, Contains, IsErr, Some, length, min, take, vec_capacity};
-ghost use Rattle.std.specs.Io.{WritesAtMost};
-ghost use Rattle.std.specs.Io.KnownBytes.{WriteAppends};
-ghost use Rattle.gw_io.specs.Outside.{HasCause, raised};
+ghost use Rattle.gw_io.specs.Outside.{Writes, raised};
 
 use crate::{Failed, Sink};
 use rgw_types::Trace;
@@ -63,10 +61,7 @@ impl Sink for CountingSink {
     ghost faults = { λ _. 0 };
 
     fn write(&mut self, bytes: &[u8]) -> Result<usize, Failed>
-        ensures bound { WritesAtMost result bytes.now }
-        ensures progress { IfOk result (λ n. 0 < length bytes.now → 0 < n) }
-        ensures bytes { WriteAppends (Some self.old) (Some self.new) result bytes.now }
-        ensures cause { HasCause 0 0 result }
+        ensures written { Writes (Some self.old) (Some self.new) 0 0 result bytes.now }
 
         ensures whole { result ≡ Ok (length bytes.now) }
         ensures taken { self.new ≡ self.old ++ bytes.now }
@@ -188,10 +183,7 @@ impl Sink for VecSink<'_> {
     ghost faults = { λ s. s.faults };
 
     fn write(&mut self, bytes: &[u8]) -> Result<usize, Failed>
-        ensures bound { WritesAtMost result bytes.now }
-        ensures progress { IfOk result (λ n. 0 < length bytes.now → 0 < n) }
-        ensures bytes { WriteAppends (Some self.old.taken) (Some self.new.taken) result bytes.now }
-        ensures cause { HasCause self.old.faults self.new.faults result }
+        ensures written { Writes (Some self.old.taken) (Some self.new.taken) self.old.faults self.new.faults result bytes.now }
 
         // The calls of the list fail, and no other but for want of memory.
         ensures fails { Contains self.old.failing self.old.calls → IsErr result }

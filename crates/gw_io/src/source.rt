@@ -1,8 +1,6 @@
 // Sources in memory.
 ghost use Rattle.std.specs.Prelude.{◌≡◌, ◌↔◌, ◌≤◌, ◌++◌, IfOk, OnErr, IsErr, Contains, Some, drop, length, min, take};
-ghost use Rattle.std.specs.Io.{ReadsAtMost};
-ghost use Rattle.std.specs.Io.KnownBytes.{ReadConsumes};
-ghost use Rattle.gw_io.specs.Outside.{HasCause, raised};
+ghost use Rattle.gw_io.specs.Outside.{Reads, raised};
 
 use crate::copying::copy_front;
 use crate::{Failed, Source};
@@ -46,9 +44,7 @@ impl Source for WholeSource<'_> {
 
     /// Gives as many bytes as `buf` takes and the source has.
     fn read(&mut self, buf: &mut [u8]) -> Result<usize, Failed>
-        ensures bound { ReadsAtMost result buf.new }
-        ensures bytes { ReadConsumes (Some self.old) (Some self.new) result buf.new }
-        ensures cause { HasCause 0 0 result }
+        ensures read { Reads (Some self.old) (Some self.new) 0 0 result buf.new }
 
         ensures count { result ≡ Ok (min (length buf.old) (length self.old)) }
         ensures copied { IfOk result (λ n. buf.new ≡ take n self.old ++ drop n buf.old) }
@@ -126,9 +122,7 @@ impl Source for SliceSource<'_> {
     ghost faults = { λ s. s.faults };
 
     fn read(&mut self, buf: &mut [u8]) -> Result<usize, Failed>
-        ensures bound { ReadsAtMost result buf.new }
-        ensures bytes { ReadConsumes (Some self.old.left) (Some self.new.left) result buf.new }
-        ensures cause { HasCause self.old.faults self.new.faults result }
+        ensures read { Reads (Some self.old.left) (Some self.new.left) self.old.faults self.new.faults result buf.new }
 
         // Exactly the calls of the list fail, and a call that fails only counts itself.
         ensures fails { IsErr result ↔ Contains self.old.failing self.old.calls }

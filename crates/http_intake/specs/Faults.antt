@@ -1,5 +1,5 @@
 -- Why reading stops.
-use Rattle.std.specs.Prelude.{◌≡◌, ◌≢◌, ℕ, List, Option, None, Some, Err, codes}
+use Rattle.std.specs.Prelude.{◌≡◌, ◌≢◌, ℕ, List, Option, MatchResult, None, Some, Err, codes}
 use Rattle.std.specs.declared.result.Result.{Result}
 use Rattle.gw_io.specs.Outside.{Rose}
 use Rattle.http_model.specs.declared.reading.HeadFault.{HeadFault}
@@ -27,6 +27,11 @@ fault_text Fault.BodyTooLarge = codes "the body is too large"
 pub record CountsFaults {T : Type 0} (before now : ℕ) (result : Result T IntakeFault) : Type 0 where
   pub rose : result ≡ Err Fault.ReadFault → Rose before now
   pub kept : result ≢ Err Fault.ReadFault → now ≡ before
+
+-- An intake that had not failed has the fault that it answers, and that fault has its cause.
+pub record KeepsFault {T : Type 0} (before now : ℕ) (failed : Option IntakeFault) (result : Result T IntakeFault) : Type 0 where
+  pub state : MatchResult result (λ _. failed ≡ None) (λ fault. failed ≡ Some fault)
+  pub cause : CountsFaults before now result
 
 -- The same of an intake, unless it had failed before: then it answers that fault again, and the count stays.
 abbrev pub HasFaultCause : {T : Type 0} → Option IntakeFault → ℕ → ℕ → Result T IntakeFault → Type 0

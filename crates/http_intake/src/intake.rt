@@ -58,7 +58,7 @@ impl Model for Intake {
 impl Intake {
     ghost use Rattle.http_intake.specs.Intake.{fresh, IsBetween, IsWhole, is_line_due, GivesNext, GivesBody, OpensBody, GivesChunk};
     ghost use Rattle.http_intake.specs.Grammar.{ReadsBody};
-    ghost use Rattle.http_intake.specs.Faults.{CountsFaults, HasFaultCause};
+    ghost use Rattle.http_intake.specs.Faults.{CountsFaults, HasFaultCause, KeepsFault};
 
     /// An intake of a connection, before its first byte. The chunks of a body may have `largest`
     /// bytes together.
@@ -185,8 +185,7 @@ impl Intake {
     ) -> Result<usize, IntakeFault>
         requires { self.old.failed ≡ None }
         ensures given { GivesChunk (S.left source.old) (S.left source.new) self.old self.new out.new result }
-        ensures state { MatchResult result (λ count. self.new.failed ≡ None) (λ fault. self.new.failed ≡ Some fault) }
-        ensures cause { CountsFaults (S.faults source.old) (S.faults source.new) result }
+        ensures fault { KeepsFault (S.faults source.old) (S.faults source.new) self.new.failed result }
     {
         match self.open_next(source) {
             Ok(0) => Ok(0),
@@ -203,8 +202,7 @@ impl Intake {
     ) -> Result<usize, IntakeFault>
         requires { self.old.failed ≡ None }
         ensures given { GivesBody (S.left source.old) (S.left source.new) self.old self.new out.new result }
-        ensures state { MatchResult result (λ count. self.new.failed ≡ None) (λ fault. self.new.failed ≡ Some fault) }
-        ensures cause { CountsFaults (S.faults source.old) (S.faults source.new) result }
+        ensures fault { KeepsFault (S.faults source.old) (S.faults source.new) self.new.failed result }
     {
         let due = self.body_left.min(out.len() as u64) as usize;
         if due == 0 {

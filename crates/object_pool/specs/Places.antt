@@ -1,5 +1,5 @@
 -- What a contract sees of a place: the pool that it is in, its key, and the object there.
-use Rattle.std.specs.Prelude.{◌≡◌, ℕ, ◌≤◌, Option, Result}
+use Rattle.std.specs.Prelude.{◌≡◌, ℕ, Option, Result}
 use Rattle.std.specs.Borrow.{Fml, GName, MutBor, RestsIfErr, RestsIfNone}
 use Rattle.rgw_types.specs.declared.pool_key.Key.{Key}
 use Rattle.omap_pages.specs.declared.error.OutOfMemory.{OutOfMemory}

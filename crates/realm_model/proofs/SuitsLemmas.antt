@@ -9,7 +9,7 @@ use Rattle.object_words.specs.declared.shard.Fate.TheVariants as Fates
 use Rattle.object_words.specs.declared.shard.Hold.{Hold}
 use Rattle.object_words.specs.declared.shard.Hold.TheVariants.{Free, Reshard, Closing}
 use Rattle.object_words.specs.declared.why.Why.{Why}
-use Rattle.object_words.specs.declared.why.Why.TheVariants.{Raced, Moved, Closed, NoTag, Stale, Expired, NoSpace, Gone}
+use Rattle.object_words.specs.declared.why.Why.TheVariants.{Raced, Moved, Closed, NoTag, Stale, Expired, Gone}
 use Rattle.object_words.specs.Keys.{head_key, tail_key}
 use Rattle.object_words.specs.Names.{at}
 use Rattle.object_words.specs.Tags.{has_tag, has_due}

@@ -97,6 +97,11 @@ all_allowed_from settings w (e ∷ es) =
 abbrev pub all_allowed : SettingsView → List Event → Bool
 all_allowed settings history = all_allowed_from settings (start settings) history
 
+-- its actors may make its events, and its answers are those of the step
+pub record IsPlayed (settings : SettingsView) (history : List Event) : Type 0 where
+  pub answers : with_answers settings history ≡ history
+  pub allowed : all_allowed settings history ≡ true
+
 -- the number of the first event that its actor may not make, counted from this number; 0 where there is none
 abbrev pub refused_from : SettingsView → World → List Event → ℕ → ℕ
 refused_from settings w [] number = 0

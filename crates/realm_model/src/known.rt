@@ -1,7 +1,7 @@
 //! Known histories, computed: each is legal, each answer is the step's, and they leave what they should.
 #![tactic(auto, unfolding(object_words::specs::Names::at, object_words::specs::Names::none, object_words::specs::Names::with_name, object_words::specs::Names::where_name, object_words::specs::Names::without_name, object_words::specs::Names::entries))]
 
-ghost use Rattle.std.specs.Prelude.{◌≡◌, ◌∷◌, [], true, codes, Some, None};
+ghost use Rattle.std.specs.Prelude.{◌≡◌, ◌∷◌, [], codes, Some, None};
 ghost use Rattle.rgw_model.specs.declared.slot.Slot.TheVariants as slots;
 ghost use Rattle.object_words.specs.declared.head.SeenSlot.TheVariants.{Live};
 ghost use Rattle.object_words.specs.Keys.{head_key};
@@ -11,7 +11,7 @@ ghost use Rattle.realm_model.specs.Containers.{entry_in};
 ghost use Rattle.realm_model.specs.Maps.{heads};
 ghost use Rattle.realm_model.specs.Accounts.{slot_now};
 ghost use Rattle.realm_model.specs.Facts.{in_head, making};
-ghost use Rattle.realm_model.specs.Histories.{with_answers, all_allowed, world_of, state_of, account_of};
+ghost use Rattle.realm_model.specs.Histories.{IsPlayed, world_of, state_of, account_of};
 ghost use Rattle.realm_model.specs.KnownWords as words;
 ghost use Rattle.realm_model.specs.StoppedWriterIsRepaired as stopped;
 ghost use Rattle.realm_model.specs.ExpiredTagIsPreparedAgain as expired;
@@ -22,8 +22,7 @@ ghost use Rattle.realm_model.specs.TailsAreRead as tails;
 
 /// What a writer left that stopped before its end is put right by a check.
 pub fn stopped_writer_is_repaired()
-    ensures answers { with_answers words.usual stopped.history ≡ stopped.history }
-    ensures allowed { all_allowed words.usual stopped.history ≡ true }
+    ensures played { IsPlayed words.usual stopped.history }
     ensures entry { entry_in ((state_of words.usual stopped.history).shards 1 words.shard) words.k
         ≡ record { version = 7; revision = 2; row = words.hello_row 1000000; tags = [] } }
     ensures head { (state_of words.usual stopped.history).heads 1 (head_key 1 words.k)
@@ -35,8 +34,7 @@ pub fn stopped_writer_is_repaired()
 
 /// A tag whose deadline has passed is cancelled and prepared again.
 pub fn expired_tag_is_prepared_again()
-    ensures answers { with_answers words.usual expired.history ≡ expired.history }
-    ensures allowed { all_allowed words.usual expired.history ≡ true }
+    ensures played { IsPlayed words.usual expired.history }
     ensures entry { entry_in ((state_of words.usual expired.history).shards 1 words.shard) words.k
         ≡ record { version = 12; revision = 2; row = words.hello_row 120000000; tags = [] } }
     ensures head { (state_of words.usual expired.history).heads 1 (head_key 1 words.k)
@@ -48,8 +46,7 @@ pub fn expired_tag_is_prepared_again()
 
 /// A writer that completes last loses, where the other's change was later.
 pub fn older_completion_loses()
-    ensures answers { with_answers words.usual older.history ≡ older.history }
-    ensures allowed { all_allowed words.usual older.history ≡ true }
+    ensures played { IsPlayed words.usual older.history }
     ensures entry { entry_in ((state_of words.usual older.history).shards 1 words.shard) words.k
         ≡ record { version = 11; revision = 4; row = words.empty_row 1; tags = [] } }
     ensures head { (state_of words.usual older.history).heads 1 (head_key 1 words.k)
@@ -59,23 +56,20 @@ pub fn older_completion_loses()
 
 /// A suggestion is refused where the entry changed since it was seen.
 pub fn late_suggestion_is_refused()
-    ensures answers { with_answers words.usual late.history ≡ late.history }
-    ensures allowed { all_allowed words.usual late.history ≡ true }
+    ensures played { IsPlayed words.usual late.history }
     ensures entry { entry_in ((state_of words.usual late.history).shards 1 words.shard) words.k
         ≡ record { version = 14; revision = 4; row = words.empty_row 120000000; tags = [] } }
 {}
 
 /// A change of a head is refused where its bytes find no frame, with the numbers.
 pub fn no_space()
-    ensures head_answers { with_answers (words.small 1) no_space.at_the_head ≡ no_space.at_the_head }
-    ensures head_allowed { all_allowed (words.small 1) no_space.at_the_head ≡ true }
+    ensures head_played { IsPlayed (words.small 1) no_space.at_the_head }
     ensures head_entry { entry_in ((state_of (words.small 1) no_space.at_the_head).shards 1 words.shard) words.k ≡ no_entry }
     ensures head_head { (state_of (words.small 1) no_space.at_the_head).heads 1 (head_key 1 words.k) ≡ no_head }
     ensures head_wanted { (account_of (words.small 1) no_space.at_the_head (words.actor 2)).wanted
         ≡ Some (record { number = 8; free = 0; needed = 1 }) }
 
-    ensures next_answers { with_answers (words.small 2) no_space.at_the_next ≡ no_space.at_the_next }
-    ensures next_allowed { all_allowed (words.small 2) no_space.at_the_next ≡ true }
+    ensures next_played { IsPlayed (words.small 2) no_space.at_the_next }
     ensures next_entry { entry_in ((state_of (words.small 2) no_space.at_the_next).shards 1 words.shard) words.k
         ≡ record { version = 8; revision = 2; row = words.alphabet_row 0; tags = [] } }
     ensures next_free { (state_of (words.small 2) no_space.at_the_next).free 1 ≡ 0 }
@@ -83,8 +77,7 @@ pub fn no_space()
 
 /// A range of an object is read from its tail, and a condition on a change is tested.
 pub fn tails_are_read()
-    ensures answers { with_answers (words.small 16) tails.history ≡ tails.history }
-    ensures allowed { all_allowed (words.small 16) tails.history ≡ true }
+    ensures played { IsPlayed (words.small 16) tails.history }
     ensures entry { entry_in ((state_of (words.small 16) tails.history).shards 1 words.shard) words.k
         ≡ record { version = 8; revision = 4; row = words.alphabet_row 0; tags = [] } }
     ensures free { (state_of (words.small 16) tails.history).free 1 ≡ 13 }
