@@ -1,12 +1,24 @@
 -- What a turn of a task makes.
-use Rattle.std.specs.Prelude.{◌≡◌, ℕ, ◌+◌, ◌^◌, ◌<◌, ◌≤◌, List, length}
+use Rattle.std.specs.Prelude.{◌≡◌, ℕ, ◌+◌, ◌^◌, ◌<◌, ◌≤◌, List, [], length}
+use Rattle.realm_model.specs.Accounts.{blank}
+use Rattle.realm_model.specs.Doors.{DoorView, actor_at}
+use Rattle.realm_model.specs.Histories.{Legal, account_of}
+use Rattle.realm_model.specs.Owns.{own_events}
 use Rattle.realm_model.specs.Settings.{SettingsView}
-use Rattle.realm_model.specs.Doors.{DoorView}
 use Rattle.realm_model.specs.declared.op.Op.{Op}
 use Rattle.realm_door.specs.declared.door.Answered.{Answered}
 use Rattle.realm_door.specs.declared.task.TaskTurn.{TaskTurn}
 use Rattle.realm_door.specs.declared.task.TaskTurn.TheVariants.{More, Wants, Gives, Done}
 use Rattle.realm_door.specs.Steps.{Extends}
+
+-- where the door tells something, that is a legal history, and the task fits it
+abbrev pub FitsTold : Type 0 → SettingsView → DoorView → (SettingsView → DoorView → Type 0) → Type 0
+FitsTold tells settings d fits = tells → Legal settings d.seen × fits settings d
+
+-- a task of a zone fits what an actor is told that made no event
+abbrev pub FitsAtFirst : ℕ → (SettingsView → DoorView → Type 0) → Type 0
+FitsAtFirst zone fits = (settings : SettingsView) (d : DoorView) → 1 ≤ zone → zone ≤ settings.zones
+    → account_of settings d.seen (actor_at d) ≡ blank → own_events d.seen (actor_at d) ≡ [] → fits settings d
 
 -- one event of the present actor at this moment, and none by another of the pass
 pub record MakesEvent (settings : SettingsView) (moment : ℕ) (d e : DoorView) : Type 0 where

@@ -8,8 +8,7 @@ use turn_cell::DoorFault;
 
 /// A task of which a caller makes the next event, where one comes, and nothing else.
 pub trait EventTask: Task {
-    ghost use Rattle.realm_model.specs.Histories.{Legal};
-    ghost use Rattle.realm_door.specs.Turns.{MakesEvent, IsOneMore};
+    ghost use Rattle.realm_door.specs.Turns.{FitsTold, MakesEvent, IsOneMore};
 
     /// Whether an event comes next.
     ghost is_ready: { Self → Type 0 };
@@ -21,12 +20,8 @@ pub trait EventTask: Task {
     fn event<D: Door>(&mut self, alloc: Global, door: &mut D, moment: u64) -> Result<(), DoorFault>
         requires ready { is_ready self.old }
         requires sound { Self.fault self.old ≡ None }
-        requires fits { D.tells →
-            Legal (D.settings door.old) (D.told door.old).seen
-            × Self.fits self.old (D.settings door.old) (D.told door.old) }
-        ensures kept { D.tells →
-            Legal (D.settings door.old) (D.told door.new).seen
-            × Self.fits self.new (D.settings door.old) (D.told door.new) }
+        requires fits { FitsTold D.tells (D.settings door.old) (D.told door.old) (Self.fits self.old) }
+        ensures kept { FitsTold D.tells (D.settings door.old) (D.told door.new) (Self.fits self.new) }
         ensures made { OnOk result (D.tells → MakesEvent (D.settings door.old) moment (D.told door.old) (D.told door.new)) }
         ensures alone { OnOk result (D.tells → D.alone → IsOneMore (D.told door.old) (D.told door.new)) }
         ensures counts { OnOk result ((D.last door.old < D.last door.new) × (D.last door.new ≤ 2 ^ 62)) }

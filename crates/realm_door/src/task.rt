@@ -23,9 +23,8 @@ pub trait Task {
     ghost use Rattle.turn_cell.specs.declared.machine.DoorFault.{DoorFault};
     ghost use Rattle.turn_cell.specs.declared.machine.DoorFault.TheVariants.{Worn};
     ghost use Rattle.realm_model.specs.Settings.{SettingsView};
-    ghost use Rattle.realm_model.specs.Histories.{Legal};
     ghost use Rattle.realm_model.specs.Doors.{DoorView};
-    ghost use Rattle.realm_door.specs.Turns.{Turned, Counts, Given, IsOneMore};
+    ghost use Rattle.realm_door.specs.Turns.{FitsTold, Turned, Counts, Given, IsOneMore};
     ghost use Rattle.realm_door.specs.declared.task.TaskTurn.TheVariants.{Wants, Done};
 
     /// What is asked. No value of it is made.
@@ -67,12 +66,8 @@ pub trait Task {
         door: &mut D,
         moment: u64,
     ) -> Result<TaskTurn, DoorFault>
-        requires { D.tells →
-            Legal (D.settings door.old) (D.told door.old).seen
-            × fits self.old (D.settings door.old) (D.told door.old) }
-        ensures kept { D.tells →
-            Legal (D.settings door.old) (D.told door.new).seen
-            × fits self.new (D.settings door.old) (D.told door.new) }
+        requires { FitsTold D.tells (D.settings door.old) (D.told door.old) (fits self.old) }
+        ensures kept { FitsTold D.tells (D.settings door.old) (D.told door.new) (fits self.new) }
         ensures turned { IfOk result (λ turn.
             D.tells → Turned (D.settings door.old) turn moment (D.told door.old) (D.told door.new)) }
         ensures alone { IfOk result (λ turn. D.tells → D.alone → IsOneMore (D.told door.old) (D.told door.new)) }

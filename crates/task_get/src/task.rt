@@ -1,16 +1,10 @@
-ghost use Rattle.std.specs.Prelude.{◌≡◌, ◌≤◌, ◌^◌, [], IfOk, IfErr, OnOk, OnErr, true, false, length, Some, None, option_copied};
-ghost use Rattle.realm_model.specs.Settings.{SettingsView};
-ghost use Rattle.realm_model.specs.Accounts.{blank};
-ghost use Rattle.realm_model.specs.Histories.{account_of};
-ghost use Rattle.realm_model.specs.Owns.{own_events};
-ghost use Rattle.realm_model.specs.Doors.{DoorView, actor_at};
+ghost use Rattle.std.specs.Prelude.{◌≡◌, ◌≤◌, ◌^◌, IfOk, IfErr, OnOk, OnErr, true, false, length, Some, None, option_copied};
 ghost use Rattle.realm_model.specs.Suits.{Suits};
 ghost use Rattle.task_words.specs.declared.reply.MapReply.{MapReply as MapReplyOf};
 ghost use Rattle.task_get.specs.Pieces.{piece_bytes};
 ghost use Rattle.turn_cell.specs.declared.machine.DoorFault.TheVariants.{Worn};
-ghost use Rattle.realm_model.specs.Histories.{Legal};
 ghost use Rattle.realm_door.specs.declared.task.TaskTurn.TheVariants.{More, Gives};
-ghost use Rattle.realm_door.specs.Turns.{Turned, IsActing, IsOneMore, Counts, Given};
+ghost use Rattle.realm_door.specs.Turns.{FitsAtFirst, FitsTold, Turned, IsActing, IsOneMore, Counts, Given};
 ghost use Rattle.task_get.specs.Stages.{IsOver, IsOpen, IsBehindRow, ended_in, op_of, step_of};
 ghost use Rattle.task_get.specs.declared.stage.Stage.TheVariants.{Look};
 ghost use Rattle.task_get.specs.Tasks.{request_of, stage_of, fault_of, bytes_of, given_of, shown_in, shown_of, Fits};
@@ -42,9 +36,7 @@ impl GetTask {
     /// A task that made no event.
     pub fn new(request: GetRequest) -> GetTask
         ensures request { request_of result ≡ request }
-        ensures fits { (settings : SettingsView) (d : DoorView) → 1 ≤ request.zone → request.zone ≤ settings.zones
-            → account_of settings d.seen (actor_at d) ≡ blank → own_events d.seen (actor_at d) ≡ []
-            → Fits result settings d }
+        ensures fits { FitsAtFirst request.zone (Fits result) }
         ensures sound { fault_of result ≡ None }
         ensures open { IsOpen (stage_of result) }
         ensures looks { stage_of result ≡ Look }
@@ -138,12 +130,8 @@ impl GetTask {
     ) -> Result<TaskTurn, DoorFault>
         requires ready { IsOpen (stage_of self.old) }
         requires sound { fault_of self.old ≡ None }
-        requires fits { D.tells →
-            Legal (D.settings door.old) (D.told door.old).seen
-            × Fits self.old (D.settings door.old) (D.told door.old) }
-        ensures kept { D.tells →
-            Legal (D.settings door.old) (D.told door.new).seen
-            × Fits self.new (D.settings door.old) (D.told door.new) }
+        requires fits { FitsTold D.tells (D.settings door.old) (D.told door.old) (Fits self.old) }
+        ensures kept { FitsTold D.tells (D.settings door.old) (D.told door.new) (Fits self.new) }
         ensures turned { IfOk result (λ turn.
             D.tells → Turned (D.settings door.old) turn moment (D.told door.old) (D.told door.new)) }
         ensures acts { IfOk result IsActing }

@@ -1,10 +1,5 @@
-ghost use Rattle.std.specs.Prelude.{◌≡◌, ◌≤◌, ◌⊎◌, IfOk, OnOk, None, option_copied};
-ghost use Rattle.realm_model.specs.Settings.{SettingsView};
-ghost use Rattle.realm_model.specs.Doors.{DoorView, actor_at};
-ghost use Rattle.realm_model.specs.Accounts.{blank};
-ghost use Rattle.realm_model.specs.Histories.{account_of};
-ghost use Rattle.realm_model.specs.Owns.{own_events};
-ghost use Rattle.std.specs.Prelude.{[]};
+ghost use Rattle.std.specs.Prelude.{◌≡◌, ◌⊎◌, IfOk, OnOk, None, option_copied};
+ghost use Rattle.realm_door.specs.Turns.{FitsAtFirst};
 ghost use Rattle.task_list.specs.declared.stage.Stage.TheVariants.{Broken as broken, Look as looking};
 ghost use Rattle.task_list.specs.Tasks.{IsOver, is_broken, refused_in, IsGoing, Takes, TakesTold, op_of, request_of, stage_of, fault_of, fits};
 
@@ -39,9 +34,7 @@ impl ListTask {
     /// A task that made no event.
     pub fn new(request: ListRequest) -> ListTask
         ensures request { request_of result ≡ request }
-        ensures fits { (settings : SettingsView) (d : DoorView) → 1 ≤ request.zone → request.zone ≤ settings.zones
-            → account_of settings d.seen (actor_at d) ≡ blank → own_events d.seen (actor_at d) ≡ []
-            → fits result settings d }
+        ensures fits { FitsAtFirst request.zone (fits result) }
         ensures sound { fault_of result ≡ None }
         ensures open { IsOver (stage_of result) → ⊥ }
         ensures looks { stage_of result ≡ looking None }

@@ -1,9 +1,5 @@
-ghost use Rattle.std.specs.Prelude.{◌≡◌, ◌≤◌, [], IfOk, IfSome, None};
-ghost use Rattle.realm_model.specs.Settings.{SettingsView};
-ghost use Rattle.realm_model.specs.Doors.{DoorView, actor_at};
-ghost use Rattle.realm_model.specs.Accounts.{blank};
-ghost use Rattle.realm_model.specs.Histories.{account_of};
-ghost use Rattle.realm_model.specs.Owns.{own_events};
+ghost use Rattle.std.specs.Prelude.{◌≡◌, ◌≤◌, IfOk, IfSome, None};
+ghost use Rattle.realm_door.specs.Turns.{FitsAtFirst};
 ghost use Rattle.task_repair.specs.Stages.{IsOpen, op_of, step_of};
 ghost use Rattle.realm_model.specs.Shown.{row_shown};
 ghost use Rattle.task_repair.specs.Tasks.{stage_of, request_of, fault_of, fits};
@@ -37,9 +33,7 @@ impl RepairTask {
     /// A task that made no event.
     pub fn new(zone: u8, bucket: BucketName) -> RepairTask
         ensures request { request_of result ≡ record { zone = zone; bucket = bucket } }
-        ensures fits { (settings : SettingsView) (d : DoorView) → 1 ≤ zone → zone ≤ settings.zones
-            → account_of settings d.seen (actor_at d) ≡ blank → own_events d.seen (actor_at d) ≡ []
-            → fits result settings d }
+        ensures fits { FitsAtFirst zone (fits result) }
         ensures sound { fault_of result ≡ None }
         ensures open { IsOpen (stage_of result) }
     {
