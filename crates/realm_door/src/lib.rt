@@ -6,6 +6,7 @@ mod back;
 mod door;
 mod event_task;
 mod laws;
+mod next_op;
 mod task;
 
 pub use back::handed_back;
@@ -14,6 +15,7 @@ pub use event_task::EventTask;
 pub use laws::{
     actors_stay_counted, growth_adds_up, others_change_no_doings, own_events_extend_what_is_told,
 };
+pub use next_op::NextOp;
 pub use task::{Task, TaskTurn};
 
 #[cfg(test)]

@@ -1,14 +1,14 @@
-ghost use Rattle.std.specs.Prelude.{◌≡◌, ◌≤◌, IfOk, None};
+ghost use Rattle.std.specs.Prelude.{◌≡◌, ◌≤◌, None};
 ghost use Rattle.realm_model.specs.Settings.{SettingsView};
 ghost use Rattle.realm_model.specs.Doors.{DoorView, actor_at};
-ghost use Rattle.task_container.specs.Stages.{IsOpen, op_of, step_of, header_step, after_look, after_header, after_left, stage_of, request_of, fault_of, fits};
+ghost use Rattle.task_container.specs.Stages.{IsOpen, step_of, header_step, after_look, after_header, after_left, stage_of, request_of, fault_of, fits};
 ghost use Rattle.realm_model.specs.Accounts.{blank};
 ghost use Rattle.realm_model.specs.Histories.{account_of};
 
 use crate::counting::Counting;
 use crate::request::ContainerRequest;
 use object_words::{Bucket, ShardStats};
-use realm_door::{Door, EventTask, Task, TaskTurn};
+use realm_door::{Door, EventTask, NextOp, Task, TaskTurn};
 use realm_model::{Op, Reply};
 use std::alloc::{AllocError, Global};
 use std::mem::replace;
@@ -57,25 +57,7 @@ impl ContainerTask {
         }
     }
 
-    /// The operation that comes next.
-    fn next_op(&self) -> Result<Op, AllocError>
-        requires { IsOpen self.now.stage }
-        ensures { IfOk result (λ op. op ≡ op_of self.now.request self.now.stage) }
-    {
-        let zone = self.request.zone;
-        match &self.stage {
-            Stage::Count(counting) => Ok(Op::Stats {
-                zone,
-                key: counting.key(),
-            }),
-            _ => Ok(Op::BucketRead {
-                zone,
-                name: self.request.command.name().clone()?,
-            }),
-        }
-    }
-
-    /// Goes on by the answer to that operation.
+    /// Goes on by the answer to the operation that came next.
     fn take(&mut self, reply: Reply)
         ensures request { self.new.request ≡ self.old.request }
         ensures fault { self.new.fault ≡ self.old.fault }
@@ -163,6 +145,28 @@ fn stage_when_moved(moved: u32) -> Stage
         Stage::Look
     } else {
         Stage::Ended(Outcome::MovedOften)
+    }
+}
+
+impl NextOp for ContainerTask {
+    ghost use Rattle.task_container.specs.Stages.{IsOpen, op_of, request_of, stage_of};
+
+    ghost is_open = { λ t. IsOpen (stage_of t) };
+
+    ghost op = { λ t. op_of (request_of t) (stage_of t) };
+
+    fn next_op(&self) -> Result<Op, AllocError> {
+        let zone = self.request.zone;
+        match &self.stage {
+            Stage::Count(counting) => Ok(Op::Stats {
+                zone,
+                key: counting.key(),
+            }),
+            _ => Ok(Op::BucketRead {
+                zone,
+                name: self.request.command.name().clone()?,
+            }),
+        }
     }
 }
 

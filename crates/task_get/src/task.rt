@@ -13,7 +13,7 @@ use crate::piece;
 use crate::piece::Piece;
 use crate::request::GetRequest;
 use crate::stage::{Stage, Step, after_head, after_row, after_tail, slot_in, tail_in};
-use realm_door::{Door, Task, TaskTurn};
+use realm_door::{Door, NextOp, Task, TaskTurn};
 use realm_model::{Op, Reply};
 use rgw_types::PartNumber;
 use std::alloc::{AllocError, Global};
@@ -74,35 +74,6 @@ impl GetTask {
         match &self.stage {
             Stage::Ended { outcome, .. } => Some(outcome),
             _ => None,
-        }
-    }
-
-    /// The operation that comes next.
-    fn next_op(&self) -> Result<Op, AllocError>
-        requires { IsOpen self.now.stage }
-        ensures { IfOk result (λ op. op ≡ op_of self.now.request self.now.stage) }
-    {
-        let zone = self.request.zone;
-        match &self.stage {
-            Stage::Open { container } => Ok(Op::HeadRead {
-                zone,
-                container: *container,
-                name: self.request.get.name.clone()?,
-            }),
-            Stage::Tails(reading) => {
-                let piece = reading.next_piece();
-                Ok(Op::TailRead {
-                    zone,
-                    write: reading.manifest.write,
-                    part: PartNumber::new(piece.part),
-                    start: piece.start,
-                    count: piece.count,
-                })
-            }
-            _ => Ok(Op::BucketRead {
-                zone,
-                name: self.request.get.container.clone()?,
-            }),
         }
     }
 
@@ -200,6 +171,40 @@ fn next_step(request: &GetRequest, stage: Stage, reply: Reply, clock: u64) -> St
                 stage: over,
                 piece: None,
             }
+        }
+    }
+}
+
+impl NextOp for GetTask {
+    ghost use Rattle.task_get.specs.Stages.{IsOpen, op_of};
+    ghost use Rattle.task_get.specs.Tasks.{request_of, stage_of};
+
+    ghost is_open = { λ t. IsOpen (stage_of t) };
+
+    ghost op = { λ t. op_of (request_of t) (stage_of t) };
+
+    fn next_op(&self) -> Result<Op, AllocError> {
+        let zone = self.request.zone;
+        match &self.stage {
+            Stage::Open { container } => Ok(Op::HeadRead {
+                zone,
+                container: *container,
+                name: self.request.get.name.clone()?,
+            }),
+            Stage::Tails(reading) => {
+                let piece = reading.next_piece();
+                Ok(Op::TailRead {
+                    zone,
+                    write: reading.manifest.write,
+                    part: PartNumber::new(piece.part),
+                    start: piece.start,
+                    count: piece.count,
+                })
+            }
+            _ => Ok(Op::BucketRead {
+                zone,
+                name: self.request.get.container.clone()?,
+            }),
         }
     }
 }

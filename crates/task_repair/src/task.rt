@@ -1,6 +1,6 @@
 ghost use Rattle.std.specs.Prelude.{◌≡◌, ◌≤◌, IfOk, IfSome, None};
 ghost use Rattle.realm_door.specs.Turns.{FitsAtFirst};
-ghost use Rattle.task_repair.specs.Stages.{IsOpen, op_of, step_of};
+ghost use Rattle.task_repair.specs.Stages.{IsOpen, step_of};
 ghost use Rattle.realm_model.specs.Shown.{row_shown};
 ghost use Rattle.task_repair.specs.Tasks.{stage_of, request_of, fault_of, fits};
 
@@ -8,7 +8,7 @@ use crate::request::RepairRequest;
 use crate::stage::{Stage, next_stage};
 use job_words::JobOutcome;
 use object_words::{BucketName, EntryRow, ShardKey};
-use realm_door::{Door, EventTask, Task, TaskTurn};
+use realm_door::{Door, EventTask, NextOp, Task, TaskTurn};
 use realm_model::{Op, Reply};
 use std::alloc::{AllocError, Global};
 use std::mem::replace;
@@ -45,11 +45,43 @@ impl RepairTask {
         }
     }
 
-    /// The operation that comes next.
-    fn next_op(&self) -> Result<Op, AllocError>
-        requires { IsOpen self.now.stage }
-        ensures { IfOk result (λ op. op ≡ op_of self.now.request self.now.stage) }
+    /// Goes on by the answer to the operation that came next.
+    fn take(&mut self, alloc: Global, reply: Reply)
+        ensures request { self.new.request ≡ self.old.request }
+        ensures fault { self.new.fault ≡ self.old.fault }
+        ensures stage { self.new.stage ≡ (step_of self.old.stage self.old.applied reply).0 }
+        ensures some { IfSome (row_shown reply) (λ row. 1 ≤ row.shards) }
+        ensures applied { self.new.applied ≡ (step_of self.old.stage self.old.applied reply).1 }
     {
+        let stage = replace(&mut self.stage, Stage::Look);
+        let (stage, applied) = next_stage(alloc, stage, self.applied, reply);
+        drop(replace(&mut self.stage, stage));
+        self.applied = applied;
+    }
+}
+
+/// A copy of a row.
+fn copy_of(row: &EntryRow) -> Result<EntryRow, AllocError>
+    ensures { IfOk result (λ copy. copy ≡ row.now) }
+{
+    Ok(EntryRow {
+        exists: row.exists,
+        size: row.size,
+        stamp: row.stamp,
+        etag: row.etag,
+        kind: row.kind.clone()?,
+    })
+}
+
+impl NextOp for RepairTask {
+    ghost use Rattle.task_repair.specs.Stages.{IsOpen, op_of};
+    ghost use Rattle.task_repair.specs.Tasks.{request_of, stage_of};
+
+    ghost is_open = { λ t. IsOpen (stage_of t) };
+
+    ghost op = { λ t. op_of (request_of t) (stage_of t) };
+
+    fn next_op(&self) -> Result<Op, AllocError> {
         let zone = self.request.zone;
         match &self.stage {
             Stage::Page(pass, after) => Ok(Op::Page {
@@ -78,33 +110,6 @@ impl RepairTask {
             }),
         }
     }
-
-    /// Goes on by the answer to that operation.
-    fn take(&mut self, alloc: Global, reply: Reply)
-        ensures request { self.new.request ≡ self.old.request }
-        ensures fault { self.new.fault ≡ self.old.fault }
-        ensures stage { self.new.stage ≡ (step_of self.old.stage self.old.applied reply).0 }
-        ensures some { IfSome (row_shown reply) (λ row. 1 ≤ row.shards) }
-        ensures applied { self.new.applied ≡ (step_of self.old.stage self.old.applied reply).1 }
-    {
-        let stage = replace(&mut self.stage, Stage::Look);
-        let (stage, applied) = next_stage(alloc, stage, self.applied, reply);
-        drop(replace(&mut self.stage, stage));
-        self.applied = applied;
-    }
-}
-
-/// A copy of a row.
-fn copy_of(row: &EntryRow) -> Result<EntryRow, AllocError>
-    ensures { IfOk result (λ copy. copy ≡ row.now) }
-{
-    Ok(EntryRow {
-        exists: row.exists,
-        size: row.size,
-        stamp: row.stamp,
-        etag: row.etag,
-        kind: row.kind.clone()?,
-    })
 }
 
 impl Task for RepairTask {
