@@ -1,14 +1,24 @@
 use job_words::JobOutcome;
+use rgw_types::Text;
 use script_words::{
-    ActorOutcome, Line, ScriptBody, Verb, push_bad_line, push_count_line, push_job_outcome,
-    push_named_line, push_reply_line, push_request_outcome, read_line,
+    ActorName, ActorOutcome, Line, ScriptBody, Verb, push_bad_line, push_count_line,
+    push_job_outcome, push_named_line, push_reply_line, push_request_outcome, read_line,
 };
+use std::alloc::{AllocError, Global};
 use std::test::Fail;
 use task_words::{MapReply, Outcome, Refusal};
 
+/// Whether a realm of two zones takes the text as a line.
+fn is_line(alloc: Global, text: &str) -> Result<bool, AllocError> {
+    let read = read_line(alloc, text.as_bytes(), 2)?;
+    let found = read.is_some();
+    drop(read);
+    Ok(found)
+}
+
 #[test]
 fn lines_and_what_is_none(rt: HostRuntime) -> Result<(), Fail> {
-    for (text, is_line) in [
+    for (text, is_one) in [
         ("clock 18446744073709551615", true),
         ("start w 1 put box/k hello", true),
         ("start w 3 put box/k hello", false),
@@ -30,61 +40,61 @@ fn lines_and_what_is_none(rt: HostRuntime) -> Result<(), Fail> {
         ("jump", false),
         ("", false),
     ] {
-        let read = read_line(rt.alloc(), text.as_bytes(), 2)?;
-        assert_eq!(rt; read.is_some(), is_line, "{text}");
+        assert_eq!(rt; is_line(rt.alloc(), text)?, is_one, "{text}");
     }
     Ok(())
+}
+
+fn puts_nothing(verb: &Verb) -> bool {
+    match verb {
+        Verb::Put {
+            container,
+            name,
+            body: ScriptBody::Word(bytes),
+        } => container.as_text().is("box") && name.as_text().is("a/b") && bytes.is_empty(),
+        _ => false,
+    }
+}
+
+fn starts_that_put(line: &Line) -> bool {
+    match line {
+        Line::Start { actor, zone, verb } => {
+            actor.as_text().is("w") && *zone == 1 && puts_nothing(verb)
+        }
+        _ => false,
+    }
 }
 
 #[test]
 fn a_put_and_its_actor(rt: HostRuntime) -> Result<(), Fail> {
     let read = read_line(rt.alloc(), b"start w 1 put box/a/b -", 1)?;
-    let Some(Line::Start { actor, zone, verb }) = read else {
-        return Err(Fail::from("no start"));
-    };
-    assert!(rt; actor.as_text().is("w"));
-    assert_eq!(rt; zone, 1);
-    let Verb::Put {
-        container,
-        name,
-        body,
-    } = verb
-    else {
-        return Err(Fail::from("no put"));
-    };
-    assert!(rt; container.as_text().is("box"));
-    assert!(rt; name.as_text().is("a/b"));
-    let ScriptBody::Word(bytes) = body else {
-        return Err(Fail::from("no word"));
-    };
-    assert!(rt; bytes.is_empty());
+    let right = read.as_ref().is_some_and(|line| starts_that_put(line));
+    drop(read);
+    assert!(rt; right);
     Ok(())
 }
 
+fn is_reply(alloc: Global, outcome: Outcome, text: &str) -> Result<bool, AllocError> {
+    let mut out = Vec::new(alloc);
+    let end = push_request_outcome(&mut out, &outcome, b"");
+    drop(outcome);
+    end?;
+    Ok(out.as_slice() == text.as_bytes())
+}
+
 #[test]
-fn texts_of_replies(rt: HostRuntime) -> Result<(), Fail> {
-    for (outcome, text) in [
-        (Outcome::Busy { id: 12 }, "503 Busy: 12"),
-        (
-            Outcome::NoSpace { free: 0, needed: 1 },
-            "507 No space: 0 of 1",
-        ),
-        (
-            Outcome::LateRead {
-                read_at: 1_000_000,
-                clock: 11_000_000,
-            },
-            "late 1000000 11000000",
-        ),
-        (
-            Outcome::Done(MapReply::Refused(Refusal::NoObject)),
-            "404 No such object",
-        ),
-    ] {
-        let mut out = Vec::new(rt.alloc());
-        push_request_outcome(&mut out, &outcome, b"")?;
-        assert_eq!(rt; out.as_slice(), text.as_bytes());
-    }
+fn texts_of_faults(rt: HostRuntime) -> Result<(), Fail> {
+    let alloc = rt.alloc();
+    assert!(rt; is_reply(alloc, Outcome::Busy { id: 12 }, "503 Busy: 12")?);
+    let no_space = Outcome::NoSpace { free: 0, needed: 1 };
+    assert!(rt; is_reply(alloc, no_space, "507 No space: 0 of 1")?);
+    let late = Outcome::LateRead {
+        read_at: 1_000_000,
+        clock: 11_000_000,
+    };
+    assert!(rt; is_reply(alloc, late, "late 1000000 11000000")?);
+    let refused = Outcome::Done(MapReply::Refused(Refusal::NoObject));
+    assert!(rt; is_reply(alloc, refused, "404 No such object")?);
     Ok(())
 }
 
@@ -107,19 +117,30 @@ fn texts_of_jobs(rt: HostRuntime) -> Result<(), Fail> {
     Ok(())
 }
 
+fn push_lines(out: &mut Vec<u8>, actor: &ActorName, outcome: &Outcome) -> Result<(), AllocError> {
+    push_count_line(out, actor, 2)?;
+    push_named_line(out, actor, ActorOutcome::Request(outcome), b"")?;
+    push_reply_line(out, ActorOutcome::Job(&JobOutcome::NoBucket), b"")?;
+    push_bad_line(out, 7)
+}
+
+fn printed_of(alloc: Global, actor: &ActorName) -> Result<Vec<u8>, AllocError> {
+    let mut out = Vec::new(alloc);
+    let busy = Outcome::Busy { id: 1 };
+    let end = push_lines(&mut out, actor, &busy);
+    drop(busy);
+    end?;
+    Ok(out)
+}
+
 #[test]
 fn lines_that_are_printed(rt: HostRuntime) -> Result<(), Fail> {
-    let mut out = Vec::new(rt.alloc());
-    let Some(Line::Run(actor)) = read_line(rt.alloc(), b"run h", 1)? else {
-        return Err(Fail::from("no line"));
-    };
-    push_count_line(&mut out, &actor, 2)?;
-    let busy = Outcome::Busy { id: 1 };
-    push_named_line(&mut out, &actor, ActorOutcome::Request(&busy), b"")?;
-    push_reply_line(&mut out, ActorOutcome::Job(&JobOutcome::NoBucket), b"")?;
-    push_bad_line(&mut out, 7)?;
+    let actor = ActorName::new(Text::from_str(rt.alloc(), "h")?)
+        .ok()
+        .ok_or("no name")?;
+    let printed = printed_of(rt.alloc(), &actor)?;
     assert_eq!(rt;
-        out.as_slice(),
+        printed.as_slice(),
         b"h 2\nh 503 Busy: 1\n404 No such container\nbad line 7\n".as_slice()
     );
     Ok(())

@@ -1,5 +1,5 @@
 // Words whose meaning comes from the manual of the program and from examples worked by hand.
-use rgw_words::{WordsFault, read_once, read_script};
+use rgw_words::{RunWords, WordsFault, read_once, read_script};
 use std::alloc::{AllocError, Global};
 use std::test::Fail;
 
@@ -67,13 +67,38 @@ fn letters(alloc: Global, count: usize) -> Result<String, AllocError> {
     Ok(text)
 }
 
-/// Why the words are not read, if they are not.
-fn fault_of(alloc: Global, words: &[&str]) -> Result<Option<WordsFault>, AllocError> {
+fn once_of(alloc: Global, words: &[&str]) -> Result<Result<RunWords, WordsFault>, AllocError> {
     let words = strings(alloc, words)?;
-    match read_once(alloc, &words) {
-        Ok(_) => Ok(None),
-        Err(fault) => Ok(Some(fault)),
-    }
+    let read = read_once(alloc, &words);
+    drop(words);
+    Ok(read)
+}
+
+fn script_of(alloc: Global, words: &[&str]) -> Result<Result<RunWords, WordsFault>, AllocError> {
+    let words = strings(alloc, words)?;
+    let read = read_script(alloc, &words);
+    drop(words);
+    Ok(read)
+}
+
+fn is_refused(read: Result<RunWords, WordsFault>) -> bool {
+    let refused = matches!(&read, Err(WordsFault::Refused));
+    drop(read);
+    refused
+}
+
+/// Whether the words name this container and this moment.
+fn names(
+    alloc: Global,
+    words: &[&str],
+    name: Option<&str>,
+    now: Option<u64>,
+) -> Result<bool, Fail> {
+    let once = once_of(alloc, words)?.ok().ok_or("no words")?;
+    let said = once.bucket.as_ref().map(|name| name.as_text().as_str());
+    let right = said == name && once.now == now;
+    drop(once);
+    Ok(right)
 }
 
 #[test]
@@ -119,32 +144,19 @@ fn words_of_once_are_taken(rt: HostRuntime) -> Result<(), Fail> {
         (&["once", "--shards", "1"], None, None),
     ];
     for (words, bucket, now) in table {
-        let words = strings(rt.alloc(), words)?;
-        match read_once(rt.alloc(), &words) {
-            Ok(once) => {
-                assert_eq!(rt;
-                    once.bucket.as_ref().map(|name| name.as_text().as_str()),
-                    bucket,
-                    "{words:?}"
-                );
-                assert_eq!(rt; once.now, now, "{words:?}");
-            }
-            Err(fault) => panic!(rt; "{words:?}: {fault:?}"),
-        }
+        assert!(rt; names(rt.alloc(), words, bucket, now)?, "{words:?}");
     }
     Ok(())
 }
 
 #[test]
 fn options_of_once_are_those_of_a_script(rt: HostRuntime) -> Result<(), Fail> {
-    let words = strings(
-        rt.alloc(),
-        &[
-            "once", "--frames", "3", "--stripe", "16", "--frame", "32", "--shards", "2",
-        ],
-    )?;
-    let once = read_once(rt.alloc(), &words).ok().ok_or("no words")?;
+    let words = [
+        "once", "--frames", "3", "--stripe", "16", "--frame", "32", "--shards", "2",
+    ];
+    let once = once_of(rt.alloc(), &words)?.ok().ok_or("no words")?;
     let settings = once.settings;
+    drop(once);
     assert!(rt; settings.stripe == 16 && settings.frame == 32 && settings.frames == 3);
     assert!(rt; settings.shards == 2 && settings.tag_life == 120_000_000);
     Ok(())
@@ -153,52 +165,58 @@ fn options_of_once_are_those_of_a_script(rt: HostRuntime) -> Result<(), Fail> {
 #[test]
 fn other_words_are_refused(rt: HostRuntime) -> Result<(), Fail> {
     for words in REFUSED {
-        assert_eq!(rt;
-            fault_of(rt.alloc(), words)?,
-            Some(WordsFault::Refused),
-            "{words:?}"
-        );
+        assert!(rt; is_refused(once_of(rt.alloc(), words)?), "{words:?}");
     }
+    Ok(())
+}
+
+#[test]
+fn a_name_too_long_is_refused(rt: HostRuntime) -> Result<(), Fail> {
     let too_long = letters(rt.alloc(), 257)?;
     let words = ["once", "--bucket", too_long.as_str()];
-    assert_eq!(rt; fault_of(rt.alloc(), &words)?, Some(WordsFault::Refused));
+    assert!(rt; is_refused(once_of(rt.alloc(), &words)?));
     Ok(())
 }
 
 #[test]
 fn words_of_scripts_are_taken(rt: HostRuntime) -> Result<(), Fail> {
-    let words = strings(
-        rt.alloc(),
-        &[
-            "script",
-            "--now",
-            "7",
-            "--frame",
-            "65536",
-            "--frames",
-            "131072",
-            "--tag-seconds",
-            "086400",
-            "--bucket",
-            "box",
-            "--shards",
-            "1999",
-            "--stripe",
-            "16",
-        ],
-    )?;
-    let script = read_script(rt.alloc(), &words).ok().ok_or("no script")?;
-    let bucket = script.bucket.ok_or("no container")?;
-    assert_eq!(rt; bucket.as_text().as_str(), "box");
-    assert_eq!(rt; script.now, Some(7));
-    let settings = script.settings;
+    let words = [
+        "script",
+        "--now",
+        "7",
+        "--frame",
+        "65536",
+        "--frames",
+        "131072",
+        "--tag-seconds",
+        "086400",
+        "--bucket",
+        "box",
+        "--shards",
+        "1999",
+        "--stripe",
+        "16",
+    ];
+    let script = script_of(rt.alloc(), &words)?.ok().ok_or("no script")?;
+    let is_named = script
+        .bucket
+        .as_ref()
+        .is_some_and(|name| name.as_text().is("box"));
+    let (settings, now) = (script.settings, script.now);
+    drop(script);
+    assert!(rt; is_named && now == Some(7));
     assert!(rt; settings.stripe == 16 && settings.frame == 65_536 && settings.frames == 131_072);
     assert!(rt; settings.shards == 1999 && settings.tag_life == 86_400_000_000);
+    Ok(())
+}
 
-    let words = strings(rt.alloc(), &["script"])?;
-    let script = read_script(rt.alloc(), &words).ok().ok_or("no script")?;
-    assert!(rt; script.bucket.is_none() && script.now.is_none());
+#[test]
+fn a_script_without_options_has_those_of_the_manual(rt: HostRuntime) -> Result<(), Fail> {
+    let script = script_of(rt.alloc(), &["script"])?.ok().ok_or("no script")?;
+    let is_bare = script.bucket.is_none() && script.now.is_none();
     let settings = script.settings;
+    drop(script);
+    assert!(rt; is_bare);
     assert!(rt;
         settings.stripe == 4_194_304 && settings.frame == 4096 && settings.frames == 16_384
     );
@@ -209,11 +227,7 @@ fn words_of_scripts_are_taken(rt: HostRuntime) -> Result<(), Fail> {
 #[test]
 fn other_words_are_no_script(rt: HostRuntime) -> Result<(), Fail> {
     for words in NO_SCRIPTS {
-        let words = strings(rt.alloc(), words)?;
-        assert!(rt;
-            matches!(read_script(rt.alloc(), &words), Err(WordsFault::Refused)),
-            "{words:?}"
-        );
+        assert!(rt; is_refused(script_of(rt.alloc(), words)?), "{words:?}");
     }
     Ok(())
 }

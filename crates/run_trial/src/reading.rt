@@ -1,30 +1,66 @@
+ghost use Rattle.std.specs.Prelude.{◌≤◌};
+
 use gw_io::{SliceSource, WholeSource};
 use script_lines::{LINE_LIMIT, LineFault, LineReader, Next};
+use std::alloc::Global;
 use std::test::Fail;
+
+/// Whether the next line is this one.
+fn next_is(
+    reader: &mut LineReader,
+    source: &mut SliceSource<'_>,
+    line: &[u8],
+) -> Result<bool, LineFault> {
+    Ok(reader.next(source)? == Next::Line && reader.line() == line)
+}
+
+fn are_three(reader: &mut LineReader, source: &mut SliceSource<'_>) -> Result<bool, LineFault> {
+    Ok(
+        next_is(reader, source, b"run w")?
+            && next_is(reader, source, b"")?
+            && next_is(reader, source, b"stop")?
+            && reader.next(source)? == Next::End
+            && reader.line().is_empty(),
+    )
+}
+
+fn reads_three(alloc: Global, piece: usize) -> Result<bool, Fail>
+    requires { 1 ≤ piece }
+{
+    let mut source = SliceSource::new(b"run w\n\nstop", piece, &[]);
+    let mut reader = LineReader::new(alloc)?;
+    let right = are_three(&mut reader, &mut source);
+    drop(reader);
+    Ok(right?)
+}
 
 #[test]
 fn lines_in_pieces(rt: HostRuntime) -> Result<(), Fail> {
-    for piece in [1, 2, 100] {
-        let mut source = SliceSource::new(b"run w\n\nstop", piece, &[]);
-        let mut reader = LineReader::new(rt.alloc())?;
-        for line in ["run w", "", "stop"] {
-            assert_eq!(rt; reader.next(&mut source)?, Next::Line);
-            assert_eq!(rt; reader.line(), line.as_bytes());
-        }
-        assert_eq!(rt; reader.next(&mut source)?, Next::End);
-        assert_eq!(rt; reader.line(), b"".as_slice());
-    }
+    assert!(rt; reads_three(rt.alloc(), 1)?);
+    assert!(rt; reads_three(rt.alloc(), 2)?);
+    assert!(rt; reads_three(rt.alloc(), 100)?);
     Ok(())
+}
+
+/// Whether the second read fails, and the line that it was in is read after it.
+fn fails_in_a_line(
+    reader: &mut LineReader,
+    source: &mut SliceSource<'_>,
+) -> Result<bool, LineFault> {
+    Ok(
+        reader.next(source)? == Next::Line
+            && reader.next(source) == Err(LineFault::ReadFault)
+            && next_is(reader, source, b"stop w")?,
+    )
 }
 
 #[test]
 fn a_read_that_fails_in_a_line(rt: HostRuntime) -> Result<(), Fail> {
     let mut source = SliceSource::new(b"run w\nstop w\n", 4, &[2]);
     let mut reader = LineReader::new(rt.alloc())?;
-    assert_eq!(rt; reader.next(&mut source)?, Next::Line);
-    assert_eq!(rt; reader.next(&mut source), Err(LineFault::ReadFault));
-    assert_eq!(rt; reader.next(&mut source)?, Next::Line);
-    assert_eq!(rt; reader.line(), b"stop w".as_slice());
+    let right = fails_in_a_line(&mut reader, &mut source);
+    drop(reader);
+    assert!(rt; right?);
     Ok(())
 }
 

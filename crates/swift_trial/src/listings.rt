@@ -59,18 +59,23 @@ fn starts_at(alloc: Global, marker: &str, prefix: &str, start: &str) -> Result<b
     Ok(found?.is(start))
 }
 
+/// A marker, a prefix and a delimiter, a name, and its key.
+type Keyed<'a> = (&'a str, &'a str, &'a str, &'a str, Option<Key<'a>>);
+
+const KEYED: &[Keyed<'_>] = &[
+    ("", "", "", "a/b/c", Some(Key::Whole)),
+    ("", "", "/", "a/b/c", Some(Key::Subdir("a/"))),
+    ("", "", "/", "a", Some(Key::Whole)),
+    ("a/", "", "/", "a/b/c", None),
+    ("a/b", "a/", "/", "a/b/c", Some(Key::Subdir("a/b/"))),
+    ("", "b", "/", "a/b/c", None),
+    ("", "ä", "ö/", "äxö/y", Some(Key::Subdir("äxö/"))),
+];
+
 #[test]
 fn keys_of_names(rt: HostRuntime) -> Result<(), Fail> {
-    for (marker, prefix, delimiter, text, key) in [
-        ("", "", "", "a/b/c", Some(Key::Whole)),
-        ("", "", "/", "a/b/c", Some(Key::Subdir("a/"))),
-        ("", "", "/", "a", Some(Key::Whole)),
-        ("a/", "", "/", "a/b/c", None),
-        ("a/b", "a/", "/", "a/b/c", Some(Key::Subdir("a/b/"))),
-        ("", "b", "/", "a/b/c", None),
-        ("", "ä", "ö/", "äxö/y", Some(Key::Subdir("äxö/"))),
-    ] {
-        let right = key_is(rt.alloc(), (marker, prefix, delimiter), text, key)?;
+    for (marker, prefix, delimiter, text, key) in KEYED {
+        let right = key_is(rt.alloc(), (marker, prefix, delimiter), text, *key)?;
         assert!(rt; right, "at {text} behind {marker} and {prefix}");
     }
     Ok(())

@@ -58,48 +58,89 @@ fn field(alloc: Global, name: &str, value: &str) -> Result<Field, AllocError> {
     })
 }
 
-#[test]
-fn rows_of_a_container(rt: HostRuntime) -> Result<(), Fail> {
-    let alloc = rt.alloc();
+fn three_rows(alloc: Global) -> Result<ListedRows, Fail> {
     let mut rows = ListedRows::new(alloc);
-    assert!(rt; plain_rows(alloc, &rows)?.is_empty());
-    assert!(rt; is(&json_rows(alloc, &rows)?, b"[]"));
     rows.push(subdir(alloc, "a\"\\\u{1}\n\u{7f}é/")?)?;
     rows.push(thing(alloc, "k", 1_700_000_000_000_000)?)?;
     rows.push(thing(alloc, "l", 951_868_799_999_999)?)?;
-    assert!(rt;
-        is(
-            &plain_rows(alloc, &rows)?,
-            b"a\"\\\x01\n\x7f\xc3\xa9/\nk\nl\n"
-        )
-    );
-    let text =
-        b"[{\"subdir\":\"a\\\"\\\\\\u0001\\n\x7f\xc3\xa9/\"},{\"bytes\":5,\"content_type\":\"text/plain\",\"hash\":\"5d41402abc4b2a76b9719d911017c592\",\"last_modified\":\"2023-11-14T22:13:20.000000\",\"name\":\"k\"},{\"bytes\":5,\"content_type\":\"text/plain\",\"hash\":\"5d41402abc4b2a76b9719d911017c592\",\"last_modified\":\"2000-02-29T23:59:59.999999\",\"name\":\"l\"}]";
-    assert!(rt; is(&json_rows(alloc, &rows)?, text));
+    Ok(rows)
+}
+
+/// Whether rows are these texts, one without words and one in JSON.
+fn are(alloc: Global, rows: &ListedRows, plain: &[u8], json: &[u8]) -> Result<bool, AllocError> {
+    Ok(is(&plain_rows(alloc, rows)?, plain) && is(&json_rows(alloc, rows)?, json))
+}
+
+#[test]
+fn no_rows_of_a_container(rt: HostRuntime) -> Result<(), Fail> {
+    let alloc = rt.alloc();
+    assert!(rt; are(alloc, &ListedRows::new(alloc), b"", b"[]")?);
     Ok(())
 }
 
 #[test]
-fn rows_of_an_account(rt: HostRuntime) -> Result<(), Fail> {
+fn rows_of_a_container(rt: HostRuntime) -> Result<(), Fail> {
     let alloc = rt.alloc();
+    let rows = three_rows(alloc)?;
+    let right = are(
+        alloc,
+        &rows,
+        b"a\"\\\x01\n\x7f\xc3\xa9/\nk\nl\n",
+        b"[{\"subdir\":\"a\\\"\\\\\\u0001\\n\x7f\xc3\xa9/\"},{\"bytes\":5,\"content_type\":\"text/plain\",\"hash\":\"5d41402abc4b2a76b9719d911017c592\",\"last_modified\":\"2023-11-14T22:13:20.000000\",\"name\":\"k\"},{\"bytes\":5,\"content_type\":\"text/plain\",\"hash\":\"5d41402abc4b2a76b9719d911017c592\",\"last_modified\":\"2000-02-29T23:59:59.999999\",\"name\":\"l\"}]",
+    );
+    drop(rows);
+    assert!(rt; right?);
+    Ok(())
+}
+
+/// Whether rows of an account are these texts, one without words and one in JSON.
+fn lists(alloc: Global, rows: &AccountRows, plain: &[u8], json: &[u8]) -> Result<bool, AllocError> {
+    Ok(is(&plain_accounts(alloc, rows)?, plain) && is(&json_accounts(alloc, rows)?, json))
+}
+
+#[test]
+fn no_rows_of_an_account(rt: HostRuntime) -> Result<(), Fail> {
+    let alloc = rt.alloc();
+    assert!(rt; lists(alloc, &AccountRows::new(alloc), b"", b"[]")?);
+    Ok(())
+}
+
+fn account_rows(alloc: Global, subdirs: bool) -> Result<AccountRows, AllocError> {
     let mut rows = AccountRows::new(alloc);
-    assert!(rt; plain_accounts(alloc, &rows)?.is_empty());
-    assert!(rt; is(&json_accounts(alloc, &rows)?, b"[]"));
     rows.push(account_row(alloc, "docs", false)?)?;
-    assert!(rt;
-        is(
-            &json_accounts(alloc, &rows)?,
-            b"[{\"bytes\":5,\"count\":1,\"name\":\"docs\"}]"
-        )
+    if subdirs {
+        rows.push(account_row(alloc, "e/", true)?)?;
+    }
+    Ok(rows)
+}
+
+#[test]
+fn one_row_of_an_account(rt: HostRuntime) -> Result<(), Fail> {
+    let alloc = rt.alloc();
+    let rows = account_rows(alloc, false)?;
+    let right = lists(
+        alloc,
+        &rows,
+        b"docs\n",
+        b"[{\"bytes\":5,\"count\":1,\"name\":\"docs\"}]",
     );
-    rows.push(account_row(alloc, "e/", true)?)?;
-    assert!(rt; is(&plain_accounts(alloc, &rows)?, b"docs\ne/\n"));
-    assert!(rt;
-        is(
-            &json_accounts(alloc, &rows)?,
-            b"[{\"bytes\":5,\"count\":1,\"name\":\"docs\"},{\"subdir\":\"e/\"}]"
-        )
+    drop(rows);
+    assert!(rt; right?);
+    Ok(())
+}
+
+#[test]
+fn a_subdir_of_an_account(rt: HostRuntime) -> Result<(), Fail> {
+    let alloc = rt.alloc();
+    let rows = account_rows(alloc, true)?;
+    let right = lists(
+        alloc,
+        &rows,
+        b"docs\ne/\n",
+        b"[{\"bytes\":5,\"count\":1,\"name\":\"docs\"},{\"subdir\":\"e/\"}]",
     );
+    drop(rows);
+    assert!(rt; right?);
     Ok(())
 }
 

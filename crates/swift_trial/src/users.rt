@@ -16,17 +16,23 @@ fn three(alloc: Global) -> Result<Users, UsersFault> {
     Users::read(alloc, THREE)
 }
 
+fn is_ann(user: Option<&User>) -> bool {
+    user.is_some_and(|user| user.account().is("acme") && user.token().is("AUTH_tk1"))
+}
+
+fn is_eve(user: Option<&User>) -> bool {
+    user.is_some_and(|user| user.full_name().is("gamma:eve") && user.account().is("gamma"))
+}
+
 #[test]
 fn users_log_in_and_are_known_by_their_tokens(rt: HostRuntime) -> Result<(), Fail> {
     let users = three(rt.alloc())?;
-    assert_eq!(rt; users.as_slice().len(), 3);
-    assert!(rt; users.first().full_name().is("acme:ann"));
-    let ann = users.login(b"acme:ann", b"secret").ok_or("not logged in")?;
-    assert!(rt; ann.account().is("acme"));
-    assert!(rt; ann.token().is("AUTH_tk1"));
-    let eve = users.who(b"AUTH_tk3").ok_or("not known")?;
-    assert!(rt; eve.full_name().is("gamma:eve"));
-    assert!(rt; eve.account().is("gamma"));
+    let count = users.as_slice().len();
+    let is_first = users.first().full_name().is("acme:ann");
+    let are_known = is_ann(users.login(b"acme:ann", b"secret")) && is_eve(users.who(b"AUTH_tk3"));
+    drop(users);
+    assert_eq!(rt; count, 3);
+    assert!(rt; is_first && are_known);
     Ok(())
 }
 

@@ -8,7 +8,7 @@ mod queries;
 use rgw_types::Text;
 use std::alloc::{AllocError, Global};
 use std::test::Fail;
-use swift_words::{Target, WordFault, read_place, read_target};
+use swift_words::{Query, Target, WordFault, read_place, read_target};
 
 /// The target in words, one blank between them.
 fn shown(alloc: Global, target: &Target) -> Result<String, AllocError> {
@@ -70,11 +70,34 @@ fn paths_name_what_the_table_says(rt: HostRuntime) -> Result<(), Fail> {
     Ok(())
 }
 
+/// Whether both targets name the same, and ask for the same.
+fn are_same(alloc: Global, one: &[u8], other: &[u8]) -> Result<bool, WordFault> {
+    let (one, asked) = read_target(alloc, one)?;
+    let same = is_read_as(alloc, other, &one, &asked);
+    drop(one);
+    drop(asked);
+    same
+}
+
+fn is_read_as(
+    alloc: Global,
+    target: &[u8],
+    named: &Target,
+    asked: &Query,
+) -> Result<bool, WordFault> {
+    let read = read_target(alloc, target)?;
+    let same = read.0 == *named && read.1 == *asked;
+    drop(read);
+    Ok(same)
+}
+
 #[test]
 fn an_escaped_slash_names_the_same_object(rt: HostRuntime) -> Result<(), Fail> {
-    let alloc = rt.alloc();
-    let escaped = read_target(alloc, b"/swift/v1/AUTH_acme/box/a%2Fb")?;
-    let plain = read_target(alloc, b"/swift/v1/AUTH_acme/box/a/b")?;
-    assert!(rt; escaped == plain);
+    let same = are_same(
+        rt.alloc(),
+        b"/swift/v1/AUTH_acme/box/a%2Fb",
+        b"/swift/v1/AUTH_acme/box/a/b",
+    )?;
+    assert!(rt; same);
     Ok(())
 }

@@ -71,31 +71,34 @@ fn the_last_member_of_a_name_counts(rt: HostRuntime) -> Result<(), Fail> {
     Ok(())
 }
 
+fn are_taken(alloc: Global, user: &str, key: &str, token: &str) -> Result<bool, AllocError> {
+    let text = one(alloc, user, key, token)?;
+    Ok(Users::read(alloc, text.as_str()).is_ok())
+}
+
+/// The name, the key and the token of a user, and whether they are taken.
+const TAKEN: &[(&str, &str, &str, bool)] = &[
+    ("a:b", "k", "t", true),
+    ("A-z_0.9:.-_", "!~", "a,b:c", true),
+    ("ab", "k", "t", false),
+    (":b", "k", "t", false),
+    ("a:", "k", "t", false),
+    ("a:b:c", "k", "t", false),
+    ("a/x:b", "k", "t", false),
+    ("a:b c", "k", "t", false),
+    ("a:\u{e4}", "k", "t", false),
+    ("a:b", "", "t", false),
+    ("a:b", "k", "", false),
+    ("a:b", "k k", "t", false),
+    ("a:b", "k", "t\u{7f}", false),
+    ("a:b", "k\u{e4}", "t", false),
+];
+
 #[test]
 fn names_keys_and_tokens(rt: HostRuntime) -> Result<(), Fail> {
-    let alloc = rt.alloc();
-    for (user, key, token, taken) in [
-        ("a:b", "k", "t", true),
-        ("A-z_0.9:.-_", "!~", "a,b:c", true),
-        ("ab", "k", "t", false),
-        (":b", "k", "t", false),
-        ("a:", "k", "t", false),
-        ("a:b:c", "k", "t", false),
-        ("a/x:b", "k", "t", false),
-        ("a:b c", "k", "t", false),
-        ("a:\u{e4}", "k", "t", false),
-        ("a:b", "", "t", false),
-        ("a:b", "k", "", false),
-        ("a:b", "k k", "t", false),
-        ("a:b", "k", "t\u{7f}", false),
-        ("a:b", "k\u{e4}", "t", false),
-    ] {
-        let text = one(alloc, user, key, token)?;
-        assert_eq!(rt;
-            Users::read(alloc, text.as_str()).is_ok(),
-            taken,
-            "{user} {key} {token}"
-        );
+    for (user, key, token, taken) in TAKEN {
+        let found = are_taken(rt.alloc(), user, key, token)?;
+        assert_eq!(rt; found, *taken, "{user} {key} {token}");
     }
     Ok(())
 }

@@ -59,29 +59,31 @@ fn a_user_of_the_account(rt: HostRuntime) -> Result<(), Fail> {
     Ok(())
 }
 
+/// The readers and writers of a container, and the verdicts on a listing, a read and a change.
+type Lists<'a> = (&'a str, &'a str, Verdict, Verdict, Verdict);
+
+const OF_BETA: &[Lists<'_>] = &[
+    ("", "", NO_READ, NO_READ, NO_WRITE),
+    ("acme,gamma:eve", "gamma", NO_READ, NO_READ, NO_WRITE),
+    ("beta:", ":bob", NO_READ, NO_READ, NO_WRITE),
+    ("bob", "beta:bobby", NO_READ, NO_READ, NO_WRITE),
+    ("beta", "", GRANTED, GRANTED, NO_WRITE),
+    ("", "beta", NO_READ, NO_READ, GRANTED),
+    ("beta:bob", "", GRANTED, GRANTED, NO_WRITE),
+    ("", "beta:bob", NO_READ, NO_READ, GRANTED),
+    ("x, beta:bob ,y", "\tbeta ,", GRANTED, GRANTED, GRANTED),
+    ("be ta", "beta bob", NO_READ, NO_READ, NO_WRITE),
+    (".r:*", ".r:*", NO_READ, GRANTED, NO_WRITE),
+    (".rlistings", "", NO_READ, NO_READ, NO_WRITE),
+    (" .rlistings , .r:* ", "", GRANTED, GRANTED, NO_WRITE),
+];
+
 #[test]
 fn a_user_of_another_account(rt: HostRuntime) -> Result<(), Fail> {
-    for (readers, writers, list, read, change) in [
-        ("", "", NO_READ, NO_READ, NO_WRITE),
-        ("acme,gamma:eve", "gamma", NO_READ, NO_READ, NO_WRITE),
-        ("beta:", ":bob", NO_READ, NO_READ, NO_WRITE),
-        ("bob", "beta:bobby", NO_READ, NO_READ, NO_WRITE),
-        ("beta", "", GRANTED, GRANTED, NO_WRITE),
-        ("", "beta", NO_READ, NO_READ, GRANTED),
-        ("beta:bob", "", GRANTED, GRANTED, NO_WRITE),
-        ("", "beta:bob", NO_READ, NO_READ, GRANTED),
-        ("x, beta:bob ,y", "\tbeta ,", GRANTED, GRANTED, GRANTED),
-        ("be ta", "beta bob", NO_READ, NO_READ, NO_WRITE),
-        (".r:*", ".r:*", NO_READ, GRANTED, NO_WRITE),
-        (".rlistings", "", NO_READ, NO_READ, NO_WRITE),
-        (" .rlistings , .r:* ", "", GRANTED, GRANTED, NO_WRITE),
-    ] {
+    for (readers, writers, list, read, change) in OF_BETA {
         let seen = at_acme(rt.alloc(), "AUTH_tk2", readers, writers)?;
-        assert_eq!(rt;
-            seen,
-            [NO_ACCOUNT, list, read, change],
-            "{readers} {writers}"
-        );
+        let right = seen == [NO_ACCOUNT, *list, *read, *change];
+        assert!(rt; right, "{readers} {writers}");
     }
     Ok(())
 }
@@ -102,23 +104,25 @@ fn nobody_known(rt: HostRuntime) -> Result<(), Fail> {
     Ok(())
 }
 
+/// Whether each of three users has the verdicts of one to whom the container is nothing.
+fn is_nothing(users: &Users, account: &Text, bucket: Option<&Bucket>) -> bool {
+    verdicts(users.who(b"AUTH_tk1"), account, bucket) == [GRANTED; 4]
+        && verdicts(users.who(b"AUTH_tk2"), account, bucket)
+            == [NO_ACCOUNT, NO_READ, NO_READ, NO_WRITE]
+        && verdicts(None, account, bucket) == [UNKNOWN; 4]
+}
+
 #[test]
 fn a_container_that_is_not_found(rt: HostRuntime) -> Result<(), Fail> {
     let alloc = rt.alloc();
-    let users = three(alloc)?;
     let account = Text::from_str(alloc, "acme")?;
     let other = container(alloc, "gamma", ".r:*,.rlistings,beta", "beta")?;
-    for bucket in [None, Some(&other)] {
-        assert_eq!(rt;
-            verdicts(users.who(b"AUTH_tk1"), &account, bucket),
-            [GRANTED; 4]
-        );
-        assert_eq!(rt;
-            verdicts(users.who(b"AUTH_tk2"), &account, bucket),
-            [NO_ACCOUNT, NO_READ, NO_READ, NO_WRITE]
-        );
-        assert_eq!(rt; verdicts(None, &account, bucket), [UNKNOWN; 4]);
-    }
+    let users = three(alloc)?;
+    let none = is_nothing(&users, &account, None);
+    let another = is_nothing(&users, &account, Some(&other));
+    drop(users);
+    drop(other);
+    assert!(rt; none && another);
     Ok(())
 }
 

@@ -19,40 +19,79 @@ fn last_len(target: &Target) -> usize {
     }
 }
 
+/// How many bytes the last name of a target has that ends in so many of a text, or why it is none.
+fn len_of_last(
+    alloc: Global,
+    front: &[u8],
+    text: &[u8],
+    count: u32,
+) -> Result<Result<usize, WordFault>, AllocError> {
+    let target = repeated(alloc, front, text, count)?;
+    match read_target(alloc, &target) {
+        Ok((named, asked)) => {
+            let len = last_len(&named);
+            drop(named);
+            drop(asked);
+            Ok(Ok(len))
+        }
+        Err(fault) => Ok(Err(fault)),
+    }
+}
+
+const FRONTS: &[(&[u8], u32)] = &[
+    (b"/swift/v1/AUTH_acme/", 256),
+    (b"/swift/v1/AUTH_acme/box/", 1024),
+];
+
 #[test]
 fn names_have_their_limits(rt: HostRuntime) -> Result<(), Fail> {
     let alloc = rt.alloc();
-    for (front, most) in [
-        (b"/swift/v1/AUTH_acme/".as_slice(), 256),
-        (b"/swift/v1/AUTH_acme/box/".as_slice(), 1024),
-    ] {
-        for text in [b"a".as_slice(), b"%2F".as_slice()] {
-            let longest = repeated(alloc, front, text, most)?;
-            let (named, _) = read_target(alloc, &longest)?;
-            assert_eq!(rt; last_len(&named), most as usize);
-            let longer = repeated(alloc, front, text, most + 1)?;
-            assert_eq!(rt; read_target(alloc, &longer).err(), Some(WordFault::BadName));
-        }
+    for (front, most) in FRONTS {
+        assert_eq!(rt; len_of_last(alloc, front, b"a", *most)?, Ok(*most as usize));
+        assert_eq!(rt;
+            len_of_last(alloc, front, b"%2F", *most)?,
+            Ok(*most as usize)
+        );
+        assert_eq!(rt;
+            len_of_last(alloc, front, b"a", *most + 1)?,
+            Err(WordFault::BadName)
+        );
+        assert_eq!(rt;
+            len_of_last(alloc, front, b"%2F", *most + 1)?,
+            Err(WordFault::BadName)
+        );
     }
     Ok(())
+}
+
+/// How many bytes the names have of a place that is so many letters between these texts, or why it is none.
+fn lengths_in(
+    alloc: Global,
+    front: &[u8],
+    count: u32,
+    end: &[u8],
+) -> Result<Result<(usize, usize), WordFault>, AllocError> {
+    let mut place = repeated(alloc, front, b"a", count)?;
+    place.extend_from_slice(end)?;
+    match read_place(alloc, &place) {
+        Ok((container, object)) => Ok(Ok((container.len(), object.len()))),
+        Err(fault) => Ok(Err(fault)),
+    }
 }
 
 #[test]
 fn places_have_the_same_limits(rt: HostRuntime) -> Result<(), Fail> {
     let alloc = rt.alloc();
-    let longest = repeated(alloc, b"box/", b"a", 1024)?;
-    let (_, object) = read_place(alloc, &longest)?;
-    assert_eq!(rt; object.len(), 1024);
-    let longer = repeated(alloc, b"box/", b"a", 1025)?;
-    assert_eq!(rt; read_place(alloc, &longer).err(), Some(WordFault::BadName));
-
-    let mut longest = repeated(alloc, b"/", b"a", 256)?;
-    longest.extend_from_slice(b"/k")?;
-    let (container, _) = read_place(alloc, &longest)?;
-    assert_eq!(rt; container.len(), 256);
-    let mut longer = repeated(alloc, b"/", b"a", 257)?;
-    longer.extend_from_slice(b"/k")?;
-    assert_eq!(rt; read_place(alloc, &longer).err(), Some(WordFault::BadName));
+    assert_eq!(rt; lengths_in(alloc, b"box/", 1024, b"")?, Ok((3, 1024)));
+    assert_eq!(rt;
+        lengths_in(alloc, b"box/", 1025, b"")?,
+        Err(WordFault::BadName)
+    );
+    assert_eq!(rt; lengths_in(alloc, b"/", 256, b"/k")?, Ok((256, 1)));
+    assert_eq!(rt;
+        lengths_in(alloc, b"/", 257, b"/k")?,
+        Err(WordFault::BadName)
+    );
     Ok(())
 }
 

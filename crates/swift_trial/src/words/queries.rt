@@ -16,36 +16,39 @@ fn asks_for(alloc: Global, target: &[u8], want: &[&str; 4]) -> Result<bool, Fail
     Ok(right)
 }
 
+const LAST_VALUES: &[Texts<'_>] = &[
+    (b"/auth", ["", "", "", ""]),
+    (b"/auth?", ["", "", "", ""]),
+    (b"/auth?marker=a", ["a", "", "", ""]),
+    (b"/auth?end_marker=a", ["", "a", "", ""]),
+    (b"/auth?prefix=a", ["", "", "a", ""]),
+    (b"/auth?delimiter=/", ["", "", "", "/"]),
+    (
+        b"/auth?delimiter=d&prefix=c&end_marker=b&marker=a",
+        ["a", "b", "c", "d"],
+    ),
+    // A `+` in a value is a blank, and an escaped one is a `+`.
+    (b"/auth?marker=+a+%2B", [" a +", "", "", ""]),
+    (b"/auth?mar+ker=a", ["", "", "", ""]),
+    // The last value counts, also an empty one.
+    (b"/auth?prefix=a&marker=b&prefix=c", ["b", "", "c", ""]),
+    (b"/auth?prefix=a&prefix", ["", "", "", ""]),
+    // Only `&` divides, and only the first `=` and `?`.
+    (b"/auth?prefix=a;marker=b", ["", "", "a;marker=b", ""]),
+    (b"/auth?&&prefix=a=b?c&&", ["", "", "a=b?c", ""]),
+    (b"/auth?prefix=a%26marker%3Db", ["", "", "a&marker=b", ""]),
+    // Names are decoded, and unknown ones dropped; their case counts.
+    (b"/auth?%70refix=%C3%A4", ["", "", "\u{e4}", ""]),
+    (b"/auth?Prefix=a&path=b&=c&d", ["", "", "", ""]),
+];
+
 #[test]
 fn texts_are_the_last_values_sent(rt: HostRuntime) -> Result<(), Fail> {
-    let alloc = rt.alloc();
-    let table: [Texts; 16] = [
-        (b"/auth", ["", "", "", ""]),
-        (b"/auth?", ["", "", "", ""]),
-        (b"/auth?marker=a", ["a", "", "", ""]),
-        (b"/auth?end_marker=a", ["", "a", "", ""]),
-        (b"/auth?prefix=a", ["", "", "a", ""]),
-        (b"/auth?delimiter=/", ["", "", "", "/"]),
-        (
-            b"/auth?delimiter=d&prefix=c&end_marker=b&marker=a",
-            ["a", "b", "c", "d"],
-        ),
-        // A `+` in a value is a blank, and an escaped one is a `+`.
-        (b"/auth?marker=+a+%2B", [" a +", "", "", ""]),
-        (b"/auth?mar+ker=a", ["", "", "", ""]),
-        // The last value counts, also an empty one.
-        (b"/auth?prefix=a&marker=b&prefix=c", ["b", "", "c", ""]),
-        (b"/auth?prefix=a&prefix", ["", "", "", ""]),
-        // Only `&` divides, and only the first `=` and `?`.
-        (b"/auth?prefix=a;marker=b", ["", "", "a;marker=b", ""]),
-        (b"/auth?&&prefix=a=b?c&&", ["", "", "a=b?c", ""]),
-        (b"/auth?prefix=a%26marker%3Db", ["", "", "a&marker=b", ""]),
-        // Names are decoded, and unknown ones dropped; their case counts.
-        (b"/auth?%70refix=%C3%A4", ["", "", "\u{e4}", ""]),
-        (b"/auth?Prefix=a&path=b&=c&d", ["", "", "", ""]),
-    ];
-    for (target, want) in table {
-        assert!(rt; asks_for(alloc, target, &want)?, "where {want:?} is wanted");
+    for (target, want) in LAST_VALUES {
+        assert!(rt;
+            asks_for(rt.alloc(), target, want)?,
+            "where {want:?} is wanted"
+        );
     }
     Ok(())
 }
