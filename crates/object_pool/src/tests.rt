@@ -377,7 +377,8 @@ fn rows_at_their_greatest(rt: HostRuntime) -> Result<(), Fail> {
     Ok(())
 }
 
-// A guess gives way only where six keys meet in one group, of which there are 512 in the end.
+// A guess gives way only where six keys meet in one group. There are as many groups as keys, so by chance one or two of a
+// thousand do.
 #[test]
 fn most_numbers_are_guessed(rt: HostRuntime) {
     let mut guesses = Guesses::new(rt.alloc());
@@ -386,5 +387,5 @@ fn most_numbers_are_guessed(rt: HostRuntime) {
     }
     let right = (0..1_000).filter(|number| guesses.spot_of(&tail(*number as u64)).number as usize
         == *number);
-    assert!(rt; right.count() >= 900);
+    assert!(rt; right.count() >= 990);
 }
