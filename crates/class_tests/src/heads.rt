@@ -49,11 +49,11 @@ fn pairs(alloc: Global) -> Result<Pairs, Fail> {
     Ok(Pairs::from_vec(pairs).ok().ok_or("no pairs")?)
 }
 
-/// Content of 20 bytes in stripes of 16, of which these are the first.
-fn content(alloc: Global, first: &[u8]) -> Result<NewHead, Fail>
+/// Content of so many bytes in stripes of 16, of which these are the first.
+fn content(alloc: Global, size: u64, first: &[u8]) -> Result<NewHead, Fail>
     ensures { IfOk result (λ new. new.first ≡ first.now) }
 {
-    let manifest = Manifest::new(5, 16, 20).ok_or("no manifest")?;
+    let manifest = Manifest::new(5, 16, size).ok_or("no manifest")?;
     let first = Bytes::from_slice(alloc, first)?;
     let kind = media_type(alloc, "a/b")?;
     let meta = pairs(alloc)?;
@@ -186,6 +186,7 @@ fn is_kept(seen: &HeadSeen) -> bool {
 enum Scene {
     Written,
     WrittenAgain,
+    NoTails,
     FirstReason,
     Etags,
 }
@@ -219,19 +220,25 @@ fn play(alloc: Global, head: &mut Place<'_>, scene: Scene) -> Result<bool, Fail>
     match scene {
         Scene::Written => play_written(alloc, head),
         Scene::WrittenAgain => {
-            let new = content(alloc, b"0123456789abcdefg")?;
+            let new = content(alloc, 20, b"0123456789abcdefg")?;
             let right = is_written_again(alloc, head, &new);
             drop(new);
             Ok(right)
         }
+        Scene::NoTails => {
+            let new = content(alloc, 5, b"hello")?;
+            let right = has_no_old_tails(alloc, head, &new);
+            drop(new);
+            Ok(right)
+        }
         Scene::FirstReason => {
-            let new = content(alloc, b"0123456789abcdef0123456789abcdefg")?;
+            let new = content(alloc, 20, b"0123456789abcdef0123456789abcdefg")?;
             let right = tells_the_first_reason(alloc, head, &new);
             drop(new);
             Ok(right)
         }
         Scene::Etags => {
-            let new = content(alloc, b"dog")?;
+            let new = content(alloc, 20, b"dog")?;
             let right = compares_texts(alloc, head, &new);
             drop(new);
             right
@@ -262,7 +269,7 @@ fn play_written(alloc: Global, head: &mut Place<'_>) -> Result<bool, Fail>
     requires { (h : Head) × IsHead (object_of head.old) h }
 {
     let absent = version_at(alloc, head, 7)?;
-    let new = content(alloc, b"0123456789abcdef")?;
+    let new = content(alloc, 20, b"0123456789abcdef")?;
     let changed = plain_change(alloc, head, &new, 50);
     drop(new);
     let right = absent == 7
@@ -281,6 +288,20 @@ fn is_written_again(alloc: Global, head: &mut Place<'_>, new: &NewHead) -> bool
         Ok(changed) => {
             changed.stamp.micros == 51 && changed.old.map(|manifest| manifest.write) == Some(5)
         }
+        Err(_) => false,
+    };
+    drop(again);
+    first && right
+}
+
+/// At a later moment: the stamp is that moment, and the old manifest, which has no tail, is not answered.
+fn has_no_old_tails(alloc: Global, head: &mut Place<'_>, new: &NewHead) -> bool
+    requires { (h : Head) × IsHead (object_of head.old) h }
+{
+    let first = is_made(plain_change(alloc, head, new, 50));
+    let again = plain_change(alloc, head, new, 60);
+    let right = match &again {
+        Ok(changed) => changed.stamp.micros == 60 && changed.old.is_none(),
         Err(_) => false,
     };
     drop(again);
@@ -341,6 +362,12 @@ fn a_head_is_written_and_read(rt: HostRuntime) -> Result<(), Fail> {
 #[test]
 fn a_head_is_written_again(rt: HostRuntime) -> Result<(), Fail> {
     assert_eq!(rt; played(rt.alloc(), 8, Scene::WrittenAgain)?, (true, 6));
+    Ok(())
+}
+
+#[test]
+fn a_head_without_tails_is_written_again(rt: HostRuntime) -> Result<(), Fail> {
+    assert_eq!(rt; played(rt.alloc(), 2, Scene::NoTails)?, (true, 1));
     Ok(())
 }
 

@@ -47,8 +47,8 @@ fn begin(alloc: Global, shard: &mut Place<'_>) -> Result<(), OutOfMemory>
     make(alloc, shard)
 }
 
-/// The event of a number prepares a change of a name, and gives its tag. The last event had an earlier
-/// number.
+/// The event of a number prepares a change of a name, and gives its tag and the tag's deadline. The last
+/// event had an earlier number.
 fn prepare_next(
     alloc: Global,
     shard: &mut Place<'_>,
@@ -56,7 +56,7 @@ fn prepare_next(
     last: u64,
     number: u64,
     clock: u64,
-) -> Result<u64, Fail>
+) -> Result<(u64, u64), Fail>
     requires stands { (s : ShardOf) × IsShard (object_of shard.old) s × IsWithin last s }
     requires later { last < number }
     requires few { number < 1000 }
@@ -65,7 +65,7 @@ fn prepare_next(
     let Ok(guard) = prepare(alloc, shard, name, number, clock, LIFE) else {
         return Err("not prepared".into());
     };
-    Ok(guard.tag)
+    Ok((guard.tag, guard.deadline))
 }
 
 /// The event after so many completes a change of a name.
@@ -192,14 +192,14 @@ fn play(
 fn an_older_loses(alloc: Global, shard: &mut Place<'_>, name: &ObjectName) -> Result<bool, Fail>
     requires { (s : ShardOf) × IsShard (object_of shard.old) s × IsWithin 0 s }
 {
-    let first = prepare_next(alloc, shard, name, 0, 1, START)?;
-    let second = prepare_next(alloc, shard, name, 1, 2, START)?;
+    let (first, _) = prepare_next(alloc, shard, name, 0, 1, START)?;
+    let (second, _) = prepare_next(alloc, shard, name, 1, 2, START)?;
     let later = row_of(alloc, 0, 6)?;
     let earlier = row_of(alloc, 5, 5)?;
     let completed = completes_both(shard, name, &later, &earlier);
     drop(later);
     drop(earlier);
-    let third = prepare_next(alloc, shard, name, 5, 6, START)?;
+    let (third, _) = prepare_next(alloc, shard, name, 5, 6, START)?;
     let cancelled = cancel_next(shard, name, third, 6).is_ok();
     let listed = lists(alloc, shard, 4, 6, 0)?;
     Ok((first, second) == (1, 2) && completed && cancelled && listed && tells(shard, 1, 0, 0))
@@ -228,13 +228,13 @@ fn completes_both(
 fn is_settled_later(alloc: Global, shard: &mut Place<'_>, name: &ObjectName) -> Result<bool, Fail>
     requires { (s : ShardOf) × IsShard (object_of shard.old) s × IsWithin 0 s }
 {
-    let tag = prepare_next(alloc, shard, name, 0, 5, START)?;
+    let guard = prepare_next(alloc, shard, name, 0, 5, START)?;
     let listed = lists(alloc, shard, 0, 1, 1)?;
     let told = tells(shard, 0, 0, 1);
     let row = row_of(alloc, 5, START)?;
     let settled = suggest_next(shard, name, 1, START + LIFE, 7, &row, 5).is_ok();
     drop(row);
-    Ok(tag == 5 && listed && told && settled && tells(shard, 1, 5, 0))
+    Ok(guard == (5, START + LIFE) && listed && told && settled && tells(shard, 1, 5, 0))
 }
 
 /// The same, but another writer changes the name before that.
@@ -253,7 +253,7 @@ fn a_late_one_is_refused(
     drop(seen);
     drop(written);
     let right = right?;
-    Ok((first, second) == (5, 12) && right)
+    Ok(first == (5, LIFE) && second == (12, 2 * LIFE) && right)
 }
 
 fn keeps_the_newer(
