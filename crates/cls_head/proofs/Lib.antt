@@ -1,4 +1,3 @@
 pub mod TextLemmas
 pub mod HeadLemmas
 pub mod Uniqueness
-pub mod FreshLemmas

@@ -16,6 +16,3 @@ pub use laws::{
 };
 pub use object_pool::OutOfMemory;
 pub use tails::{make_tail, read_tail};
-
-#[cfg(test)]
-mod tests;

@@ -4,6 +4,3 @@
 mod making;
 
 pub use making::make;
-
-#[cfg(test)]
-mod tests;

@@ -7,4 +7,3 @@ pub mod CountLemmas
 pub mod SettleLemmas
 pub mod StartLemmas
 pub mod PageLemmas
-pub mod WithinLemmas

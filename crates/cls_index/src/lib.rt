@@ -19,6 +19,3 @@ pub use paging::page;
 pub use preparing::prepare;
 pub use statistics::stats;
 pub use suggesting::{suggest, untimely};
-
-#[cfg(test)]
-mod tests;

@@ -11,6 +11,3 @@ pub use laws::{
     a_log_object_has_the_rows_of_its_log, no_object_is_the_empty_log, pages_of_logs_are_these,
 };
 pub use object_pool::OutOfMemory;
-
-#[cfg(test)]
-mod tests;

@@ -13,6 +13,3 @@ pub use codec::{decode_bucket, encode_bucket};
 pub use laws::{a_bucket_row_has_one_spelling, a_new_zone_has_no_root};
 pub use record::{read, swap};
 pub use std::alloc::AllocError as OutOfMemory;
-
-#[cfg(test)]
-mod tests;

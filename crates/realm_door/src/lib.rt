@@ -17,6 +17,3 @@ pub use laws::{
 };
 pub use next_op::NextOp;
 pub use task::{Task, TaskTurn};
-
-#[cfg(test)]
-mod tests;

@@ -4,4 +4,3 @@ pub mod Opening
 pub mod Taking
 pub mod Giving
 pub mod Splitting
-pub mod Deposits

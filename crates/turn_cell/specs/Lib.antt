@@ -3,6 +3,5 @@ pub mod Views
 pub mod Steps
 pub mod Rule
 pub mod Plays
-pub mod Deposits
 pub mod Faults
 pub use Rattle.atomic_table.specs.Seated

@@ -21,6 +21,3 @@ mod sleepers;
 pub use cell::Turn;
 pub use machine::{DoorFault, Machine, OutOfMemory, Stopped};
 pub use pass::Pass;
-
-#[cfg(test)]
-mod tests;

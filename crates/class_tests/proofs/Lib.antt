@@ -1,0 +1,3 @@
+pub mod Deposits
+pub mod FreshHeads
+pub mod Within
