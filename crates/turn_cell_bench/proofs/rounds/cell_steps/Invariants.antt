@@ -1,5 +1,0 @@
-use Rattle.std.proofs.Common.{◌≡◌}
-use Rattle.turn_cell_bench.proofs.rounds.cell_steps.Given as goal
-
-abbrev pub invariant-loop-made : goal.invariant-loop-made
-invariant-loop-made g l = (l.pass.cell ≡ l.cell) × (l.actor ≡ l.pass.number)
