@@ -286,7 +286,6 @@ module _ (settings : SettingsView) (w : World) (j : ShardsServe w.state.shards (
         of_rows = put_cases (λ z root. (n : List ℕ) (r : Bucket) (number : ℕ) → at root.buckets n ≡ Some r → number < r.shards → IsMade w.state.shards z (shard_key r.id r.instance number)) w.state.root zone _ in_zone (λ z n r number is less. j.of_rows z n r number is less)
 
   serves_by : (op : Op) → meets_need settings p op ≡ true → Left op (reply_of settings st op)
-  serves_by (BucketRead zone name) may = unchanged (BucketRead zone name) (reply_of settings st (BucketRead zone name)) (λ z k is. cc)
   serves_by (BucketSwap zone name expected new) may = swap_serves zone name expected new may
   serves_by (ShardMake zone key) may = make_serves zone key may
   serves_by (Prepare zone key name) may =
@@ -296,15 +295,9 @@ module _ (settings : SettingsView) (w : World) (j : ShardsServe w.state.shards (
       called (Complete zone key name tag version row) (λ z k is. cc) zone key (λ s. complete_refusal s name tag) (λ s. settled s name (without_tag tag (entry_at s name).tags) version row) (λ s. Done) (λ s is. settled_serves s name (without_tag tag (entry_at s name).tags) version row is)
   serves_by (Cancel zone key name tag) may =
       called (Cancel zone key name tag) (λ z k is. cc) zone key (λ s. complete_refusal s name tag) (λ s. with_entry s name (with_tags (entry_at s name) (without_tag tag (entry_at s name).tags))) (λ s. Done) (λ s is. tags_serve s name (without_tag tag (entry_at s name).tags) is)
-  serves_by (Page zone key start limit) may = unchanged (Page zone key start limit) (reply_of settings st (Page zone key start limit)) (λ z k is. cc)
   serves_by (Suggest zone key name revision seen version row) may =
       called (Suggest zone key name revision seen version row) (λ z k is. cc) zone key (λ s. suggest_event_refusal s name revision seen) (λ s. suggested s name revision seen version row) (λ s. Done) (λ s is. suggested_serves s name revision seen version row is)
-  serves_by (Stats zone key) may = unchanged (Stats zone key) (reply_of settings st (Stats zone key)) (λ z k is. cc)
-  serves_by (HeadRead zone container name) may = unchanged (HeadRead zone container name) (reply_of settings st (HeadRead zone container name)) (λ z k is. cc)
-  serves_by (HeadWrite zone container name guard new when) may = unchanged (HeadWrite zone container name guard new when) (reply_of settings st (HeadWrite zone container name guard new when)) (λ z k is. cc)
-  serves_by (TailMake zone write part bytes) may = unchanged (TailMake zone write part bytes) (reply_of settings st (TailMake zone write part bytes)) (λ z k is. cc)
-  serves_by (TailRead zone write part start count) may = unchanged (TailRead zone write part start count) (reply_of settings st (TailRead zone write part start count)) (λ z k is. cc)
-  serves_by (Announce zone container instance shard bucket) may = unchanged (Announce zone container instance shard bucket) (reply_of settings st (Announce zone container instance shard bucket)) (λ z k is. cc)
+  serves_by op may = unchanged op (reply_of settings st op) (λ z k is. cc)
 
 pub serves_next : (settings : SettingsView) (w : World) (e : Event) → ShardsServe w.state.shards (rows_of w.state.root) w.phases → IsNext settings w e → ShardsServe (happens settings w e).state.shards (rows_of (happens settings w e).state.root) (happens settings w e).phases
 serves_next settings w e j next =

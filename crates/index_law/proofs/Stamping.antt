@@ -158,20 +158,8 @@ module _ (settings : SettingsView) (w : World) (j : IndexHolds w) (given : Stamp
         changed = record { version = w.state.count + 1; slot = Live new (stamp_next head zone st.clock) }
 
   given_by : (op : Op) → Left op (reply_of settings st op)
-  given_by (BucketRead zone name) = given
-  given_by (BucketSwap zone name expected new) = given
-  given_by (ShardMake zone key) = given
-  given_by (Prepare zone key name) = given
-  given_by (Complete zone key name tag version row) = given
-  given_by (Cancel zone key name tag) = given
-  given_by (Page zone key start limit) = given
-  given_by (Suggest zone key name revision seen version row) = given
-  given_by (Stats zone key) = given
-  given_by (HeadRead zone container name) = given
   given_by (HeadWrite zone container name guard new when) = write_given zone container name guard new when
-  given_by (TailMake zone write part bytes) = given
-  given_by (TailRead zone write part start count) = given
-  given_by (Announce zone container instance shard bucket) = given
+  given_by op = given
 
 pub given_next : (settings : SettingsView) (w : World) (e : Event) → IndexHolds w → StampsGiven (heads_of w.state.heads) w.stamps.slots → IsNext settings w e → StampsGiven (heads_of (happens settings w e).state.heads) (happens settings w e).stamps.slots
 given_next settings w e j given next = subst (λ r. Left settings w j given e.moment e.op r) (sym next.answer) (given_by settings w j given e.moment e.op)

@@ -87,16 +87,6 @@ written_agrees settings st maps zone container name head agree z c n =
     ]
 
 agrees_next : (settings : SettingsView) (st : State) (maps : Maps) (op : Op) (reply : Reply) → reply ≡ reply_of settings st op → Agree maps st.heads → Agree (mapped maps op reply) (touched settings st (touch_of settings st op)).heads
-agrees_next settings st maps (BucketRead zone name) reply is agree = agree
-agrees_next settings st maps (BucketSwap zone name expected new) reply is agree = agree
-agrees_next settings st maps (ShardMake zone key) reply is agree = agree
-agrees_next settings st maps (Prepare zone key name) reply is agree = agree
-agrees_next settings st maps (Complete zone key name tag version row) reply is agree = agree
-agrees_next settings st maps (Cancel zone key name tag) reply is agree = agree
-agrees_next settings st maps (Page zone key after limit) reply is agree = agree
-agrees_next settings st maps (Suggest zone key name revision moment version row) reply is agree = agree
-agrees_next settings st maps (Stats zone key) reply is agree = agree
-agrees_next settings st maps (HeadRead zone container name) reply is agree = agree
 agrees_next settings st maps (HeadWrite zone container name guard new when) reply is agree =
     let key = head_key container name in
     let head = st.heads zone key in
@@ -110,9 +100,7 @@ agrees_next settings st maps (HeadWrite zone container name guard new when) repl
           subst (λ said. Agree (mapped maps op said) (put_in st.heads zone key head)) (sym told)
           (subst (λ objects. Agree maps objects) (sym (put_in_same st.heads zone key)) agree)
     ] is
-agrees_next settings st maps (TailMake zone write part bytes) reply is agree = agree
-agrees_next settings st maps (TailRead zone write part start count) reply is agree = agree
-agrees_next settings st maps (Announce zone container instance shard bucket) reply is agree = agree
+agrees_next settings st maps op reply is agree = agree
 
 agrees_from : (settings : SettingsView) (w : World) (es : List Event) → LegalFrom settings w es → Agree w.maps w.state.heads → Agree (run settings w es).maps (run settings w es).state.heads
 agrees_from settings w [] legal agree = agree

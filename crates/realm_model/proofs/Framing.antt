@@ -139,18 +139,7 @@ sums_next settings st (TailMake zone write part bytes) sums =
       | None ↦ λ may. tail_sums settings st zone write part (record { bytes = bytes }) (has_room (st.free zone) (frames_for settings.frame bytes) may) sums
       | Some why ↦ λ refused. subst (HasSums settings) (sym (tail_same settings st zone (tail_key write part) tail refl)) sums
     ] refl
-sums_next settings st (BucketRead zone name) sums = sums
-sums_next settings st (BucketSwap zone name expected new) sums = sums
-sums_next settings st (ShardMake zone shard) sums = sums
-sums_next settings st (Prepare zone shard name) sums = sums
-sums_next settings st (Complete zone shard name tag version row) sums = sums
-sums_next settings st (Cancel zone shard name tag) sums = sums
-sums_next settings st (Page zone shard after limit) sums = sums
-sums_next settings st (Suggest zone shard name revision moment version row) sums = sums
-sums_next settings st (Stats zone shard) sums = sums
-sums_next settings st (HeadRead zone container name) sums = sums
-sums_next settings st (TailRead zone write part start count) sums = sums
-sums_next settings st (Announce zone container instance shard bucket) sums = sums
+sums_next settings st op sums = sums
 
 sums_from : (settings : SettingsView) (w : World) (es : List Event) → HasSums settings w.state → HasSums settings (run settings w es).state
 unfolding HasSums

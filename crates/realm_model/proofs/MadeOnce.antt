@@ -169,17 +169,6 @@ made_at tails made write part bytes agree w p =
 
 tails_next : (settings : SettingsView) (st : State) (made : Made) (op : Op) (reply : Reply) → reply ≡ reply_of settings st op → TailsAgree st.tails made → TailsAgree (touched settings st (touch_of settings st op)).tails (made_after made op reply)
 unfolding TailsAgree
-tails_next settings st made (BucketRead zone name) reply is agree z w p = agree z w p
-tails_next settings st made (BucketSwap zone name expected new) reply is agree z w p = agree z w p
-tails_next settings st made (ShardMake zone key) reply is agree z w p = agree z w p
-tails_next settings st made (Prepare zone key name) reply is agree z w p = agree z w p
-tails_next settings st made (Complete zone key name tag version row) reply is agree z w p = agree z w p
-tails_next settings st made (Cancel zone key name tag) reply is agree z w p = agree z w p
-tails_next settings st made (Page zone key after limit) reply is agree z w p = agree z w p
-tails_next settings st made (Suggest zone key name revision moment version row) reply is agree z w p = agree z w p
-tails_next settings st made (Stats zone key) reply is agree z w p = agree z w p
-tails_next settings st made (HeadRead zone container name) reply is agree z w p = agree z w p
-tails_next settings st made (HeadWrite zone container name guard new when) reply is agree z w p = agree z w p
 tails_next settings st made (TailMake zone write part bytes) reply is agree z w p =
     let key = tail_key write part in
     let tail = st.tails zone key in
@@ -195,8 +184,7 @@ tails_next settings st made (TailMake zone write part bytes) reply is agree z w 
           subst (λ said. (put_in st.tails zone key tail z (tail_key w p)).bytes ≡ unwrap_or (made_after made op said z w p) []) (sym told)
           (subst (λ objects. (objects z (tail_key w p)).bytes ≡ unwrap_or (made z w p) []) (sym (put_in_same st.tails zone key)) (agree z w p))
     ] is
-tails_next settings st made (TailRead zone write part start count) reply is agree z w p = agree z w p
-tails_next settings st made (Announce zone container instance shard bucket) reply is agree z w p = agree z w p
+tails_next settings st made op reply is agree z w p = agree z w p
 
 -- ---- after every history
 

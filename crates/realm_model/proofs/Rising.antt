@@ -52,7 +52,6 @@ TouchSteps st (at_changes zone log) = Unit {0}
 
 touch_steps : (settings : SettingsView) (st : State) (op : Op) → Bounded st → TouchSteps st (touch_of settings st op)
 unfolding TouchSteps
-touch_steps settings st (BucketRead zone name) b = tt
 touch_steps settings st (BucketSwap zone name expected new) b =
     swapped_steps (st.root zone) name expected new (is_master zone) st.count (b.rows zone)
 touch_steps settings st (ShardMake zone key) b = made_steps (st.shards zone key) (b.entries zone key)
@@ -65,7 +64,6 @@ touch_steps settings st (Complete zone key name tag version row) b =
 touch_steps settings st (Cancel zone key name tag) b =
     changed_steps (st.shards zone key) (λ s. complete_refusal s name tag) _
     (λ s fits. tags_step s name (without_tag tag (entry_at s name).tags) fits) (b.entries zone key)
-touch_steps settings st (Page zone key after limit) b = tt
 touch_steps settings st (Suggest zone key name revision moment version row) b =
     changed_steps (st.shards zone key) (λ s. suggest_event_refusal s name revision moment) _
     (λ s fits.
@@ -73,14 +71,10 @@ touch_steps settings st (Suggest zone key name revision moment version row) b =
     (settled s name (tags_due_taken moment (entry_at s name).tags) version row) (shard_stays (Some s) fits)
     (settled_steps s name (tags_due_taken moment (entry_at s name).tags) version row fits))
     (b.entries zone key)
-touch_steps settings st (Stats zone key) b = tt
-touch_steps settings st (HeadRead zone container name) b = tt
 touch_steps settings st (HeadWrite zone container name guard new when) b =
     written_steps (st.heads zone (head_key container name)) guard new when zone st.count st.clock (st.free zone) settings.frame
     b.clock (b.heads zone (head_key container name))
-touch_steps settings st (TailMake zone write part bytes) b = tt
-touch_steps settings st (TailRead zone write part start count) b = tt
-touch_steps settings st (Announce zone container instance shard bucket) b = tt
+touch_steps settings st op b = tt
 
 -- every object steps, the touched one and those that stay
 record AllStep (old new : State) : Type 0 where

@@ -63,7 +63,6 @@ kept_at None refusal reply new why other refused = refl
 kept_at (Some s) refusal reply new why other refused = ap (λ x. Some x) (kept (refusal s) (reply s) s (new s) why (other s) refused)
 
 pub refused_stays : (settings : SettingsView) (st : State) (op : Op) (why : Why) → reply_of settings st op ≡ No why → touched settings st (touch_of settings st op) ≡ st
-refused_stays settings st (BucketRead zone name) why refused = refl
 refused_stays settings st (BucketSwap zone name expected new) why refused =
     root_same settings st zone _ (kept (swap_refusal (st.root zone) name expected) Done _ _ why (λ is. cc) refused)
 refused_stays settings st (ShardMake zone key) why refused = cc
@@ -75,12 +74,9 @@ refused_stays settings st (Complete zone key name tag version row) why refused =
 refused_stays settings st (Cancel zone key name tag) why refused =
     shard_same settings st zone key _
     (kept_at (st.shards zone key) (λ s. complete_refusal s name tag) _ _ why (λ s is. cc) refused)
-refused_stays settings st (Page zone key after limit) why refused = refl
 refused_stays settings st (Suggest zone key name revision moment version row) why refused =
     shard_same settings st zone key _
     (kept_at (st.shards zone key) (λ s. suggest_event_refusal s name revision moment) _ _ why (λ s is. cc) refused)
-refused_stays settings st (Stats zone key) why refused = refl
-refused_stays settings st (HeadRead zone container name) why refused = refl
 refused_stays settings st (HeadWrite zone container name guard new when) why refused =
     let head = st.heads zone (head_key container name) in
     head_same settings st zone (head_key container name) _
@@ -88,5 +84,5 @@ refused_stays settings st (HeadWrite zone container name guard new when) why ref
 refused_stays settings st (TailMake zone write part bytes) why refused =
     tail_same settings st zone (tail_key write part) _
     (kept (tail_refusal bytes (st.free zone) settings.frame) Done _ _ why (λ is. cc) refused)
-refused_stays settings st (TailRead zone write part start count) why refused = refl
 refused_stays settings st (Announce zone container instance shard bucket) why refused = cc
+refused_stays settings st op why refused = refl

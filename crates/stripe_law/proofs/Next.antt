@@ -249,17 +249,6 @@ module _ (settings : SettingsView) (st : State) (phases : ActorId → Phase) (x 
       (ap (λ s. s.own) same) (ap (λ s. s.olds) same) (subst (λ s. SizedAll (st.count + 1) x.made s.seen) (sym same) seen_still)
 
   pub next_holds : (op : Op) (reply : Reply) → meets_need settings (phases actor) op ≡ true → reply ≡ reply_of settings st op → NextHolds (touched settings st (touch_of settings st op)).heads op reply
-  next_holds (BucketRead zone name) reply may is = plain _ refl refl
-  next_holds (BucketSwap zone name expected new) reply may is = plain _ refl refl
-  next_holds (ShardMake zone key) reply may is = plain _ refl refl
-  next_holds (Prepare zone key name) reply may is = plain _ refl refl
-  next_holds (Complete zone key name tag version row) reply may is = plain _ refl refl
-  next_holds (Cancel zone key name tag) reply may is = plain _ refl refl
-  next_holds (Page zone key after limit) reply may is = plain _ refl refl
-  next_holds (Suggest zone key name revision moment version row) reply may is = plain _ refl refl
-  next_holds (Stats zone key) reply may is = plain _ refl refl
-  next_holds (TailRead zone write part start count) reply may is = plain _ refl refl
-  next_holds (Announce zone container instance shard bucket) reply may is = plain _ refl refl
   next_holds (HeadRead zone container name) reply may is =
       let old = phases actor in
       let slot = (st.heads zone (head_key container name)).slot in
@@ -290,3 +279,4 @@ module _ (settings : SettingsView) (st : State) (phases : ActorId → Phase) (x 
             (right_of (is_next_part (p.stripes.own zone write write) part) (is_between 1 settings.stripe (length bytes)) rest)
         | Some why ↦ plain (learnt p op (No why) (number_next st) st.clock) refl refl
       ])
+  next_holds op reply may is = plain _ refl refl
