@@ -131,7 +131,9 @@ class Tries:
                 with open(f"{room}/{path}", "w", encoding="utf-8") as it:
                     it.write(text)
             lib = kit.rtlib()
-            words = [lib.RATTLE, "check", *self.crate.words(["--jobs", "1"], keeps=False), "--incremental", self.seed]
+            # what a crate of tests has is compiled with its tests alone
+            of_tests = self.crate.name.endswith("_tests")
+            words = [lib.RATTLE, "check", *self.crate.words(["--jobs", "1"], tests=of_tests, keeps=False), "--incremental", self.seed]
             for name in sorted(only):
                 words += ["--only", name]
             how = {"stdin": subprocess.DEVNULL, "stdout": subprocess.PIPE, "stderr": subprocess.STDOUT, "errors": "replace"}
