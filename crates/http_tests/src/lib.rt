@@ -1,7 +1,9 @@
-//! Targets, users, requests, listings and replies beside tables that were written by hand, through the public calls of
-//! their crates.
+//! Dates, the outside, bodies, heads and requests of HTTP, and the Swift words, users, requests, listings and replies,
+//! beside tables that were written by hand, through the public calls of their crates.
 #![tactic(auto)]
 
+#[cfg(test)]
+mod dates;
 #[cfg(test)]
 mod listings;
 #[cfg(test)]
