@@ -7,6 +7,8 @@ mod dates;
 #[cfg(test)]
 mod listings;
 #[cfg(test)]
+mod outside;
+#[cfg(test)]
 mod replies;
 #[cfg(test)]
 mod requests;
