@@ -3,11 +3,15 @@
 #![tactic(auto)]
 
 #[cfg(test)]
+mod chunks;
+#[cfg(test)]
 mod dates;
 #[cfg(test)]
 mod listings;
 #[cfg(test)]
 mod outside;
+#[cfg(test)]
+mod repeating;
 #[cfg(test)]
 mod replies;
 #[cfg(test)]

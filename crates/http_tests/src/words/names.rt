@@ -1,13 +1,5 @@
 use super::*;
-
-/// The text so many times behind the front.
-fn repeated(alloc: Global, front: &[u8], text: &[u8], count: u32) -> Result<Vec<u8>, AllocError> {
-    let mut bytes = Vec::from_slice(alloc, front)?;
-    for _ in 0..count {
-        bytes.extend_from_slice(text)?;
-    }
-    Ok(bytes)
-}
+use crate::repeating::{between, repeated};
 
 /// How many bytes the last name of a target has.
 fn last_len(target: &Target) -> usize {
@@ -24,7 +16,7 @@ fn len_of_last(
     alloc: Global,
     front: &[u8],
     text: &[u8],
-    count: u32,
+    count: usize,
 ) -> Result<Result<usize, WordFault>, AllocError> {
     let target = repeated(alloc, front, text, count)?;
     match read_target(alloc, &target) {
@@ -38,7 +30,7 @@ fn len_of_last(
     }
 }
 
-const FRONTS: &[(&[u8], u32)] = &[
+const FRONTS: &[(&[u8], usize)] = &[
     (b"/swift/v1/AUTH_acme/", 256),
     (b"/swift/v1/AUTH_acme/box/", 1024),
 ];
@@ -47,11 +39,8 @@ const FRONTS: &[(&[u8], u32)] = &[
 fn names_have_their_limits(rt: HostRuntime) -> Result<(), Fail> {
     let alloc = rt.alloc();
     for (front, most) in FRONTS {
-        assert_eq!(rt; len_of_last(alloc, front, b"a", *most)?, Ok(*most as usize));
-        assert_eq!(rt;
-            len_of_last(alloc, front, b"%2F", *most)?,
-            Ok(*most as usize)
-        );
+        assert_eq!(rt; len_of_last(alloc, front, b"a", *most)?, Ok(*most));
+        assert_eq!(rt; len_of_last(alloc, front, b"%2F", *most)?, Ok(*most));
         assert_eq!(rt;
             len_of_last(alloc, front, b"a", *most + 1)?,
             Err(WordFault::BadName)
@@ -68,11 +57,10 @@ fn names_have_their_limits(rt: HostRuntime) -> Result<(), Fail> {
 fn lengths_in(
     alloc: Global,
     front: &[u8],
-    count: u32,
+    count: usize,
     end: &[u8],
 ) -> Result<Result<(usize, usize), WordFault>, AllocError> {
-    let mut place = repeated(alloc, front, b"a", count)?;
-    place.extend_from_slice(end)?;
+    let place = between(alloc, front, b"a", count, end)?;
     match read_place(alloc, &place) {
         Ok((container, object)) => Ok(Ok((container.len(), object.len()))),
         Err(fault) => Ok(Err(fault)),
