@@ -9,6 +9,8 @@ mod dates;
 #[cfg(test)]
 mod listings;
 #[cfg(test)]
+mod model;
+#[cfg(test)]
 mod outside;
 #[cfg(test)]
 mod repeating;

@@ -1,9 +1,13 @@
-use super::*;
+// Streams of requests, counted by hand.
+use crate::repeating::between;
+use http_model::{Request, Stream, read_stream};
+use std::alloc::Global;
 use std::fmt::Write;
+use std::str;
 use std::test::Fail;
 
 /// Inputs, and what they are.
-const STREAMS: [(&str, &str); 16] = [
+const STREAMS: &[(&str, &str)] = &[
     ("", "Clean"),
     // a PUT and then a GET
     (
@@ -70,7 +74,7 @@ const STREAMS: [(&str, &str); 16] = [
 const TAKEN: &str = "PUT /swift/v1/AUTH_acme/box/k hello\nCut";
 
 /// The fields of a PUT before `hello` and the first byte of a further head, and what that is.
-const FIELDS: [(&str, &str); 17] = [
+const FIELDS: &[(&str, &str)] = &[
     ("Host: h\r\nContent-Length: 5\r\n", TAKEN),
     // where the body ends is not told
     ("Host: h\r\nContent-Length: 0000000000000000005\r\n", TAKEN),
@@ -130,60 +134,85 @@ const FIELDS: [(&str, &str); 17] = [
     ("Host: h\r\n", "NotBuilt { bodiless: false }"),
 ];
 
-/// The method, the target and the body of each request in a line of its own, and then how the
-/// stream ends.
-fn told(alloc: Global, bytes: &[u8]) -> Result<String, Fail> {
-    let stream = read_stream(alloc, bytes)?;
+/// Adds the method, the target and the body of a request, in a line of its own.
+fn add_request(told: &mut String, request: &Request) -> Result<(), Fail> {
+    let method = request.head.method.as_str();
+    let target = str::from_utf8(request.head.target.as_slice())?;
+    let body = str::from_utf8(request.body.as_slice())?;
+    write!(told, "{method} {target} {body}\n")?;
+    Ok(())
+}
+
+/// The requests of a stream in lines of their own, and then how it ends.
+fn told_of(alloc: Global, stream: &Stream) -> Result<String, Fail> {
     let mut told = String::new(alloc);
     for request in stream.requests.as_slice() {
-        let method = request.head.method.as_str();
-        let target = str::from_utf8(request.head.target.as_slice())?;
-        let body = str::from_utf8(request.body.as_slice())?;
-        write!(told, "{method} {target} {body}\n")?;
+        add_request(&mut told, request)?;
     }
     let end = stream.end;
     write!(told, "{end:?}")?;
     Ok(told)
 }
 
+fn told(alloc: Global, bytes: &[u8]) -> Result<String, Fail> {
+    let stream = read_stream(alloc, bytes)?;
+    let told = told_of(alloc, &stream);
+    drop(stream);
+    told
+}
+
 #[test]
 fn streams_are_those_counted_by_hand(rt: HostRuntime) -> Result<(), Fail> {
     for (bytes, want) in STREAMS {
         let told = told(rt.alloc(), bytes.as_bytes())?;
-        assert_eq!(rt; told.as_str(), want, "of {bytes:?}");
+        assert_eq!(rt; told.as_str(), *want, "of {bytes:?}");
     }
     Ok(())
+}
+
+/// What a PUT with these fields is, `hello` and a further byte.
+fn told_with(alloc: Global, fields: &str) -> Result<String, Fail> {
+    let bytes = format!(in alloc;
+        "PUT /swift/v1/AUTH_acme/box/k HTTP/1.1\r\n{fields}\r\nhelloG"
+    )?;
+    told(alloc, bytes.as_bytes())
 }
 
 #[test]
 fn fields_decide_what_follows_a_head(rt: HostRuntime) -> Result<(), Fail> {
     for (fields, want) in FIELDS {
-        let bytes = format!(in rt.alloc();
-            "PUT /swift/v1/AUTH_acme/box/k HTTP/1.1\r\n{fields}\r\nhelloG"
-        )?;
-        let told = told(rt.alloc(), bytes.as_bytes())?;
-        assert_eq!(rt; told.as_str(), want, "of {fields:?}");
+        let told = told_with(rt.alloc(), fields)?;
+        assert_eq!(rt; told.as_str(), *want, "of {fields:?}");
     }
     Ok(())
 }
 
+const FRONT: &[u8] = b"GET /swift/v1/AUTH_acme/box/k HTTP/1.1\r\nHost: h\r\nA: ";
+
+const WHOLE: &str = "GET /swift/v1/AUTH_acme/box/k \nClean";
+
+const TOO_LARGE: &str = "Refused { word: Size, bodiless: false }";
+
+/// How many bytes a text has, those that it ends in, and what it is.
+const LENGTHS: &[(usize, &[u8], &str)] = &[
+    (65536, b"\r\n\r\n", WHOLE),
+    (65537, b"\r\n\r\n", TOO_LARGE),
+    (65536, b"", "Cut"),
+    (65537, b"", TOO_LARGE),
+];
+
+/// What a text of so many bytes is, of which these are the last.
+fn told_at(alloc: Global, len: usize, last: &[u8]) -> Result<String, Fail> {
+    let count = len.saturating_sub(FRONT.len().saturating_add(last.len()));
+    let bytes = between(alloc, FRONT, b"a", count, last)?;
+    told(alloc, &bytes)
+}
+
 #[test]
 fn a_head_has_at_most_65536_bytes(rt: HostRuntime) -> Result<(), Fail> {
-    let front = "GET /swift/v1/AUTH_acme/box/k HTTP/1.1\r\nHost: h\r\nA: ";
-    let whole = "GET /swift/v1/AUTH_acme/box/k \nClean";
-    for (len, last, want) in [
-        (65536, "\r\n\r\n", whole),
-        (65537, "\r\n\r\n", "Refused { word: Size, bodiless: false }"),
-        (65536, "", "Cut"),
-        (65537, "", "Refused { word: Size, bodiless: false }"),
-    ] {
-        let mut bytes = String::from_str(rt.alloc(), front)?;
-        for _ in front.len() + last.len()..len {
-            bytes.push('a')?;
-        }
-        bytes.push_str(last)?;
-        let told = told(rt.alloc(), bytes.as_bytes())?;
-        assert_eq!(rt; told.as_str(), want, "of {len} bytes");
+    for (len, last, want) in LENGTHS {
+        let told = told_at(rt.alloc(), *len, last)?;
+        assert_eq!(rt; told.as_str(), *want, "of {len} bytes");
     }
     Ok(())
 }
