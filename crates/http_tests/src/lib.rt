@@ -7,6 +7,8 @@ mod chunks;
 #[cfg(test)]
 mod dates;
 #[cfg(test)]
+mod intake;
+#[cfg(test)]
 mod listings;
 #[cfg(test)]
 mod model;

@@ -1,8 +1,8 @@
 use Rattle.std.proofs.Common.{refl, sym, ◌∙◌}
-use Rattle.http_intake.proofs.Client.{took_content, took_unread, cut_content}
-use Rattle.http_intake.proofs.Planned.{content_is}
-use Rattle.http_intake.proofs.tests.next_request.Goals as goal
-use Rattle.http_intake.proofs.tests.next_request.Goals.{in-Unread, in-Content+in-Ok}
+use Rattle.http_tests.proofs.Client.{took_content, took_unread, cut_content}
+use Rattle.http_tests.proofs.Planned.{content_is}
+use Rattle.http_tests.proofs.intake.client.next_request.Goals as goal
+use Rattle.http_tests.proofs.intake.client.next_request.Goals.{in-Unread, in-Content+in-Ok}
 
 pub read_body-requires-clause-unchunked : goal.read_body-requires-clause-unchunked
 read_body-requires-clause-unchunked g c =

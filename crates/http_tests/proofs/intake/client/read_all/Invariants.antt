@@ -1,7 +1,7 @@
 use Rattle.std.proofs.Common.{◌≡◌, ◌-◌, ◌≤◌, None}
 use Rattle.http_intake.specs.Intake.{IsBetween}
-use Rattle.http_intake.proofs.Client.{Went}
-use Rattle.http_intake.proofs.tests.read_all.Given as goal
+use Rattle.http_tests.proofs.Client.{Went}
+use Rattle.http_tests.proofs.intake.client.read_all.Given as goal
 
 abbrev pub invariant-requests : goal.invariant-requests
 invariant-requests g l = record {

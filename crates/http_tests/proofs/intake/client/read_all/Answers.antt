@@ -1,7 +1,7 @@
 use Rattle.std.proofs.Common.{sym, ◌∙◌, arith}
-use Rattle.http_intake.proofs.Client.{went_more, went_closed, went_end}
-use Rattle.http_intake.proofs.Planned.{reads_body, goes_below}
-use Rattle.http_intake.proofs.tests.read_all.Goals as goal
+use Rattle.http_tests.proofs.Client.{went_more, went_closed, went_end}
+use Rattle.http_tests.proofs.Planned.{reads_body, goes_below}
+use Rattle.http_tests.proofs.intake.client.read_all.Goals as goal
 
 pub returns-in-Err : goal.returns-in-Err
 returns-in-Err g c =

@@ -1,6 +1,6 @@
 use Rattle.std.proofs.Common.{refl, arith}
-use Rattle.http_intake.proofs.Client.{gave_more, gave_all}
-use Rattle.http_intake.proofs.tests.read_body.Goals as goal
+use Rattle.http_tests.proofs.Client.{gave_more, gave_all}
+use Rattle.http_tests.proofs.intake.client.read_body.Goals as goal
 
 pub returns-then-count-eq0-clause-whole : goal.returns-then-count-eq0-clause-whole
 returns-then-count-eq0-clause-whole g c =

@@ -13,7 +13,7 @@ use Rattle.http_model.specs.Forms.{plan_of, closes}
 use Rattle.http_model.specs.Heads.{BeginsWith}
 use Rattle.http_model.specs.Streams.{TakesRequest, IsEnd, IsStreamFrom, IsStream}
 use Rattle.http_intake.specs.Intake.{IntakeState, GivesHead, GivesBytes}
-use Rattle.http_intake.proofs.Planned.{content_is}
+use Rattle.http_tests.proofs.Planned.{content_is}
 use Rattle.http_model.proofs.PlainLemmas.{begun_not_blank}
 
 -- ---- a body
