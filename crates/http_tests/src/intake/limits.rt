@@ -52,10 +52,10 @@ fn heads_have_at_most_128_fields(rt: HostRuntime) -> Result<(), Fail> {
     Ok(())
 }
 
-/// A last chunk, and a chunk and the next chunk line, behind the head of a PUT.
-const LAST_CHUNK: &[u8] =
-    b"PUT /a HTTP/1.1\r\nHost: h\r\nTransfer-Encoding: Chunked\r\n\r\n0\r\n";
+/// A last chunk behind the head of a PUT.
+const LAST_CHUNK: &[u8] = b"PUT /a HTTP/1.1\r\nHost: h\r\nTransfer-Encoding: Chunked\r\n\r\n0\r\n";
 
+/// A chunk and the front of the next chunk line behind the head of a PUT.
 const TWO_LINES: &[u8] =
     b"PUT /a HTTP/1.1\r\nHost: h\r\nTransfer-Encoding: Chunked\r\n\r\n5\r\nhello\r\n0;";
 

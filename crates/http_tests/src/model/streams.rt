@@ -172,9 +172,7 @@ fn streams_are_those_counted_by_hand(rt: HostRuntime) -> Result<(), Fail> {
 
 /// What a PUT with these fields is, `hello` and a further byte.
 fn told_with(alloc: Global, fields: &str) -> Result<String, Fail> {
-    let bytes = format!(in alloc;
-        "PUT /swift/v1/AUTH_acme/box/k HTTP/1.1\r\n{fields}\r\nhelloG"
-    )?;
+    let bytes = format!(in alloc; "PUT /swift/v1/AUTH_acme/box/k HTTP/1.1\r\n{fields}\r\nhelloG")?;
     told(alloc, bytes.as_bytes())
 }
 

@@ -2,9 +2,7 @@
 ghost use Rattle.std.specs.Prelude.{◌≤◌, IfOk};
 
 use super::{read_one, sent};
-use gw_io::{
-    Failed, ReaderSource, Sink, WriterSink, standard_input, standard_output, write_all,
-};
+use gw_io::{Failed, ReaderSource, Sink, WriterSink, standard_input, standard_output, write_all};
 use std::io;
 use std::io::{ErrorKind, Read, Write};
 
