@@ -24,6 +24,3 @@ pub use outside::{Clock, Failed, Sink, Source};
 pub use sink::{CountingSink, VecSink};
 pub use source::{SliceSource, WholeSource};
 pub use writing::write_all;
-
-#[cfg(test)]
-mod tests;

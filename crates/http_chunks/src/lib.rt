@@ -15,6 +15,3 @@ pub use laws::{a_body_has_one_reading, a_later_byte_changes_no_body};
 pub use place::{Place, TextEnd};
 pub use search::scan;
 pub use trailers::{TRAILER_FIELDS, TRAILER_LIMIT, are_trailers};
-
-#[cfg(test)]
-mod tests;

@@ -2,8 +2,6 @@ pub mod ScanSteps
 pub mod Held
 pub mod Searching
 pub mod Taking
-pub mod Client
-pub mod Planned
 pub mod Texts
 pub mod Chunks
 pub mod Given

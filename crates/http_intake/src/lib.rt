@@ -16,6 +16,3 @@ pub use fault::IntakeFault;
 pub use http_model::{Framing, Head};
 pub use intake::Intake;
 pub use laws::{a_later_byte_changes_no_whole_request, requests_have_one_reading};
-
-#[cfg(test)]
-mod tests;

@@ -7,8 +7,6 @@ mod form;
 mod framing;
 mod head;
 mod laws;
-#[cfg(test)]
-mod limits;
 mod plain;
 mod reading;
 mod reply;

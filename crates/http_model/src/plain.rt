@@ -171,6 +171,3 @@ pub fn read_stream(alloc: Global, bytes: &[u8]) -> Result<Stream, AllocError>
         }
     }
 }
-
-#[cfg(test)]
-mod tests;
