@@ -243,16 +243,25 @@ def changed(edit, folder):
     something else too, as a type, a constant or a definition, and names none."""
     if edit.goals:
         return set(edit.goals)
-    found = set()
-    for path, old, _ in edit.pairs:
+    found, texts = set(), {}
+    for path, old, new in edit.pairs:
         if not path.startswith("src/"):
             return None
-        with open(f"{folder}/{path}", encoding="utf-8") as it:
-            text = it.read()
+        if path not in texts:
+            with open(f"{folder}/{path}", encoding="utf-8") as it:
+                texts[path] = it.read()
+        text = texts[path]
         at = text.find(old)
         inside = [it for it in functions(edit.crate, path, text) if it.start <= at <= it.end]
-        if at < 0 or not inside:
+        texts[path] = text.replace(old, new)
+        if inside:
+            function = max(inside, key=lambda it: it.start)
+            found.add(rattle_name(function.name, function.of, folder))
+        elif at < 0 or not is_import(quieted(text), at):
             return None
-        function = max(inside, key=lambda it: it.start)
-        found.add(rattle_name(function.name, function.of, folder))
-    return found
+    return found or None
+
+
+def is_import(quiet, at):
+    """Whether a `use` item stands at this place."""
+    return any(it.start() <= at <= it.end() for it in re.finditer(r"(?m)^[ \t]*(?:pub(?:\([^)]*\))?[ \t]+)?use\b[^;]*;", quiet))
