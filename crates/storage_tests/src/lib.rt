@@ -1,0 +1,6 @@
+//! Lists, names, frames, maps, pools and bytes that are stored, beside what was worked by hand or by another program,
+//! through the public calls of their crates.
+#![tactic(auto)]
+
+#[cfg(test)]
+mod orders;
