@@ -3,4 +3,8 @@
 #![tactic(auto)]
 
 #[cfg(test)]
+mod fillers;
+#[cfg(test)]
+mod lists;
+#[cfg(test)]
 mod orders;
