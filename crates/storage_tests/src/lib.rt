@@ -7,4 +7,6 @@ mod fillers;
 #[cfg(test)]
 mod lists;
 #[cfg(test)]
+mod names;
+#[cfg(test)]
 mod orders;
