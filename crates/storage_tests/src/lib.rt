@@ -7,6 +7,8 @@ mod fillers;
 #[cfg(test)]
 mod lists;
 #[cfg(test)]
+mod manifests;
+#[cfg(test)]
 mod names;
 #[cfg(test)]
 mod orders;
