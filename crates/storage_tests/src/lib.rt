@@ -14,3 +14,5 @@ mod manifests;
 mod names;
 #[cfg(test)]
 mod orders;
+#[cfg(test)]
+mod regions;
