@@ -11,6 +11,8 @@ mod lists;
 #[cfg(test)]
 mod manifests;
 #[cfg(test)]
+mod maps;
+#[cfg(test)]
 mod names;
 #[cfg(test)]
 mod orders;
