@@ -17,4 +17,6 @@ mod names;
 #[cfg(test)]
 mod orders;
 #[cfg(test)]
+mod pools;
+#[cfg(test)]
 mod regions;
