@@ -11,9 +11,6 @@ pub use head::head_of;
 use head::word_at;
 use std::cmp::Ordering;
 
-#[cfg(test)]
-mod tests;
-
 /// How two strings compare: by the first byte that differs, and where one begins the other by
 /// their lengths. The kit's comparison of slices goes byte by byte; this one takes eight at a
 /// time, of which the last may overlap those before, so that no byte is left over.

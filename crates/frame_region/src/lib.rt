@@ -6,10 +6,6 @@ mod block;
 mod cells;
 mod region;
 mod run;
-#[cfg(test)]
-mod slices;
-#[cfg(test)]
-mod tests;
 mod walks;
 
 pub use region::{NoFrames, Region};

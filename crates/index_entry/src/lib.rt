@@ -23,6 +23,3 @@ pub use log_row::{
 };
 pub use numbers::u64_at;
 pub use std::alloc::AllocError as OutOfMemory;
-
-#[cfg(test)]
-mod tests;

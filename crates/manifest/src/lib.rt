@@ -13,6 +13,3 @@ pub use laws::{a_manifest_has_one_spelling, whole_objects_are_all_their_parts};
 pub use parts::{Part, Parts};
 pub use rgw_types::Manifest;
 pub use std::alloc::AllocError as OutOfMemory;
-
-#[cfg(test)]
-mod tests;

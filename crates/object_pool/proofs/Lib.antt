@@ -6,7 +6,6 @@ pub mod Keys
 pub mod Lent
 pub mod PlaceLemmas
 pub mod Replacements
-pub mod RowLemmas
 pub mod ShelfLemmas
 pub mod SlotLemmas
 pub mod Sweeps

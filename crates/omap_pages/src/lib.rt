@@ -16,6 +16,3 @@ pub use error::OutOfMemory;
 pub use omap::Omap;
 pub use page::{ByteRows, Page};
 pub use spares::{SPARE_KEY_LEN, SPARE_VALUE_LEN};
-
-#[cfg(test)]
-mod tests;

@@ -7,8 +7,6 @@ mod pairs;
 mod pool_key;
 mod stamp;
 mod stripes;
-#[cfg(test)]
-mod tests;
 mod text;
 mod trace;
 

@@ -1,10 +1,11 @@
-use super::{
-    EntryFront, FRONT_MOST, LOG_ROW_MOST, ShardHeader, decode_entry, decode_header, decode_what,
-    encode_entry, encode_header, front, log_key, position_of, write_bucket_row, write_front,
-    write_name_row, write_shard_row, write_tag, write_what,
+use index_entry::{
+    EntryFront, FRONT_MOST, LOG_ROW_MOST, OutOfMemory, ShardHeader, decode_entry, decode_header,
+    decode_what, encode_entry, encode_header, front, log_key, position_of, write_bucket_row,
+    write_front, write_name_row, write_shard_row, write_tag, write_what,
 };
-use object_words::{BucketName, Fate, Hold, ObjectName, Tag};
+use object_words::{BucketName, Entry, Fate, Hold, ObjectName, Tag};
 use rgw_types::Text;
+use std::alloc::Global;
 use std::test::Fail;
 
 // All bytes here were written by another program.
@@ -37,29 +38,43 @@ const LARGEST: [u8; 62] = [
     14, 15, 0, 0, 0, 0, 0, 0, 0, 0, 0, 0,
 ];
 
+/// What was put into bytes.
+const WRITTEN: [&[u8]; 4] = [&KNOWN, &TAGGED, &MARK, &LARGEST];
+
+/// Whether the entry is written as these bytes.
+fn is_encoded(alloc: Global, entry: &Entry, bytes: &[u8]) -> Result<bool, OutOfMemory> {
+    let again = encode_entry(alloc, entry)?;
+    let is_same = again.as_slice() == bytes;
+    drop(again);
+    Ok(is_same)
+}
+
+/// Whether the entry's front is written as these bytes begin, and is as long as theirs.
+fn has_front(entry: &Entry, bytes: &[u8]) -> bool {
+    let mut out = [0; FRONT_MOST];
+    let tags = entry.tags.len() as u64;
+    let len = write_front(entry.version, entry.revision, &entry.row, tags, &mut out);
+    let tags_start = front(bytes).map(|front| front.tags_start);
+    bytes.starts_with(&out[..len]) && tags_start == Some(len as u64)
+}
+
+/// Whether the bytes are an entry of this name that is written as they are.
+fn comes_back(alloc: Global, name: &ObjectName, bytes: &[u8]) -> Result<bool, OutOfMemory> {
+    let Some(entry) = decode_entry(alloc, name, bytes)? else {
+        return Ok(false);
+    };
+    let is_encoded = is_encoded(alloc, &entry, bytes);
+    let has_front = has_front(&entry, bytes);
+    drop(entry);
+    Ok(is_encoded? && has_front)
+}
+
 #[test]
 fn entries_come_back(rt: HostRuntime) -> Result<(), Fail> {
-    let written: [&[u8]; 4] = [&KNOWN, &TAGGED, &MARK, &LARGEST];
-    for bytes in written {
-        let alloc = rt.alloc();
-        let text = Text::from_str(alloc, "dog")?;
-        let Ok(name) = ObjectName::new(text) else {
-            continue;
-        };
-        let found = decode_entry(alloc, &name, bytes)?;
-        assert!(rt; found.is_some());
-        if let Some(entry) = found {
-            let again = encode_entry(alloc, &entry)?;
-            assert!(rt; again.as_slice() == bytes);
-            let mut out = [0; FRONT_MOST];
-            let tags = entry.tags.len() as u64;
-            let len = write_front(entry.version, entry.revision, &entry.row, tags, &mut out);
-            assert!(rt; bytes.starts_with(&out[..len]));
-            assert_eq!(rt;
-                front(bytes).map(|front| front.tags_start),
-                Some(len as u64)
-            );
-        }
+    let text = Text::from_str(rt.alloc(), "dog")?;
+    let name = ObjectName::new(text).ok().ok_or("no name")?;
+    for bytes in WRITTEN {
+        assert!(rt; comes_back(rt.alloc(), &name, bytes)?);
     }
     Ok(())
 }
@@ -308,32 +323,51 @@ const ROWS: [&[u8]; 3] = [
     &[236, 1, 2, 195, 169],
 ];
 
+/// Whether the bytes are a row, and what it names is written as they are.
+fn row_comes_back(alloc: Global, bytes: &[u8]) -> Result<bool, OutOfMemory> {
+    let Some(what) = decode_what(alloc, bytes)? else {
+        return Ok(false);
+    };
+    let mut out = [0; LOG_ROW_MOST];
+    let len = write_what(&what, &mut out);
+    drop(what);
+    Ok(bytes == &out[..len])
+}
+
 #[test]
 fn log_rows_come_back(rt: HostRuntime) -> Result<(), Fail> {
     for bytes in ROWS {
-        let what = decode_what(rt.alloc(), bytes)?;
-        assert!(rt; what.is_some());
-        if let Some(what) = what {
-            let mut out = [0; LOG_ROW_MOST];
-            let len = write_what(&what, &mut out);
-            assert!(rt; bytes == &out[..len]);
-        }
+        assert!(rt; row_comes_back(rt.alloc(), bytes)?);
     }
     Ok(())
 }
 
 #[test]
-fn log_rows_are_written(rt: HostRuntime) -> Result<(), Fail> {
+fn rows_of_objects_are_written(rt: HostRuntime) -> Result<(), Fail> {
+    let text = Text::from_str(rt.alloc(), "a/1")?;
+    let object = ObjectName::new(text).ok().ok_or("no name")?;
     let mut out = [0; LOG_ROW_MOST];
-    let object = ObjectName::new(Text::from_str(rt.alloc(), "a/1")?).ok();
-    let object = object.ok_or("no name")?;
     let len = write_name_row(&object, &mut out);
     assert!(rt; ROWS[0] == &out[..len]);
-    let bucket = BucketName::new(Text::from_str(rt.alloc(), "dog")?).ok();
-    let len = write_shard_row(7, 258, 3, &bucket.ok_or("no name")?, &mut out);
+    Ok(())
+}
+
+#[test]
+fn rows_of_shards_are_written(rt: HostRuntime) -> Result<(), Fail> {
+    let text = Text::from_str(rt.alloc(), "dog")?;
+    let bucket = BucketName::new(text).ok().ok_or("no name")?;
+    let mut out = [0; LOG_ROW_MOST];
+    let len = write_shard_row(7, 258, 3, &bucket, &mut out);
     assert!(rt; ROWS[1] == &out[..len]);
-    let bucket = BucketName::new(Text::from_str(rt.alloc(), "é")?).ok();
-    let len = write_bucket_row(&bucket.ok_or("no name")?, &mut out);
+    Ok(())
+}
+
+#[test]
+fn rows_of_containers_are_written(rt: HostRuntime) -> Result<(), Fail> {
+    let text = Text::from_str(rt.alloc(), "é")?;
+    let bucket = BucketName::new(text).ok().ok_or("no name")?;
+    let mut out = [0; LOG_ROW_MOST];
+    let len = write_bucket_row(&bucket, &mut out);
     assert!(rt; ROWS[2] == &out[..len]);
     Ok(())
 }

@@ -1,6 +1,6 @@
 mod callers;
 
-use super::{Manifest, ManifestBytes, OutOfMemory, Parts};
+use manifest::{Manifest, ManifestBytes, OutOfMemory, Part, Parts};
 use std::alloc::Global;
 use std::test::Fail;
 
@@ -106,6 +106,7 @@ const RANGES: [(u64, u64, &str, &str); 9] = [
     (26, 0, "", ""),
 ];
 
+/// The parts as `part:start+count`.
 fn text_of(alloc: Global, parts: &Parts) -> Result<String, OutOfMemory> {
     let mut text = String::new(alloc);
     for part in parts.as_slice() {
@@ -118,17 +119,19 @@ fn text_of(alloc: Global, parts: &Parts) -> Result<String, OutOfMemory> {
     Ok(text)
 }
 
+/// The letters of a part, where it lies within them.
+fn piece_of(part: &Part) -> Option<&'static str> {
+    let start = part.start as usize;
+    let content = CONTENTS.get(part.part as usize)?;
+    let end = start.checked_add(part.count as usize)?;
+    content.get(start..end)
+}
+
+/// The letters of the parts, where each lies within them.
 fn letters_of(alloc: Global, parts: &Parts) -> Result<Option<String>, OutOfMemory> {
     let mut letters = String::new(alloc);
     for part in parts.as_slice() {
-        let start = part.start as usize;
-        let Some(content) = CONTENTS.get(part.part as usize) else {
-            return Ok(None);
-        };
-        let Some(end) = start.checked_add(part.count as usize) else {
-            return Ok(None);
-        };
-        let Some(piece) = content.get(start..end) else {
+        let Some(piece) = piece_of(part) else {
             return Ok(None);
         };
         letters.push_str(piece)?;
@@ -136,24 +139,38 @@ fn letters_of(alloc: Global, parts: &Parts) -> Result<Option<String>, OutOfMemor
     Ok(Some(letters))
 }
 
-#[test]
-fn ranges_are_cut_at_the_ends_of_stripes(rt: HostRuntime) -> Result<(), Fail> {
+/// The parts of a range of the letters, where it lies within them.
+fn parts_of(alloc: Global, start: u64, count: u64) -> Result<Option<Parts>, OutOfMemory> {
     let manifest = Manifest {
         write: 5,
         stripe: 16,
         size: 26,
     };
+    if start > 26 || count > 26 - start {
+        return Ok(None);
+    }
+    Ok(Some(manifest.parts(alloc, start, count)?))
+}
+
+/// Whether there are as many parts when they went through a vector.
+fn come_back(parts: Parts) -> bool {
+    let count = parts.len();
+    let again = Parts::from_vec(parts.into_vec());
+    let are_as_many = again.len() == count;
+    drop(again);
+    are_as_many
+}
+
+#[test]
+fn ranges_are_cut_at_the_ends_of_stripes(rt: HostRuntime) -> Result<(), Fail> {
     for (start, count, pieces, letters) in RANGES {
-        assert!(rt; start <= 26 && count <= 26 - start);
-        let parts = manifest.parts(rt.alloc(), start, count)?;
+        let parts = parts_of(rt.alloc(), start, count)?.ok_or("no range")?;
         let text = text_of(rt.alloc(), &parts)?;
         assert_eq!(rt; text.as_str(), pieces, "at {start}");
         let found = letters_of(rt.alloc(), &parts)?;
         assert_eq!(rt; found.as_deref(), Some(letters), "at {start}");
         assert_eq!(rt; parts.is_empty(), count == 0);
-        let number = parts.len();
-        let again = Parts::from_vec(parts.into_vec());
-        assert_eq!(rt; again.len(), number);
+        assert!(rt; come_back(parts));
     }
     Ok(())
 }

@@ -4,7 +4,7 @@ ghost use Rattle.std.specs.Int.{div_ceil};
 ghost use Rattle.object_pool.specs.Objects.{HasFrameSum, KeepsAll, KeepsOthers, exists, nothing, object_at, settled};
 ghost use Rattle.object_pool.specs.Places.{Stays, borrow_of, key_of, object_of, pool_of, rows_of};
 
-use crate::{NoSpace, OutOfMemory, Place, Pool};
+use object_pool::{NoSpace, OutOfMemory, Place, Pool};
 use rgw_types::{Bytes, Key};
 use std::alloc::Global;
 

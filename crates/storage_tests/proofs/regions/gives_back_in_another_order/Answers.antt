@@ -1,4 +1,4 @@
-use Rattle.frame_region.proofs.tests.gives_back_in_another_order.Goals as goal
+use Rattle.storage_tests.proofs.regions.gives_back_in_another_order.Goals as goal
 
 pub give-requires-2 : goal.give-requires-2
 give-requires-2 g c =

@@ -3,7 +3,7 @@ ghost use Rattle.std.specs.Prelude.{◌≡◌, ◌≢◌, ◌+◌, ◌<◌, ◌�
 ghost use Rattle.std.specs.List.{concat};
 ghost use Rattle.manifest.specs.Ranges.{AreContents, bytes_along};
 
-use crate::{Manifest, ManifestBytes, OutOfMemory, Parts};
+use manifest::{Manifest, ManifestBytes, OutOfMemory, Parts};
 use std::alloc::Global;
 
 // A manifest comes back from its bytes.

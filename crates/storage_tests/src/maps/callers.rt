@@ -4,7 +4,7 @@ ghost use Rattle.std.specs.Option.{ForSome};
 ghost use Rattle.std.specs.List.{splice};
 ghost use Rattle.omap_pages.specs.Rows.{value_at};
 
-use crate::{Omap, OutOfMemory, SPARE_KEY_LEN};
+use omap_pages::{Omap, OutOfMemory, SPARE_KEY_LEN};
 use rgw_types::Bytes;
 use std::alloc::Global;
 

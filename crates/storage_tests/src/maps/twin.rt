@@ -3,7 +3,7 @@ ghost use Rattle.std.specs.Prelude.{◌<◌, ◌≤◌, length};
 ghost use Rattle.std.specs.List.Sorted.{IsSearchInRange};
 
 use super::word::{WORD_LEN, Word};
-use crate::{Omap, OutOfMemory};
+use omap_pages::{Omap, OutOfMemory};
 use rgw_types::Bytes;
 use std::alloc::Global;
 
