@@ -160,19 +160,30 @@ fn count_task() -> CountTask {
     }
 }
 
+/// Whether a task that stands at its beginning makes one event, ends, and tells its outcome then.
+fn ends(alloc: Global, task: &mut CountTask, door: &mut SilentDoor) -> Result<bool, DoorFault> {
+    let none = task.outcome().is_none();
+    let made = task.turn(alloc, door, 7)? == TaskTurn::More;
+    let done = task.turn(alloc, door, 7)? == TaskTurn::Done;
+    Ok(none && made && done && task.outcome().copied() == Some(0))
+}
+
 #[test]
 fn a_task_ends_over_a_door_that_tells_nothing(rt: HostRuntime) -> Result<(), Fail> {
     let mut door = SilentDoor { number: 0, room: 1 };
     let mut task = count_task();
     door.begin();
-    assert!(rt; task.outcome().is_none());
-    assert_eq!(rt; task.turn(rt.alloc(), &mut door, 7)?, TaskTurn::More);
-    assert_eq!(rt; task.turn(rt.alloc(), &mut door, 7)?, TaskTurn::Done);
-    assert_eq!(rt; task.outcome().copied(), Some(0));
+    assert!(rt; ends(rt.alloc(), &mut task, &mut door)?);
     assert_eq!(rt; door.number, 1);
-    let mut next = count_task();
-    let stopped = next.turn(rt.alloc(), &mut door, 7);
+    Ok(())
+}
+
+#[test]
+fn a_task_over_a_door_without_room_has_no_outcome(rt: HostRuntime) -> Result<(), Fail> {
+    let mut door = SilentDoor { number: 1, room: 1 };
+    let mut task = count_task();
+    let stopped = task.turn(rt.alloc(), &mut door, 7);
     assert_eq!(rt; stopped, Err(DoorFault::Worn));
-    assert!(rt; next.outcome().is_none());
+    assert!(rt; task.outcome().is_none());
     Ok(())
 }

@@ -8,8 +8,7 @@ use crate::words::media_type;
 use cls_head::{make_tail, read, read_tail, write};
 use object_pool::{Key, OutOfMemory, PartNumber, Place, Pool};
 use object_words::{
-    Changed, ClassFault, Conditions, EtagRule, Guard, HeadSeen, NewHead, SeenSlot,
-    Texts, Why,
+    Changed, ClassFault, Conditions, EtagRule, Guard, HeadSeen, NewHead, SeenSlot, Texts, Why,
 };
 use rgw_types::{Bytes, Manifest, Pairs, Stamp, Text};
 use std::alloc::Global;

@@ -173,12 +173,7 @@ fn play_in(alloc: Global, pool: &mut Pool, scene: Scene) -> Result<bool, Fail>
     right
 }
 
-fn play(
-    alloc: Global,
-    shard: &mut Place<'_>,
-    name: &ObjectName,
-    scene: Scene,
-) -> Result<bool, Fail>
+fn play(alloc: Global, shard: &mut Place<'_>, name: &ObjectName, scene: Scene) -> Result<bool, Fail>
     requires { (s : ShardOf) × IsShard (object_of shard.old) s × IsWithin 0 s }
 {
     match scene {

@@ -225,33 +225,39 @@ fn a_split_gives_away_the_last_numbers(rt: HostRuntime) -> Result<(), Fail> {
     Ok(())
 }
 
+// Five cents.
+const PAID: Deposit = Deposit {
+    cents: 5,
+    starves: false,
+    spins: 0,
+};
+
 #[test]
 fn a_stopped_step_hands_its_operation_back_and_changes_nothing(
     rt: HostRuntime,
 ) -> Result<(), Fail> {
     let alloc = rt.alloc();
-    let paid = Deposit {
-        cents: 5,
-        starves: false,
-        spins: 0,
-    };
     let starved = Deposit {
         cents: 7,
         starves: true,
         spins: 0,
     };
     let (cell, mut pass) = cell_after(alloc, 0)?;
-    assert!(rt; deposit(&rt, alloc, &cell, &mut pass, paid) == Ok((5, 1)));
+    assert!(rt; deposit(&rt, alloc, &cell, &mut pass, PAID) == Ok((5, 1)));
     assert!(rt; deposit(&rt, alloc, &cell, &mut pass, starved) == Err(out_of_memory(starved)));
-    assert!(rt; deposit(&rt, alloc, &cell, &mut pass, paid) == Ok((10, 2)));
-    let (full, mut pass) = cell_after(alloc, (1 << 62) - 1)?;
-    assert!(rt; deposit(&rt, alloc, &full, &mut pass, paid) == Ok((5, 4611686018427387904)));
-    assert!(rt;
-        deposit(&rt, alloc, &full, &mut pass, paid)
-            == Err(Stopped {
-                fault: DoorFault::Worn,
-                op: Some(paid)
-            })
-    );
+    assert!(rt; deposit(&rt, alloc, &cell, &mut pass, PAID) == Ok((10, 2)));
+    Ok(())
+}
+
+#[test]
+fn the_last_number_is_the_last_event(rt: HostRuntime) -> Result<(), Fail> {
+    let alloc = rt.alloc();
+    let worn = Stopped {
+        fault: DoorFault::Worn,
+        op: Some(PAID),
+    };
+    let (cell, mut pass) = cell_after(alloc, (1 << 62) - 1)?;
+    assert!(rt; deposit(&rt, alloc, &cell, &mut pass, PAID) == Ok((5, 4611686018427387904)));
+    assert!(rt; deposit(&rt, alloc, &cell, &mut pass, PAID) == Err(worn));
     Ok(())
 }
