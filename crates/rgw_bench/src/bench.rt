@@ -168,7 +168,7 @@ impl Bench {
         Ok(round)
     }
 
-    /// Makes these events. How many were refused?
+    /// Times these events. How many were refused?
     pub fn time_batch<R: Clock>(
         &mut self,
         rt: &R,

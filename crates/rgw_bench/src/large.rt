@@ -1,7 +1,7 @@
 //! Large objects.
 use crate::bench::Bench;
 use crate::sample::Sample;
-use crate::tasks::Small;
+use crate::tasks::Requested;
 use crate::timing::{Timed, clocked};
 use realm_door::{Door, Task, TaskTurn};
 use realm_stage::RealmStage;
@@ -23,7 +23,7 @@ const PIECE: usize = 65_536;
 // No task here takes more turns.
 const TURNS: u32 = 16_384;
 
-/// An object of some stripes' pieces.
+/// An object of a few pieces.
 pub fn show<R: Clock + Print>(rt: &R, alloc: Global) -> anyhow::Result<()> {
     let mut bench = Bench::new(alloc, Sample::Heads, 4096, 64)?;
     let given = put_and_get(rt, alloc, &mut bench, 200_000);

@@ -15,16 +15,16 @@ use task_words::BodyEnd;
 // No task here takes more turns.
 const TURNS: u32 = 64;
 
-/// A request on an object of 5 bytes.
-pub trait Small: Task + Drop {
+/// A request on one of the heads.
+pub trait Requested: Task + Drop {
     /// That on the name of this number.
     fn on(bench: &Bench, alloc: Global, name: u64) -> anyhow::Result<Self>;
 
-    /// Gives it its body, if it has one.
-    fn begin(&mut self) -> anyhow::Result<()>;
+    /// Gives it a body of 5 bytes, if it takes one.
+    fn feed_small(&mut self) -> anyhow::Result<()>;
 }
 
-impl Small for PutTask {
+impl Requested for PutTask {
     fn on(bench: &Bench, alloc: Global, name: u64) -> anyhow::Result<PutTask> {
         bench.settings.has_zone_one();
         let asker = asker(alloc)?;
@@ -32,14 +32,14 @@ impl Small for PutTask {
         Ok(PutTask::new(alloc, &bench.settings, 1, asker, put)?)
     }
 
-    fn begin(&mut self) -> anyhow::Result<()> {
+    fn feed_small(&mut self) -> anyhow::Result<()> {
         self.feed(b"hello")?;
         self.finish(BodyEnd::Whole);
         Ok(())
     }
 }
 
-impl Small for GetTask {
+impl Requested for GetTask {
     fn on(_bench: &Bench, alloc: Global, name: u64) -> anyhow::Result<GetTask> {
         Ok(GetTask::new(GetRequest {
             zone: 1,
@@ -48,13 +48,13 @@ impl Small for GetTask {
         }))
     }
 
-    fn begin(&mut self) -> anyhow::Result<()> {
+    fn feed_small(&mut self) -> anyhow::Result<()> {
         Ok(())
     }
 }
 
 /// So many requests on these heads, by chance. An event is a turn; its time has that of the body's.
-pub fn run_tasks<S: Small, R: Clock>(
+pub fn run_tasks<S: Requested, R: Clock>(
     rt: &R,
     alloc: Global,
     bench: &mut Bench,
@@ -76,7 +76,7 @@ pub fn run_tasks<S: Small, R: Clock>(
 }
 
 // A chunk of requests from this number on.
-fn chunk_of<S: Small>(
+fn chunk_of<S: Requested>(
     alloc: Global,
     bench: &Bench,
     heads: u64,
@@ -91,14 +91,14 @@ fn chunk_of<S: Small>(
 }
 
 // How many turns make an event.
-fn take_all<S: Small>(
+fn take_all<S: Requested>(
     alloc: Global,
     stage: &mut RealmStage,
     tasks: &mut [S],
 ) -> anyhow::Result<u64> {
     let mut turns: u64 = 0;
     for task in tasks {
-        task.begin()?;
+        task.feed_small()?;
         turns = turns.saturating_add(turns_of(alloc, stage, task)?);
     }
     Ok(turns)

@@ -2,7 +2,7 @@
 use std::rt::Clock;
 use std::time::{Duration, Instant};
 
-/// How much was done, and how long that took.
+/// What work counted, and how long it took.
 #[derive(Clone, Copy, Debug)]
 pub struct Timed {
     pub count: u64,
@@ -38,7 +38,7 @@ impl Timed {
         }
     }
 
-    /// How much a second.
+    /// How many a second.
     pub fn a_second(&self) -> u64 {
         let nanos = self.time.as_nanos().max(1);
         let count = u128::from(self.count) * 1_000_000_000 / nanos;
@@ -65,7 +65,7 @@ impl Timed {
     }
 }
 
-/// Times work, which says how much it did.
+/// Times work, which says what it counted.
 pub fn clocked<R: Clock, F: FnOnce() -> anyhow::Result<u64>>(
     rt: &R,
     work: F,
