@@ -1,14 +1,13 @@
 -- What the tests of a field say of a whole head.
-use Rattle.std.proofs.Common.{◌≡◌, ℕ, nat_eq, Bool, true, false, not, ◌&&◌, ◌||◌, cond, List, [], ◌∷◌, ◌++◌, map, length, take, min, refl, ap, sym, ◌∙◌, codes}
+use Rattle.std.proofs.Common.{◌≡◌, ℕ, nat_eq, Bool, true, false, ◌&&◌, ◌||◌, cond, List, [], ◌∷◌, ◌++◌, map, length, take, min, refl, ap, sym, ◌∙◌, codes}
 use Rattle.std.specs.Prelude.{bytes_eq}
-use Rattle.std.specs.List.{list_all, list_any, starts_with}
+use Rattle.std.specs.List.{list_any, starts_with}
 use Rattle.std.specs.Char.{to_ascii_lowercase}
 use Rattle.std.proofs.lemmas.List.{append-nil, take-map, take_min}
 use Rattle.http1.specs.Text.{eq_ignore_case}
 use Rattle.http1.specs.Fields.{elements, has_option, known_fields}
 use Rattle.http_model.specs.declared.field.Field.{Field}
 use Rattle.http_model.specs.Framings.{values_of}
-use Rattle.http_model.specs.Forms.{is_kind}
 
 -- the front of a name, in lower case
 pub front_in_lower_case : (name : List ℕ)
@@ -24,25 +23,6 @@ pub close_of_one : (value : List ℕ)
     → (known_fields ((codes "connection", value) ∷ [])).close ≡ has_option (codes "close") (elements value)
 unfolding known_fields eq_ignore_case
 close_of_one value = ap (has_option (codes "close")) (append-nil (elements value))
-
--- a Content-Type that is no media type
-abbrev pub is_foreign : Field → Bool
-is_foreign field = eq_ignore_case field.name (codes "content-type") && not (is_kind field.value)
-
-one_more : (named kind any : Bool) (value : List ℕ) (values : List (List ℕ)) → is_kind value ≡ kind
-    → not any ≡ list_all is_kind values
-    → not ((named && not kind) || any) ≡ list_all is_kind (cond named (value ∷ []) [] ++ values)
-one_more true true any value values is rest = rw is rest
-one_more true false any value values is rest = rw is refl
-one_more false kind any value values is rest = rest
-
--- each value of Content-Type is a media type where no field is foreign
-pub kinds_of_fields : (fields : List Field)
-    → not (list_any is_foreign fields) ≡ list_all is_kind (values_of (codes "content-type") fields)
-kinds_of_fields [] = refl
-kinds_of_fields (field ∷ fields) =
-    one_more (eq_ignore_case field.name (codes "content-type")) (is_kind field.value) (list_any is_foreign fields) field.value
-    (values_of (codes "content-type") fields) refl (kinds_of_fields fields)
 
 -- some field of the name has such a value
 named_more : (named here any : Bool) (p : List ℕ → Bool) (value : List ℕ) (values : List (List ℕ)) → p value ≡ here

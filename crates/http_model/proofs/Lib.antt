@@ -4,5 +4,3 @@ pub mod FramingLemmas
 pub mod PlainLemmas
 pub mod ReadingLemmas
 pub mod StreamLaws
-pub mod TargetLemmas
-pub mod EveryInput

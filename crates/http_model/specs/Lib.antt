@@ -3,5 +3,4 @@ pub mod Heads
 pub mod HeadSpans
 pub mod Forms
 pub mod Streams
-pub mod Steps
 pub mod Replies

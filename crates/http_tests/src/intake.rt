@@ -2,7 +2,7 @@
 ghost use Rattle.std.specs.Prelude.{◌≡◌, ◌≤◌, None, Some, IfOk, IsTrue, MatchOption};
 ghost use Rattle.http_intake.specs.Intake.{IsBetween};
 
-mod client;
+mod cuts;
 mod limits;
 mod streams;
 

@@ -1,4 +1,3 @@
-// Heads, and the streams of requests that the plain reader finds.
+// Heads of requests, and what they ask.
 mod heads;
 mod limits;
-mod streams;

@@ -13,6 +13,10 @@ const HEADS: &[(usize, &[u8], &str)] = &[
     (65517, b"\n\n", TOO_LARGE),
     (65517, b"\n", "Cut Some(Cut) Some(Cut)"),
     (65518, b"\n", TOO_LARGE),
+    (65514, b"\r\n\r\n", "GET Empty  end"),
+    (65515, b"\r\n\r\n", TOO_LARGE),
+    (65518, b"", "Cut Some(Cut) Some(Cut)"),
+    (65519, b"", TOO_LARGE),
 ];
 
 fn answered_long(alloc: Global, count: usize, last: &[u8]) -> Result<String, Fail> {

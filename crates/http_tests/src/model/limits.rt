@@ -1,8 +1,7 @@
 // Each public call at its greatest sizes: a head of 65536 bytes with a target of 8192 and 128 fields.
 use crate::repeating::{add, repeated};
 use http_model::{
-    BodyPlan, FIELD_LIMIT, Framing, HEAD_LIMIT, Head, StreamEnd, field_count, field_value,
-    framing_of, read_head, read_stream,
+    FIELD_LIMIT, Framing, HEAD_LIMIT, Head, field_count, field_value, framing_of, read_head,
 };
 use std::alloc::{AllocError, Global};
 use std::test::Fail;
@@ -61,40 +60,11 @@ fn is_put_with_host(head: &Head) -> bool {
     head.has_host() && head.is_put() && !head.is_get() && !head.is_bodiless()
 }
 
-fn is_not_built(head: &Head) -> bool {
-    head.place().is_none() && !head.is_built() && head.body_plan() == BodyPlan::NotBuilt
-}
-
-fn closes_late(head: &Head) -> bool {
-    head.closes(u64::MAX) && head.reply_form(u64::MAX).close
-}
-
 #[test]
 fn what_the_greatest_head_asks(rt: HostRuntime) -> Result<(), Fail> {
     let head = greatest(rt.alloc())?;
     let is_put = is_put_with_host(&head);
-    let is_not_built = is_not_built(&head);
-    let closes = closes_late(&head);
     drop(head);
     assert!(rt; is_put);
-    assert!(rt; is_not_built);
-    assert!(rt; closes);
-    Ok(())
-}
-
-/// How many requests a stream has, and how it ends.
-fn end_of(alloc: Global, text: &[u8]) -> Result<(usize, StreamEnd), AllocError> {
-    let stream = read_stream(alloc, text)?;
-    let found = (stream.requests.len(), stream.end);
-    drop(stream);
-    Ok(found)
-}
-
-#[test]
-fn a_stream_of_the_greatest_head(rt: HostRuntime) -> Result<(), Fail> {
-    let text = greatest_head(rt.alloc())?;
-    let found = end_of(rt.alloc(), &text);
-    drop(text);
-    assert_eq!(rt; found?, (0, StreamEnd::NotBuilt { bodiless: false }));
     Ok(())
 }
