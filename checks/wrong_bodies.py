@@ -9,6 +9,7 @@ import hashlib
 import json
 import os
 import re
+import resource
 import shutil
 import subprocess
 import tempfile
@@ -294,9 +295,15 @@ def note_libraries():
         json.dump(told, it)
 
 
+def processor_seconds():
+    """The seconds of a processor that the checks took which have ended."""
+    used = resource.getrusage(resource.RUSAGE_CHILDREN)
+    return used.ru_utime + used.ru_stime
+
+
 def run(names, say, is_proved=False):
     """Tries the wrong bodies of these crates, and returns how many were refused, those that were not, with the reason,
-    and the seconds. is_proved: the gate has just proved them."""
+    and the seconds of a processor. is_proved: the gate has just proved them."""
     crates = [it for it in kit.crates() if it.name in names]
     if not libraries_are_there(crates):
         say("building the libraries that they stand on")
@@ -305,7 +312,7 @@ def run(names, say, is_proved=False):
         if failed:
             return 0, [(failed, f"the library is not proved: out/build/{failed}.log")], 0
     kit.rtlib().guarded()
-    count, wrong, spent, alone = 0, [], 0.0, threading.Lock()
+    count, wrong, alone, before = 0, [], threading.Lock(), processor_seconds()
 
     def timed(crate):
         begun = time.monotonic()
@@ -318,12 +325,12 @@ def run(names, say, is_proved=False):
             name, results, checks, seconds = ended.result()
             with alone:
                 bad = sorted((edit, it) for edit, it in results.items() if it[0] not in GOOD)
-                count, spent = count + len(results) - len(bad), spent + seconds
+                count += len(results) - len(bad)
                 limits = sum(it[0] == LIMIT for it in results.values())
                 at_limit = f", {limits} of them at a limit of the prover" if limits else ""
-                say(f"{name}: {len(results) - len(bad)} of {len(results)} refused{at_limit}, in {checks} checks and {seconds:.0f} seconds")
+                say(f"{name}: {len(results) - len(bad)} of {len(results)} refused{at_limit}, in {checks} checks and {seconds:.0f} seconds by the clock")
                 for edit, (kind, why) in bad:
                     say(f"{name}/{edit}: {kind}: {why[:300]}")
                     wrong.append((f"{name}/{edit}", f"{kind}: {why}"))
                 record({name: None if bad else len(results)})
-    return count, wrong, spent
+    return count, wrong, processor_seconds() - before
