@@ -4,16 +4,16 @@
 The container has 11 shards. A script stores the names, and the time of it is taken off that of a script which goes on
 with so many checks or listings.
 
-Usage: bench/checks.py [NAMES..]   from any folder, after ./rgw was called once; 10000 and 100000 names if left out
+Usage: bench/checks.py [NAMES..]   from any folder; 10000 and 100000 names if left out
 """
-import os
 import resource
 import subprocess
 import sys
 import tempfile
 
-ROOT = os.path.dirname(os.path.dirname(os.path.abspath(__file__)))
-PROGRAM = os.environ.get("RGW", os.path.join(ROOT, "crates", "rgw_main", "out", "rgw_main"))
+import program
+
+PROGRAM = program.path()
 # So many entries are checked, and rows listed, that the time of storing the names hardly counts.
 ENTRIES = 4_000_000
 ROUNDS = 3

@@ -14,9 +14,10 @@ import sys
 import tempfile
 import termios
 import time
-from pathlib import Path
 
-ROOT = Path(__file__).resolve().parent.parent
+import program
+
+PROGRAM = program.path()
 WORDS = ["once", "--bucket", "box", "--now", "1700000000000000"]
 MIB = 1 << 20
 
@@ -80,7 +81,7 @@ def greatest_memory(program, path):
     return int(status.partition("VmHWM:")[2].split()[0])
 
 
-def measure(program, rounds, label, requests, count, body_bytes):
+def measure(PROGRAM, rounds, label, requests, count, body_bytes):
     with tempfile.NamedTemporaryFile() as file:
         for piece in requests:
             file.write(piece)
@@ -95,13 +96,10 @@ def measure(program, rounds, label, requests, count, body_bytes):
 
 def main():
     rounds = int(sys.argv[1]) if len(sys.argv) > 1 else 5
-    # an empty input builds the program where that is wanted, and ends at once
-    subprocess.run([ROOT / "rgw", *WORDS], stdin=subprocess.DEVNULL, check=True)
-    program = ROOT / "crates/rgw_main/out/rgw_main"
     for count in (1000, 10000, 90000):
-        measure(program, rounds, f"small {count}", small(count), count, 5 * count)
-    measure(program, rounds, "PUT of 1 MiB", large_puts(100), 100, 100 * MIB)
-    measure(program, rounds, "PUT and GET of 1 MiB", large_both(100), 200, 200 * MIB)
+        measure(PROGRAM, rounds, f"small {count}", small(count), count, 5 * count)
+    measure(PROGRAM, rounds, "PUT of 1 MiB", large_puts(100), 100, 100 * MIB)
+    measure(PROGRAM, rounds, "PUT and GET of 1 MiB", large_both(100), 200, 200 * MIB)
     body = bytes(range(256)) * (MIB // 256)
     begun = time.perf_counter()
     for _ in range(100):

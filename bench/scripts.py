@@ -1,16 +1,16 @@
 #!/usr/bin/env python3
 """Measures scripts of small PUTs and GETs with the built program, by its processor time.
 
-Usage: bench/scripts.py [ROUNDS]   from any folder, after ./rgw was called once; 3 rounds if left out
+Usage: bench/scripts.py [ROUNDS]   from any folder; 3 rounds if left out
 """
-import os
 import resource
 import subprocess
 import sys
 import tempfile
 
-ROOT = os.path.dirname(os.path.dirname(os.path.abspath(__file__)))
-PROGRAM = os.path.join(ROOT, "crates", "rgw_main", "out", "rgw_main")
+import program
+
+PROGRAM = program.path()
 WORDS = ["script", "--bucket", "box", "--frame", "16", "--frames", "262144"]
 
 
