@@ -14,6 +14,7 @@ import sys
 import tempfile
 import termios
 import time
+from pathlib import Path
 
 import program
 
@@ -47,11 +48,11 @@ def large_both(count):
         yield request("GET", f"k{k % 10}", None)
 
 
-def run_once(program, path):
+def run_once(path):
     """The seconds of one run, which must end with status 0."""
     with open(path, "rb") as source:
         begun = time.perf_counter()
-        subprocess.run([program, *WORDS], stdin=source, stdout=subprocess.DEVNULL, check=True)
+        subprocess.run([PROGRAM, *WORDS], stdin=source, stdout=subprocess.DEVNULL, check=True)
         return time.perf_counter() - begun
 
 
@@ -62,13 +63,13 @@ def has_answered(child):
     return unread == b"\0\0\0\0" and state == "S"
 
 
-def greatest_memory(program, path):
+def greatest_memory(path):
     """The greatest resident KiB of the program, once it has answered all requests.
 
     What the system says of an ended child counts the memory of this Python, from which it was started,
     so the program is asked while it waits for a further request.
     """
-    child = subprocess.Popen([program, *WORDS], stdin=subprocess.PIPE, stdout=subprocess.DEVNULL)
+    child = subprocess.Popen([PROGRAM, *WORDS], stdin=subprocess.PIPE, stdout=subprocess.DEVNULL)
     with open(path, "rb") as source:
         shutil.copyfileobj(source, child.stdin)
     child.stdin.flush()
@@ -81,13 +82,13 @@ def greatest_memory(program, path):
     return int(status.partition("VmHWM:")[2].split()[0])
 
 
-def measure(PROGRAM, rounds, label, requests, count, body_bytes):
+def measure(rounds, label, requests, count, body_bytes):
     with tempfile.NamedTemporaryFile() as file:
         for piece in requests:
             file.write(piece)
         file.flush()
-        spent = min(run_once(program, file.name) for _ in range(rounds))
-        memory = greatest_memory(program, file.name) / 1024
+        spent = min(run_once(file.name) for _ in range(rounds))
+        memory = greatest_memory(file.name) / 1024
     print(
         f"{label:24}{count / spent:12,.0f} requests/s{spent / count * 1e6:10.2f} us each"
         f"{body_bytes / MIB / spent:10.1f} MiB/s{memory:10.1f} MiB resident"
@@ -97,9 +98,9 @@ def measure(PROGRAM, rounds, label, requests, count, body_bytes):
 def main():
     rounds = int(sys.argv[1]) if len(sys.argv) > 1 else 5
     for count in (1000, 10000, 90000):
-        measure(PROGRAM, rounds, f"small {count}", small(count), count, 5 * count)
-    measure(PROGRAM, rounds, "PUT of 1 MiB", large_puts(100), 100, 100 * MIB)
-    measure(PROGRAM, rounds, "PUT and GET of 1 MiB", large_both(100), 200, 200 * MIB)
+        measure(rounds, f"small {count}", small(count), count, 5 * count)
+    measure(rounds, "PUT of 1 MiB", large_puts(100), 100, 100 * MIB)
+    measure(rounds, "PUT and GET of 1 MiB", large_both(100), 200, 200 * MIB)
     body = bytes(range(256)) * (MIB // 256)
     begun = time.perf_counter()
     for _ in range(100):
