@@ -1,5 +1,5 @@
 -- How far a call can bring a shard.
-use Rattle.std.proofs.Common.{◌≡◌, ℕ, suc, ◌+◌, ◌-◌, ◌^◌, ◌<◌, ◌≤◌, ◌==◌, nat_lt, not, Bool, true, false, cond, List, [], ◌∷◌, length, Option, Some, None, IfSome, Result, Ok, Err, refl, sym, subst, arith}
+use Rattle.std.proofs.Common.{◌≡◌, ℕ, suc, ◌+◌, ◌-◌, ◌^◌, ◌<◌, ◌≤◌, ◌==◌, nat_lt, not, Bool, true, false, cond, List, [], ◌∷◌, length, Option, Some, None, IfSome, Result, Ok, Err, IfOk, OnOk, refl, sym, subst, arith}
 use Rattle.std.specs.List.{AllByRecursion}
 use Rattle.std.proofs.lemmas.Bool.Decides.{nat_tests}
 use Rattle.object_words.specs.declared.entry.Tag.{Tag}
@@ -169,3 +169,9 @@ module _ {V S : Type 0} where
   pub left_by : (result : Result V Why) (refusal : Option Why) (IsValue : V → Type 0) (Is : S → Type 0) (after : S) → Replies result refusal IsValue Is after → Is after
   left_by (Ok value) refusal IsValue Is after is = is.2
   left_by (Err why) refusal IsValue Is after is = is.1
+
+module _ {V E : Type 0} where
+  -- what stands where there is a value
+  pub if_there : (result : Result V E) (P Q : Type 0) → (P → Q) → OnOk result P → IfOk result (λ _. Q)
+  if_there (Ok value) P Q so is = so is
+  if_there (Err why) P Q so is = tt
