@@ -1,1 +1,0 @@
-cd @W@/gate/crates; for t in */out/*_tests; do c=${t%%/*}; n=0; bad=0; for k in $(cd $c; ./out/${c}_tests --list 2>/dev/null | sed -n 's/: test$//p'); do (cd $c; timeout 300 ./out/${c}_tests $k > @T@/t_one.out 2>&1) || { bad=$((bad+1)); echo "BAD $c $k"; tail -2 @T@/t_one.out; }; n=$((n+1)); done; echo "$c tests $n bad $bad"; done
