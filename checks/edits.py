@@ -2,7 +2,7 @@
 
 An edit is a file `crates/NAME/wrong-bodies/WORDS.edit` with lines `file: PATH` below the crate's folder, and pairs of
 lines `old: TEXT` and `new: TEXT`; each old text stands in its file once. A line `goal: NAME` names the function whose
-goal is false with it, where that is not the one that it stands in.
+goal is false with it, where that is not the one that it stands in, as for a constant.
 """
 import functools
 import os
@@ -240,13 +240,13 @@ def rattle_name(function, header_type, folder):
 
 def changed(edit, folder):
     """The names of the functions in which the edit changes something, or of those that it names, or None where it changes
-    something else too, as a type, a constant or a definition, and names none."""
+    something else too, as a type or a constant, and names none, or a definition, which lemmas may rest on."""
+    if any(not path.startswith("src/") for path, _, _ in edit.pairs):
+        return None
     if edit.goals:
         return set(edit.goals)
     found, texts = set(), {}
     for path, old, new in edit.pairs:
-        if not path.startswith("src/"):
-            return None
         if path not in texts:
             with open(f"{folder}/{path}", encoding="utf-8") as it:
                 texts[path] = it.read()
