@@ -16,12 +16,11 @@ use Rattle.realm_model.specs.declared.event.Event.{Event}
 use Rattle.realm_door.specs.declared.door.Answered.{Answered}
 use Rattle.realm_door.specs.Steps.{Extends, event_at, own_event}
 use Rattle.std.proofs.lemmas.List.{length-append}
-use Rattle.task_words.specs.declared.outcome.Outcome.{Outcome}
 use Rattle.task_container.specs.declared.request.ContainerRequest.{ContainerRequest}
 use Rattle.task_container.specs.declared.task.ContainerTask.{ContainerTask}
 use Rattle.task_container.specs.declared.task.Stage.{Stage}
 use Rattle.task_container.specs.declared.task.Stage.TheVariants.{Look, Count, Ended}
-use Rattle.task_container.specs.Stages.{IsOver, IsOpen, op_of, step_of, FitsAt, fits}
+use Rattle.task_container.specs.Stages.{IsOpen, op_of, step_of, FitsAt, fits}
 use Rattle.task_container.proofs.Steps.{one_step}
 
 pub fits_next : (settings : SettingsView) (d e : DoorView) (t u : ContainerTask) (op : Op) (moment : ℕ) (a : Answered) → IsOpen t.stage → op ≡ op_of t.request t.stage → Suits (op_of t.request t.stage) a.reply
@@ -64,12 +63,3 @@ pub may_step : (settings : SettingsView) (p : Phase) (r : ContainerRequest) (sta
 may_step settings p r Look op is low high = subst (λ o. allowed settings p o ≡ true) (sym is) (rw (between 1 settings.zones r.zone low high) refl)
 may_step settings p r (Count c) op is low high = subst (λ o. allowed settings p o ≡ true) (sym is) (rw (between 1 settings.zones r.zone low high) refl)
 may_step settings p r (Ended outcome) op is low high = subst (λ o. allowed settings p o ≡ true) (sym is) (rw (between 1 settings.zones r.zone low high) refl)
-
-pub not_over : (stage : Stage) → IsOpen stage → IsOver stage → ⊥
-not_over (Ended outcome) going ended = going
-not_over stage going ended = ended
-
-pub is_open_of : (stage : Stage) → ((outcome : Outcome) → stage ≡ Ended outcome → ⊥) → IsOpen stage
-is_open_of Look other = tt
-is_open_of (Count c) other = tt
-is_open_of (Ended outcome) other = other outcome refl
