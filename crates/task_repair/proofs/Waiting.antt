@@ -1,11 +1,9 @@
 -- A repair waits.
 use Rattle.std.proofs.Common.{◌≡◌, ℕ, ◌≤◌, List, [], length, sym, ap, ◌∙◌, subst, arith, length-append}
 use Rattle.object_words.specs.Entries.{EntryView}
-use Rattle.realm_model.specs.Accounts.{Account}
 use Rattle.realm_model.specs.Doors.{DoorView, actor_at}
 use Rattle.realm_model.specs.Histories.{Doings, account_of, phase_of}
-use Rattle.realm_model.specs.Owns.{OwnEvent, own_events}
-use Rattle.realm_model.specs.Phases.{Phase}
+use Rattle.realm_model.specs.Owns.{own_events}
 use Rattle.realm_model.specs.Settings.{SettingsView}
 use Rattle.realm_door.specs.Waiting.{Waited}
 use Rattle.task_repair.specs.Repairs.{Saying, PageRead}
