@@ -25,6 +25,7 @@ ghost use Rattle.index_update.specs.declared.stage.Stage.TheVariants.{Looking, P
 ghost use Rattle.index_update.specs.declared.stage.Target.{Target as TargetOf};
 ghost use Rattle.index_update.specs.declared.stage.Tried.{Tried as TriedOf};
 ghost use Rattle.index_update.specs.declared.update.IndexUpdate.{IndexUpdate as IndexUpdateOf};
+ghost use Rattle.index_update.specs.Refusals.{OnlyRowsRefuse};
 ghost use Rattle.index_update.specs.Paths.{Path, path_after, path_from};
 ghost use Rattle.index_update.specs.Stages.{IsReady, op_of, step_of};
 ghost use Rattle.index_update.specs.Fits.{Start, Asked, Known, known_later, IsAt, FitsAt, HasShards, IsAnswer, MayCome, IsKept};
@@ -38,6 +39,12 @@ pub fn others_keep_where_an_update_stands()
         → (stage : StageOf) → FitsAt r x stage k → FitsAt r x stage (known_later k last made) }
     ensures told { (s : Start) (u : IndexUpdateOf) (settings : SettingsView) (d e : DoorView)
         → Waited settings d e → Legal settings e.seen → fits s u settings d → fits s u settings e }
+{}
+
+/// Whatever is answered, `Refused` tells a refusal that the row of a container makes.
+pub fn only_rows_refuse_updates()
+    ensures { (t : TargetOf) (x : TriedOf) (stage : StageOf) (reply : ReplyOf)
+        → OnlyRowsRefuse stage → OnlyRowsRefuse (step_of t x stage reply) }
 {}
 
 /// Each event of an update comes where it may come.

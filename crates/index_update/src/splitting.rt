@@ -3,13 +3,14 @@ ghost use Rattle.std.specs.Prelude.{◌≡◌, Ok, IfOk};
 ghost use Rattle.index_update.specs.Stages.{IsReady, op_of, rest_of};
 
 use crate::head_change::HeadChange;
-use crate::stage::{Change, Rest, Split, Stage, Target, Unfinished};
+use crate::stage::{Change, Rest, Stage, Target, Unfinished};
 use object_words::{Guard, ShardKey};
+use realm_door::Taken;
 use realm_model::Op;
 use std::alloc::AllocError;
 
 /// The operation that comes next, and what is kept while it is done.
-pub(crate) fn split(target: &Target, stage: Stage) -> Result<Split, AllocError>
+pub(crate) fn split(target: &Target, stage: Stage) -> Result<Taken<Rest>, AllocError>
     requires ready { IsReady stage }
     ensures op { IfOk result (λ s. s.op ≡ op_of target.now stage) }
     ensures rest { IfOk result (λ s. s.rest ≡ rest_of stage) }
@@ -34,12 +35,12 @@ pub(crate) fn split(target: &Target, stage: Stage) -> Result<Split, AllocError>
 }
 
 /// The operation, where there is one, and what is kept beside it.
-fn beside(op: Result<Op, AllocError>, rest: Rest) -> Result<Split, AllocError>
+fn beside(op: Result<Op, AllocError>, rest: Rest) -> Result<Taken<Rest>, AllocError>
     ensures op { IfOk result (λ s. op ≡ Ok s.op) }
     ensures rest { IfOk result (λ s. s.rest ≡ rest) }
 {
     match op {
-        Ok(op) => Ok(Split { op, rest }),
+        Ok(op) => Ok(Taken { op, rest }),
         Err(error) => {
             drop(rest);
             Err(error)
@@ -89,12 +90,17 @@ impl Target {
     }
 
     /// The head is changed.
-    fn change(&self, key: ShardKey, guard: Guard, change: HeadChange) -> Result<Split, AllocError>
+    fn change(
+        &self,
+        key: ShardKey,
+        guard: Guard,
+        change: HeadChange,
+    ) -> Result<Taken<Rest>, AllocError>
         ensures op { IfOk result (λ s. s.op ≡ op_of self.now (Writing key guard change)) }
         ensures rest { IfOk result (λ s. s.rest ≡ rest_of (Writing key guard change)) }
     {
         let name = self.name.clone()?;
-        Ok(Split {
+        Ok(Taken {
             op: change.into_op(self.zone, key.container, name, guard),
             rest: Rest::Write { key, guard },
         })
@@ -113,7 +119,7 @@ impl Target {
     }
 
     /// The change is completed.
-    fn complete(&self, key: ShardKey, made: Change) -> Result<Split, AllocError>
+    fn complete(&self, key: ShardKey, made: Change) -> Result<Taken<Rest>, AllocError>
         ensures op { IfOk result (λ s. s.op ≡ op_of self.now (Completing key made)) }
         ensures rest { IfOk result (λ s. s.rest ≡ rest_of (Completing key made)) }
     {
@@ -126,7 +132,7 @@ impl Target {
             stamp,
             old,
         } = made;
-        Ok(Split {
+        Ok(Taken {
             op: Op::Complete {
                 zone: self.zone,
                 key,

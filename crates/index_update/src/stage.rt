@@ -1,6 +1,5 @@
 use crate::head_change::HeadChange;
 use object_words::{BucketName, EntryRow, Guard, ObjectName, ShardKey};
-use realm_model::Op;
 use rgw_types::{Manifest, Stamp};
 use task_words::{Asker, Refusal};
 
@@ -123,11 +122,4 @@ pub enum Rest {
     Cancel(After),
     Complete(Unfinished),
     LookForShard(Change),
-}
-
-/// An operation, and what is kept while it is done.
-#[derive(Drop)]
-pub struct Split {
-    pub op: Op,
-    pub rest: Rest,
 }

@@ -10,9 +10,9 @@ ghost use Rattle.index_update.specs.declared.stage.Stage.TheVariants.{Looking, P
 use crate::advancing::{resumed, tried_after};
 use crate::head_change::HeadChange;
 use crate::splitting::split;
-use crate::stage::{Rest, Split, Stage, Target, Tried, Updated};
+use crate::stage::{Rest, Stage, Target, Tried, Updated};
 use object_words::ShardKey;
-use realm_door::{Answered, Door};
+use realm_door::{Answered, Door, Taken};
 use realm_model::Reply;
 use std::alloc::{AllocError, Global};
 use std::mem::replace;
@@ -80,7 +80,7 @@ impl IndexUpdate {
     ghost use Rattle.index_update.specs.declared.stage.Updated.TheVariants.{MovedOften};
 
     /// Takes the operation out of the stage. It fails only for want of memory.
-    pub fn split(&mut self) -> Result<Split, AllocError>
+    pub fn split(&mut self) -> Result<Taken<Rest>, AllocError>
         requires ready { IsReady (stage_of self.old) }
         ensures op { IfOk result (λ s. s.op ≡ next_op self.old) }
         ensures rest { IfOk result (λ s. IsTaken self.old self.new s.rest) }
@@ -142,7 +142,7 @@ impl IndexUpdate {
         ensures settings { D.settings door.new ≡ D.settings door.old }
         ensures home { D.home door.new ≡ D.home door.old }
     {
-        let Ok(Split { op, rest }) = self.split() else {
+        let Ok(Taken { op, rest }) = self.split() else {
             return Err(DoorFault::OutOfMemory);
         };
         match door.step(alloc, op, moment) {

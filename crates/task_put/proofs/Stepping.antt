@@ -31,7 +31,7 @@ use Rattle.index_update.proofs.Knowing.{before, front, not_less, more_made, numb
 use Rattle.index_update.proofs.ChangingAnswers.{answered_so}
 use Rattle.task_put.specs.declared.stage.PutRequest.{PutRequest}
 use Rattle.std.specs.Prelude.{unwrap_or}
-use Rattle.task_put.specs.declared.stage.Rest.{Rest}
+use Rattle.task_put.specs.declared.stage.BodyRest.{BodyRest}
 use Rattle.task_put.specs.declared.stage.Draft.{Draft}
 use Rattle.task_put.specs.declared.stage.Stage.{Stage}
 use Rattle.task_put.specs.declared.stage.Stage.TheVariants.{Looking, Feeding, Changing, Ended}
@@ -42,13 +42,12 @@ use Rattle.task_put.specs.Orders.{path_of, IsFinished}
 use Rattle.task_put.specs.Stages.{IsReady, IsBody, op_of, rest_of, resumed, step_of, closed, update_of, after_stage, after_update, settled}
 use Rattle.task_put.specs.Taking.{at_target, normal}
 use Rattle.task_put.specs.Fits.{FitsAt, IsAt, IsInOrder, Fits, MayCome, IsKept}
-use Rattle.task_put.specs.Tasks.{request_of, at_stage, UnlessFaulted, fits, IsPutEnd}
+use Rattle.task_put.specs.Tasks.{request_of, at_stage, fits, IsPutEnd}
 use Rattle.task_put.proofs.Ordering.{in_order, path_more}
 use Rattle.task_put.proofs.Knowing.{fits_later}
 use Rattle.task_put.proofs.Looking.{may_look, looking_kept}
 use Rattle.task_put.proofs.Tailing.{feeding_may, feeding_kept, closed_fits, at_feeding}
 use Rattle.task_put.proofs.Slicing.{step_sliced}
-use Rattle.task_put.proofs.Tasking.{lifted}
 use Rattle.task_put.proofs.Updating.{ended_so}
 
 -- ---- the target is that of the request
@@ -136,27 +135,20 @@ module _ (settings : SettingsView) (d e : DoorView) (r : PutRequest) (given : St
 
 -- ---- the task
 
-stands_of : (t : PutTask) (settings : SettingsView) (d : DoorView) → t.fault ≡ None → fits t settings d → Fits settings (request_of t) t.stage (known_at settings d)
-stands_of t settings d sound f = subst (λ o. UnlessFaulted o (Fits settings (request_of t) t.stage (known_at settings d))) sound f
-
-fits_of : (t : PutTask) (settings : SettingsView) (d : DoorView) → t.fault ≡ None → Fits settings (request_of t) t.stage (known_at settings d) → fits t settings d
-fits_of t settings d sound s = subst (λ o. UnlessFaulted o (Fits settings (request_of t) t.stage (known_at settings d))) (sym sound) s
-
-pub fits_next : (settings : SettingsView) (d e : DoorView) (t : PutTask) (op : Op) (moment : ℕ) (a : Answered) → IsBody t.stage → t.fault ≡ None → op ≡ op_of t.stage → Suits op a.reply → HasShards a.reply
+pub fits_next : (settings : SettingsView) (d e : DoorView) (t : PutTask) (op : Op) (moment : ℕ) (a : Answered) → IsBody t.stage → op ≡ op_of t.stage → Suits op a.reply → HasShards a.reply
     → fits t settings d → Extends settings d op moment a e → fits (at_stage t (step_of t.stage a.number a.reply)) settings e
-fits_next settings d e t op moment a body sound op_is suits shards f step =
+fits_next settings d e t op moment a body op_is suits shards f step =
     let r : PutRequest = request_of t in
-    let s = stands_of t settings d sound f in
+    let s = f in
     let same = target_same r settings t.stage (known_at settings d) s.stands in
     let is : op ≡ op_of (normal r t.stage) = op_is ∙ ap (λ g. op_of g) (sym same) in
-    fits_of (at_stage t (step_of t.stage a.number a.reply)) settings e sound
     (subst (λ g. Fits settings r (step_of g a.number a.reply) (known_at settings e)) same
     (next_fits settings d e r t.stage moment a body (subst (λ o. Suits o a.reply) is suits) shards (subst (λ g. Fits settings r g (known_at settings d)) (sym same) s) (subst (λ o. Extends settings d o moment a e) is step)))
 
-pub may_step : (settings : SettingsView) (d : DoorView) (t : PutTask) (next : Op) → IsBody t.stage → t.fault ≡ None → next ≡ op_of t.stage → fits t settings d → allowed settings (phase_of settings d.seen (actor_at d)) next ≡ true
-may_step settings d t next body sound next_is f =
+pub may_step : (settings : SettingsView) (d : DoorView) (t : PutTask) (next : Op) → IsBody t.stage → next ≡ op_of t.stage → fits t settings d → allowed settings (phase_of settings d.seen (actor_at d)) next ≡ true
+may_step settings d t next body next_is f =
     let r : PutRequest = request_of t in
-    let s = stands_of t settings d sound f in
+    let s = f in
     let same = target_same r settings t.stage (known_at settings d) s.stands in
     subst (λ o. allowed settings (phase_of settings d.seen (actor_at d)) o ≡ true) (ap (λ g. op_of g) same ∙ sym next_is)
     (may_come settings r (known_at settings d) t.stage s.low s.high body (subst (λ g. FitsAt settings r g (known_at settings d)) (sym same) s.stands))
@@ -220,20 +212,16 @@ settled_so settings r stage k f =
     subst (λ g. Fits settings r (settled g) k) same (settled_fits settings r stage k (subst (λ g. Fits settings r g k) (sym same) f))
 
 pub settled_task : (settings : SettingsView) (d : DoorView) (t : PutTask) → fits t settings d → fits (at_stage t (settled t.stage)) settings d
-settled_task settings d t =
-    let r : PutRequest = request_of t in
-    let k : Known = known_at settings d in
-    lifted t.fault (Fits settings r t.stage k) (Fits settings r (settled t.stage) k) (settled_so settings r t.stage k)
+settled_task settings d t = settled_so settings (request_of t) t.stage (known_at settings d)
 
 -- an event of the update brings the PUT on
-pub update_on : (settings : SettingsView) (d e : DoorView) (t : PutTask) (etag : List ℕ) (u v : IndexUpdate) → t.stage ≡ Changing etag u → t.fault ≡ None → v.target ≡ u.target
+pub update_on : (settings : SettingsView) (d e : DoorView) (t : PutTask) (etag : List ℕ) (u v : IndexUpdate) → t.stage ≡ Changing etag u → v.target ≡ u.target
     → ((s : Start) → UpdateFits settings (asked_of s u) u.tried u.stage (known_at settings d) → UpdateFits settings (asked_of s v) v.tried v.stage (known_at settings e))
     → fits t settings d → fits (at_stage t (after_update etag v)) settings e
-update_on settings d e t etag u v is sound target on f =
+update_on settings d e t etag u v is target on f =
     let r : PutRequest = request_of t in
-    let s = subst (λ g. Fits settings r g (known_at settings d)) is (stands_of t settings d sound f) in
+    let s = subst (λ g. Fits settings r g (known_at settings d)) is f in
     let b = s.stands.1 in
-    fits_of (at_stage t (after_update etag v)) settings e sound
     (after_fits settings r etag v (known_at settings e) v.stage refl (record {
       low = s.low;
       high = s.high;
@@ -259,15 +247,15 @@ update_on settings d e t etag u v is sound target on f =
     }))
 
 -- what the update stands on
-pub update_of_task : (settings : SettingsView) (d : DoorView) (t : PutTask) (etag : List ℕ) (u : IndexUpdate) → t.stage ≡ Changing etag u → t.fault ≡ None → fits t settings d → (s : Start) × UpdateFits settings (asked_of s u) u.tried u.stage (known_at settings d)
-update_of_task settings d t etag u is sound f =
-    let s = subst (λ g. Fits settings (request_of t) g (known_at settings d)) is (stands_of t settings d sound f) in
+pub update_of_task : (settings : SettingsView) (d : DoorView) (t : PutTask) (etag : List ℕ) (u : IndexUpdate) → t.stage ≡ Changing etag u → fits t settings d → (s : Start) × UpdateFits settings (asked_of s u) u.tried u.stage (known_at settings d)
+update_of_task settings d t etag u is f =
+    let s = subst (λ g. Fits settings (request_of t) g (known_at settings d)) is f in
     (s.stands.0, s.stands.2)
 
 -- what the outcome means
-pub means_it : (t : PutTask) (settings : SettingsView) (d : DoorView) (outcome : Outcome) → t.stage ≡ Ended outcome → t.fault ≡ None → fits t settings d → IsPutEnd (request_of t) outcome settings d
-means_it t settings d outcome ended sound f =
-    let s = subst (λ g. Fits settings (request_of t) g (known_at settings d)) ended (stands_of t settings d sound f) in
+pub means_it : (t : PutTask) (settings : SettingsView) (d : DoorView) (outcome : Outcome) → t.stage ≡ Ended outcome → fits t settings d → IsPutEnd (request_of t) outcome settings d
+means_it t settings d outcome ended f =
+    let s = subst (λ g. Fits settings (request_of t) g (known_at settings d)) ended f in
     (s.stands, s.order.0, s.order.1.cut)
 
 some_same : {x y : Stage} → Some x ≡ Some y → x ≡ y
@@ -280,12 +268,12 @@ ready_body (Feeding write key draft) ready other = ready
 ready_body (Changing etag u) ready other = absurd (other etag u refl)
 ready_body (Ended outcome) ready other = absurd ready
 
-abbrev resumed_by : Option Rest → ℕ → Reply → Option Stage
+abbrev resumed_by : Option BodyRest → ℕ → Reply → Option Stage
 resumed_by None number reply = None
 resumed_by (Some rest) number reply = Some (resumed rest number reply)
 
 -- what was kept brings it to the next stage
-pub resumed_so : (stage : Stage) (rest : Rest) (number : ℕ) (reply : Reply) → IsBody stage → Some rest ≡ rest_of stage → resumed rest number reply ≡ step_of stage number reply
+pub resumed_so : (stage : Stage) (rest : BodyRest) (number : ℕ) (reply : Reply) → IsBody stage → Some rest ≡ rest_of stage → resumed rest number reply ≡ step_of stage number reply
 resumed_so (Looking draft) rest number reply body is = some_same (ap (λ o. resumed_by o number reply) is)
 resumed_so (Feeding write key draft) rest number reply body is = some_same (ap (λ o. resumed_by o number reply) is)
 resumed_so (Changing etag u) rest number reply body is = absurd body

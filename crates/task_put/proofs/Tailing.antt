@@ -137,24 +137,24 @@ left : (a b : Bool) → a ≡ true → (a || b) ≡ true
 left a b one = rw one refl
 
 module _ (settings : SettingsView) (r : PutRequest) (write : ℕ) (key : Key) (given : Draft) (k : Known) (f : FitsAt settings r (Feeding write key (at_target r given)) k) (waits : has_tail given.body ≡ true) where
-  abbrev draft : Draft
-  draft = at_target r given
+  abbrev filled : Draft
+  filled = at_target r given
 
   abbrev stripe : ℕ
-  stripe = draft.body.stripe
+  stripe = filled.body.stripe
 
   abbrev tails : ℕ
-  tails = draft.body.tails
+  tails = filled.body.tails
 
   abbrev tail : List ℕ
-  tail = tail_bytes stripe draft.body.bytes (tails + 1)
+  tail = tail_bytes stripe filled.body.bytes (tails + 1)
 
-  hand_some : 1 ≤ length (hand_of draft.body)
-  hand_some = some_bytes (length (hand_of draft.body)) stripe (is_whole draft.body.end) f.0.low waits
+  hand_some : 1 ≤ length (hand_of filled.body)
+  hand_some = some_bytes (length (hand_of filled.body)) stripe (is_whole filled.body.end) f.0.low waits
 
   tail_fits : is_between 1 settings.stripe (length tail) ≡ true
   tail_fits =
-      let taken = length-take stripe (hand_of draft.body) in
+      let taken = length-take stripe (hand_of filled.body) in
       let some = hand_some in
       let low = f.0.low in
       let is : stripe ≡ settings.stripe = f.0.stripe in
@@ -164,7 +164,7 @@ module _ (settings : SettingsView) (r : PutRequest) (write : ℕ) (key : Key) (g
       let b : nat_le (length tail) settings.stripe ≡ true = grind (arith, nat_tests, most) in
       both (nat_le 1 (length tail)) (nat_le (length tail) settings.stripe) a b
 
-  pub feeding_may : 1 ≤ r.zone → r.zone ≤ settings.zones → MayCome settings (Feeding write key draft) k
+  pub feeding_may : 1 ≤ r.zone → r.zone ≤ settings.zones → MayCome settings (Feeding write key filled) k
   feeding_may low high =
       let t = f.4 in
       let p : Phase = k.phase in
@@ -185,16 +185,16 @@ module _ (settings : SettingsView) (r : PutRequest) (write : ℕ) (key : Key) (g
     now reply = known_next k maps made_op reply number clock
 
     abbrev rest : Draft
-    rest = draft_rest draft
+    rest = draft_rest filled
 
-    behind : stripe * (tails + 1) < length draft.body.bytes
-    behind = let dropped = length-drop (stripe * (tails + 1)) draft.body.bytes in let some = hand_some in omega (arith, dropped, some)
+    behind : stripe * (tails + 1) < length filled.body.bytes
+    behind = let dropped = length-drop (stripe * (tails + 1)) filled.body.bytes in let some = hand_some in omega (arith, dropped, some)
 
-    full : draft.body.end ≡ None → stripe * (tails + 1 + 1) ≤ length draft.body.bytes
+    full : filled.body.end ≡ None → stripe * (tails + 1 + 1) ≤ length filled.body.bytes
     full unended =
-        let here : (length (hand_of draft.body) == stripe || (false && not (length (hand_of draft.body) == 0))) ≡ true = subst (λ e. (length (hand_of draft.body) == stripe || (is_whole e && not (length (hand_of draft.body) == 0))) ≡ true) unended waits in
-        let whole = full_bytes (length (hand_of draft.body)) stripe here in
-        let dropped = length-drop (stripe * (tails + 1)) draft.body.bytes in
+        let here : (length (hand_of filled.body) == stripe || (false && not (length (hand_of filled.body) == 0))) ≡ true = subst (λ e. (length (hand_of filled.body) == stripe || (is_whole e && not (length (hand_of filled.body) == 0))) ≡ true) unended waits in
+        let whole = full_bytes (length (hand_of filled.body)) stripe here in
+        let dropped = length-drop (stripe * (tails + 1)) filled.body.bytes in
         let further : stripe * (tails + 1 + 1) ≡ stripe * (tails + 1) + stripe = omega arith in
         let low = f.0.low in
         omega (arith, whole, dropped, further, low)
@@ -271,7 +271,7 @@ module _ (settings : SettingsView) (r : PutRequest) (write : ℕ) (key : Key) (g
     tail_made : FitsAt settings r (Feeding write key rest) (now Done)
     tail_made = (rest_drafted, untried_on, at_row_still, f.3, in_more_tails)
 
-    no_room : (free needed : ℕ) → FitsAt settings r (step_of (Feeding write key draft) number (No (no_space free needed))) (now (No (no_space free needed)))
+    no_room : (free needed : ℕ) → FitsAt settings r (step_of (Feeding write key filled) number (No (no_space free needed))) (now (No (no_space free needed)))
     no_room free needed =
         let a = f.2 in
         let t = f.1 in (
@@ -282,7 +282,7 @@ module _ (settings : SettingsView) (r : PutRequest) (write : ℕ) (key : Key) (g
           record { want = record { number = number; free = free; needed = needed }; is_last = refl; found = refl; wanted = refl },
         )
 
-  pub feeding_kept : (reply : Reply) → IsKept settings r (Feeding write key draft) k reply
+  pub feeding_kept : (reply : Reply) → IsKept settings r (Feeding write key filled) k reply
   feeding_kept Done maps number clock before suits answers = tail_made maps number clock before
   feeding_kept (No (no_space free needed)) maps number clock before suits answers = no_room maps number clock before free needed
   feeding_kept reply maps number clock before suits answers = absurd suits

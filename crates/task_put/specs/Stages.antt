@@ -27,13 +27,13 @@ use Rattle.index_update.specs.declared.stage.Updated.{Updated}
 use Rattle.index_update.specs.declared.stage.Updated.TheVariants as updated
 use Rattle.index_update.specs.declared.update.IndexUpdate.{IndexUpdate}
 use Rattle.index_update.specs.Stages.{place_of, IsReady as IsUpdateReady}
-use Rattle.index_update.specs.Updates.{begun, stepped as update_stepped}
+use Rattle.index_update.specs.Updates.{begun, next_op, stepped as update_stepped}
 use Rattle.task_put.specs.Bodies.{without_tail, has_tail}
 use Rattle.task_put.specs.declared.stage.Draft.{Draft}
 use Rattle.task_put.specs.declared.stage.Stage.{Stage}
 use Rattle.task_put.specs.declared.stage.Stage.TheVariants.{Looking, Feeding, Changing, Ended}
-use Rattle.task_put.specs.declared.stage.Rest.{Rest}
-use Rattle.task_put.specs.declared.stage.Rest.TheVariants.{Look, Tail}
+use Rattle.task_put.specs.declared.stage.BodyRest.{BodyRest}
+use Rattle.task_put.specs.declared.stage.BodyRest.TheVariants.{Look, Tail}
 
 -- ---- stages
 
@@ -114,19 +114,20 @@ settled stage = stage
 
 -- ---- operations
 
--- the operation that comes next of a body
+-- the operation that comes next
 abbrev pub op_of : Stage → Op
 op_of (Looking draft) = ops.BucketRead draft.target.zone draft.target.container
 op_of (Feeding write key draft) =
     ops.TailMake draft.target.zone write (draft.body.tails + 1) (tail_bytes draft.body.stripe draft.body.bytes (draft.body.tails + 1))
-op_of stage = ops.BucketRead 0 []
+op_of (Changing etag update) = next_op update
+op_of (Ended outcome) = ops.BucketRead 0 []
 
 -- the draft, one of whose tails was taken out
 abbrev pub draft_rest : Draft → Draft
 draft_rest draft = record { target = draft.target; body = without_tail draft.body; kind = draft.kind; meta = draft.meta; etag = draft.etag; when = draft.when }
 
--- what is kept meanwhile
-abbrev pub rest_of : Stage → Option Rest
+-- what is kept of a stage of the body meanwhile
+abbrev pub rest_of : Stage → Option BodyRest
 rest_of (Looking draft) = Some (Look draft)
 rest_of (Feeding write key draft) = Some (Tail write key (draft_rest draft))
 rest_of stage = None
@@ -143,8 +144,8 @@ abbrev pub by_tail : ℕ → Key → Draft → Reply → Stage
 by_tail write key draft (replies.No (whys.NoSpace free needed)) = Ended (NoSpace free needed)
 by_tail write key draft reply = Feeding write key draft
 
--- the stage after an answer with this number
-abbrev pub resumed : Rest → ℕ → Reply → Stage
+-- the stage of a body after an answer with this number
+abbrev pub resumed : BodyRest → ℕ → Reply → Stage
 resumed (Look draft) number reply = by_first_place number draft (place_of draft.target (row_shown reply))
 resumed (Tail write key draft) number reply = by_tail write key draft reply
 

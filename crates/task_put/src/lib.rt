@@ -10,10 +10,10 @@ mod keeping;
 mod laws;
 mod splitting;
 mod stage;
+mod staged;
 mod task;
 
 pub use body::{Progress, PutBody};
-pub use closing::Next;
 pub use etag::has_other_etag;
 pub use keeping::{
     bodies_keep_where_a_put_stands, others_keep_where_a_put_stands,
@@ -21,5 +21,5 @@ pub use keeping::{
     tails_keep_where_a_put_stands,
 };
 pub use laws::{a_body_in_tails_is_shown, a_body_is_its_parts, a_changed_head_is_the_answer};
-pub use stage::{Draft, PutRequest, Rest, Split, Stage};
+pub use stage::{BodyRest, Draft, PutRequest, Rest, Stage};
 pub use task::PutTask;
