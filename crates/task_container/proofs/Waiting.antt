@@ -7,6 +7,7 @@ use Rattle.realm_model.specs.Histories.{Doings, account_of}
 use Rattle.realm_model.specs.Owns.{OwnEvent, own_events}
 use Rattle.realm_model.specs.Settings.{SettingsView}
 use Rattle.realm_door.specs.Waiting.{Waited}
+use Rattle.task_container.specs.Counts.{AreOfCount}
 use Rattle.task_container.specs.Stages.{FitsAt, fits}
 use Rattle.task_container.specs.declared.request.ContainerRequest.{ContainerRequest}
 use Rattle.task_container.specs.declared.task.ContainerTask.{ContainerTask}
@@ -40,4 +41,5 @@ waits t settings d e w f =
       subst (λ es. FitsAt t.request t.stage t.moved (account_of settings e.seen (actor_at e)) es (length e.seen)) (sym events)
           (subst (λ y. FitsAt t.request t.stage t.moved y (own_events d.seen (actor_at d)) (length e.seen)) (sym account)
           (fits_longer t.request t.stage t.moved (account_of settings d.seen (actor_at d)) (own_events d.seen (actor_at d)) (length d.seen) (length e.seen) longer f.2)),
+      subst (AreOfCount t.request) (sym events) f.3,
     )

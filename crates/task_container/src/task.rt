@@ -1,9 +1,6 @@
-ghost use Rattle.std.specs.Prelude.{◌≡◌, ◌≤◌};
-ghost use Rattle.realm_model.specs.Settings.{SettingsView};
-ghost use Rattle.realm_model.specs.Doors.{DoorView, actor_at};
+ghost use Rattle.std.specs.Prelude.{◌≡◌};
+ghost use Rattle.realm_door.specs.Turns.{FitsAtFirst};
 ghost use Rattle.task_container.specs.Stages.{IsOpen, step_of, header_step, after_look, after_header, after_left, stage_of, request_of, fits};
-ghost use Rattle.realm_model.specs.Accounts.{blank};
-ghost use Rattle.realm_model.specs.Histories.{account_of};
 
 use crate::counting::Counting;
 use crate::request::ContainerRequest;
@@ -39,8 +36,7 @@ impl ContainerTask {
     /// Stages of a task that made no event.
     pub fn new(request: ContainerRequest) -> ContainerTask
         ensures request { request_of result ≡ request }
-        ensures fits { (settings : SettingsView) (d : DoorView) → 1 ≤ request.zone → request.zone ≤ settings.zones
-            → account_of settings d.seen (actor_at d) ≡ blank → fits result settings d }
+        ensures fits { FitsAtFirst request.zone (fits result) }
         ensures open { IsOpen (stage_of result) }
     {
         ContainerTask {
@@ -142,7 +138,7 @@ fn stage_when_moved(moved: u32) -> Stage
 impl Staged for ContainerTask {
     ghost use Rattle.std.specs.Prelude.{◌≡◌};
     ghost use Rattle.task_container.specs.Stages.{IsOver, IsOpen, op_of, stage_of, request_of, fits};
-    ghost use Rattle.task_container.specs.Counts.{IsContainerOutcome};
+    ghost use Rattle.task_container.specs.Counts.{IsContainerEnd};
     ghost use Rattle.realm_model.specs.Histories.{account_of};
     ghost use Rattle.realm_model.specs.Owns.{own_events};
     ghost use Rattle.realm_model.specs.Doors.{actor_at};
@@ -157,7 +153,7 @@ impl Staged for ContainerTask {
 
     ghost fits = { fits };
 
-    ghost means = { λ request outcome settings d. IsContainerOutcome request outcome
+    ghost means = { λ request outcome settings d. IsContainerEnd request outcome
         (account_of settings d.seen (actor_at d)) (own_events d.seen (actor_at d)) };
 
     ghost is_over = { λ t. IsOver (stage_of t) };
