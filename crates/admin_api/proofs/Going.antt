@@ -2,8 +2,8 @@
 use Rattle.std.proofs.Common.{ℕ, ◌≤◌, None, refl}
 use Rattle.realm_model.specs.Settings.{SettingsView}
 use Rattle.realm_model.specs.Doors.{DoorView}
-use Rattle.job_words.specs.declared.job.Job.{Job}
-use Rattle.job_words.specs.declared.job.Job.TheVariants.{Check}
+use Rattle.task_words.specs.declared.job.Job.{Job}
+use Rattle.task_words.specs.declared.job.Job.TheVariants.{Check}
 use Rattle.task_repair.specs.declared.stage.Stage.TheVariants.{Look}
 use Rattle.task_repair.specs.Tasks.{known_at}
 use Rattle.task_repair.proofs.Turning.{fits_first}

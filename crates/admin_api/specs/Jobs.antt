@@ -10,9 +10,9 @@ use Rattle.realm_model.specs.Owns.{own_events}
 use Rattle.realm_model.specs.Settings.{SettingsView}
 use Rattle.realm_model.specs.declared.event.Event.{Event}
 use Rattle.door_moments.specs.Acts.{Asks}
-use Rattle.job_words.specs.declared.job.Job.{Job}
-use Rattle.job_words.specs.declared.job.Job.TheVariants.{Check}
-use Rattle.job_words.specs.declared.outcome.JobOutcome.{JobOutcome}
+use Rattle.task_words.specs.declared.job.Job.{Job}
+use Rattle.task_words.specs.declared.job.Job.TheVariants.{Check}
+use Rattle.task_words.specs.declared.job.JobOutcome.{JobOutcome}
 use Rattle.task_repair.specs.declared.request.RepairRequest.{RepairRequest}
 use Rattle.task_repair.specs.declared.task.RepairTask.{RepairTask}
 use Rattle.task_repair.specs.Repairs.{IsRepairOutcome}

@@ -4,7 +4,7 @@ ghost use Rattle.door_moments.specs.Acts.{Asks};
 
 use door_moments::act_to_end;
 use gw_io::Clock;
-use job_words::{Job, JobOutcome};
+use task_words::{Job, JobOutcome};
 use realm_door::{Door, Task};
 use std::alloc::Global;
 use task_repair::RepairTask;

@@ -8,8 +8,8 @@ use Rattle.realm_model.specs.Owns.{OwnEvent, own_events}
 use Rattle.realm_door.specs.Steps.{IsSame}
 use Rattle.stripe_law.proofs.Staying.{still_made}
 use Rattle.task_words.specs.declared.command.BodyEnd.TheVariants.{Whole}
-use Rattle.job_words.specs.declared.job.Job.TheVariants.{Check}
-use Rattle.job_words.specs.declared.outcome.JobOutcome.{JobOutcome}
+use Rattle.task_words.specs.declared.job.Job.TheVariants.{Check}
+use Rattle.task_words.specs.declared.job.JobOutcome.{JobOutcome}
 use Rattle.task_words.specs.declared.outcome.Outcome.{Outcome}
 use Rattle.task_words.specs.Outcomes.{IsPutOutcome}
 use Rattle.task_put.specs.Cuts.{CutBody}

@@ -1,7 +1,7 @@
 -- What an end says of the actor's own events.
 use Rattle.std.specs.Prelude.{◌≡◌, ℕ, List, [], Option, Some}
-use Rattle.job_words.specs.declared.job.Job.TheVariants.{Check}
-use Rattle.job_words.specs.declared.outcome.JobOutcome.{JobOutcome}
+use Rattle.task_words.specs.declared.job.Job.TheVariants.{Check}
+use Rattle.task_words.specs.declared.job.JobOutcome.{JobOutcome}
 use Rattle.realm_model.specs.Settings.{SettingsView}
 use Rattle.realm_model.specs.Accounts.{Decided, Account}
 use Rattle.realm_model.specs.Doors.{DoorView, actor_at}

@@ -1,10 +1,10 @@
 //! The check of a container.
-ghost use Rattle.job_words.specs.declared.job.Job.TheVariants.{Check};
+ghost use Rattle.task_words.specs.declared.job.Job.TheVariants.{Check};
 ghost use Rattle.script_words.specs.declared.line.Verb.TheVariants as verbs;
 ghost use Rattle.script_player.specs.Plays.{IsBegun, asked_check, CheckStands, CheckEnded, FitsCheck};
 
 use crate::play::{EndingPlay, Play};
-use job_words::JobOutcome;
+use task_words::JobOutcome;
 use object_words::BucketName;
 use realm_door::{Door, EventTask, Task};
 use std::alloc::Global;

@@ -16,7 +16,7 @@ use crate::list::new_list;
 use crate::play::{EndingPlay, Play};
 use crate::put::PutPlay;
 use crate::stat::new_stat;
-use job_words::Job;
+use task_words::Job;
 use realm_door::Door;
 use realm_model::Settings;
 use script_words::{ActorOutcome, Verb};

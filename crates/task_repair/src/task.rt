@@ -6,7 +6,7 @@ ghost use Rattle.task_repair.specs.Tasks.{stage_of, request_of, fault_of, fits};
 
 use crate::request::RepairRequest;
 use crate::stage::{Stage, next_stage};
-use job_words::JobOutcome;
+use task_words::JobOutcome;
 use object_words::{BucketName, EntryRow, ShardKey};
 use realm_door::{Door, EventTask, NextOp, Task, TaskTurn};
 use realm_model::{Op, Reply};
