@@ -29,6 +29,7 @@ use Rattle.task_words.specs.declared.reply.Refusal.TheVariants.{Unauthorized, De
 use Rattle.task_words.specs.Answers.{get, answer, deed_of, span_of}
 use Rattle.task_words.specs.Cuts.{AreCut}
 use Rattle.task_words.specs.Outcomes.{Body, Granted, IsGetOutcome, IsPutOutcome}
+use Rattle.task_put.specs.Orders.{path_of, IsFinished}
 use Rattle.task_list.specs.Listed.{IsListOutcome, AreOfListing}
 use Rattle.task_list.specs.declared.request.ListRequest.{ListRequest}
 use Rattle.call_words.specs.Bodies.{Fate, read_whole, broken_off, unread}
@@ -123,13 +124,13 @@ IsCutBy stripe zone (broken_off why) body events = (came : List ℕ) × AreCut z
 IsCutBy stripe zone fate body events = AreCut zone stripe body events
 
 -- the account and the events of an actor bear the end of its task out, and the events are those that such a task makes, of
--- stripes of this size
+-- stripes of this size; those of a PUT came in their order, and to its end
 abbrev pub IsBorneOut : ℕ → ℕ → Asker → Asked → Fate → List ℕ → Outcome → List ℕ → Account → List OwnEvent → Type 0
 IsBorneOut stripe zone asker BadHost fate body outcome shown y events = ⊥
 IsBorneOut stripe zone asker (Refused why) fate body outcome shown y events = ⊥
 IsBorneOut stripe zone asker (Put c) fate body outcome shown y events =
     IsPutOutcome zone asker c (body_at fate body) outcome y events × HasReply (told_reply None fate outcome) × (shown ≡ []) × AreOfPut events
-    × IsCutBy stripe zone fate body events
+    × IsCutBy stripe zone fate body events × IsFinished (path_of events)
 IsBorneOut stripe zone asker (Unfed (Get c)) fate body outcome shown y events =
     IsGetEnd zone asker c fate outcome y × HasReply (told_reply (span_of c) fate outcome) × AreShownBy zone c outcome shown y.decided
     × AreOfGet events

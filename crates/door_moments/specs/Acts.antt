@@ -14,6 +14,10 @@ use Rattle.realm_door.specs.Steps.{Grows}
 abbrev pub IsUpTo : {A : Type 0} → (A → SettingsView → DoorView → Type 0) → Type 0 → SettingsView → A → DoorView → Type 0
 IsUpTo fits tells settings task d = tells → Legal settings d.seen × fits task settings d
 
+-- the events of the door's actor are those of a task that is asked so, as far as it came
+abbrev pub IsUnderWay : {A C : Type 0} → (A → C) → (A → SettingsView → DoorView → Type 0) → C → SettingsView → DoorView → Type 0
+IsUnderWay {A} command fits asked settings d = (task : A) × (command task ≡ asked) × fits task settings d
+
 -- the moments of an actor's events
 abbrev pub own_moments : List Event → ActorId → List ℕ
 own_moments history actor = map (λ e. e.moment) (filter (λ e. same_actor actor (actor_of e)) history)

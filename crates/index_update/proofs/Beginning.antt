@@ -70,6 +70,6 @@ means_it s u settings d end ended f = record {
   ends = subst (λ g. FitsAt (asked_of s u) u.tried g (known_at settings d)) ended f.stands;
   mine = f.mine;
   follow = f.follow;
-  ordered = subst (λ g. IsAt g (path_from s.from f.mine)) ended f.order;
+  finished = subst (λ g. IsAt g (path_from s.from f.mine)) ended f.order;
   own = f.own;
 }

@@ -18,7 +18,7 @@ use Rattle.index_update.specs.declared.stage.Updated.TheVariants as ends
 use Rattle.index_update.specs.declared.stage.After.TheVariants.{Again, End}
 use Rattle.index_update.specs.declared.stage.Stage.{Stage}
 use Rattle.index_update.specs.declared.stage.Stage.TheVariants.{Looking, Preparing, Announcing, Writing, Cancelling, Completing, LookingForShard, Ended}
-use Rattle.index_update.specs.Paths.{Path, turned, ready, prepared, announced, changed, refused, adrift, path_after}
+use Rattle.index_update.specs.Paths.{Path, turned, ready, prepared, announced, changed, refused, adrift, finished, astray, path_after, IsOrdered, IsFinished}
 use Rattle.index_update.specs.Stages.{IsReady, op_of, place_of, by_place, look_again, look_for_shard, step_of}
 use Rattle.index_update.specs.Fits.{IsAt}
 
@@ -71,3 +71,15 @@ in_order t x (Completing key made) path reply going suits is = absurd is
 in_order t x (LookingForShard made) adrift reply going suits is = tt
 in_order t x (LookingForShard made) path reply going suits is = absurd is
 in_order t x (Ended end) path reply going suits is = absurd going
+
+-- the order of a whole update is one of its events
+pub finished_ordered : (path : Path) → IsFinished path → IsOrdered path
+finished_ordered turned is = tt
+finished_ordered ready is = tt
+finished_ordered adrift is = tt
+finished_ordered finished is = tt
+finished_ordered prepared is = absurd is
+finished_ordered announced is = absurd is
+finished_ordered changed is = absurd is
+finished_ordered refused is = absurd is
+finished_ordered astray is = absurd is

@@ -34,7 +34,7 @@ use Rattle.task_words.specs.Outcomes.{most_moved, most_expired, LookedUp, MetHol
 use Rattle.task_words.specs.Rows.{row_refusal}
 use Rattle.std.specs.List.{AllByRecursion}
 use Rattle.index_update.specs.Changes.{has_needs, HeadAnswer, IsOfUpdate}
-use Rattle.index_update.specs.Paths.{Path, turned, ready, prepared, announced, changed, refused, adrift, path_from, IsOrdered}
+use Rattle.index_update.specs.Paths.{Path, turned, ready, prepared, announced, changed, refused, adrift, path_from, IsFinished}
 use Rattle.index_update.specs.Stages.{shard_for, op_of, tried_after, step_of}
 use Rattle.index_update.specs.declared.head_change.HeadChange.{HeadChange}
 use Rattle.index_update.specs.declared.stage.Target.{Target}
@@ -284,7 +284,7 @@ IsAt (Writing key guard change) announced = Unit {0}
 IsAt (Cancelling key tag after) refused = Unit {0}
 IsAt (Completing key made) changed = Unit {0}
 IsAt (LookingForShard made) adrift = Unit {0}
-IsAt (Ended end) path = IsOrdered path
+IsAt (Ended end) path = IsFinished path
 IsAt stage path = ⊥
 
 -- what each stage needs of what is known

@@ -7,7 +7,7 @@ use Rattle.realm_model.specs.declared.op.Op.{Op}
 use Rattle.index_update.specs.declared.stage.Rest.{Rest}
 use Rattle.std.specs.List.{AllByRecursion}
 use Rattle.index_update.specs.Changes.{has_needs, IsOfUpdate}
-use Rattle.index_update.specs.Paths.{Path, path_from, IsOrdered}
+use Rattle.index_update.specs.Paths.{Path, path_from, IsFinished}
 use Rattle.index_update.specs.Stages.{IsReady, op_of, rest_of, tried_after, step_of}
 use Rattle.index_update.specs.Fits.{Known, known_at, Start, Asked, IsTagFree, EndsSo, Fits}
 use Rattle.index_update.specs.declared.head_change.HeadChange.{HeadChange}
@@ -71,5 +71,5 @@ pub record IsEnd (s : Start) (u : IndexUpdate) (end : Updated) (k : Known) : Typ
   pub ends : EndsSo (asked_of s u) end k
   pub mine : List OwnEvent
   pub follow : k.events ≡ s.known.events ++ mine
-  pub ordered : IsOrdered (path_from s.from mine)
+  pub finished : IsFinished (path_from s.from mine)
   pub own : AllByRecursion (λ (e : OwnEvent). IsOfUpdate u.target s.change e.op) mine

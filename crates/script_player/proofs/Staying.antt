@@ -13,7 +13,7 @@ use Rattle.task_words.specs.declared.job.JobOutcome.{JobOutcome}
 use Rattle.task_words.specs.declared.outcome.Outcome.{Outcome}
 use Rattle.task_words.specs.Outcomes.{IsPutOutcome}
 use Rattle.task_put.specs.Cuts.{CutBody}
-use Rattle.task_put.specs.Orders.{path_of, IsOrdered}
+use Rattle.task_put.specs.Orders.{path_of, IsFinished}
 use Rattle.task_put.specs.Fits.{body_of, known_at, known_later, Fits as PutFits}
 use Rattle.task_put.specs.Tasks as put
 use Rattle.task_put.specs.declared.task.PutTask.{PutTask}
@@ -70,7 +70,7 @@ module _ (settings : SettingsView) (d e : DoorView) (pass : e.pass ≡ d.pass) (
   request_stays : (zone : ℕ) (verb : Verb) (outcome : Outcome) (shown : List ℕ) → MeansRequest zone verb outcome shown settings d → MeansRequest zone verb outcome shown settings e
   request_stays zone (Put container name body) outcome shown m =
       let r = put_request zone container name (body_bytes body) (Some Whole) in
-      (at_both (λ y es. IsPutOutcome r.zone r.asker r.command (body_of r) outcome y es × IsOrdered (path_of es) × CutBody r.zone settings.stripe r.bytes r.end es) m.0, m.1)
+      (at_both (λ y es. IsPutOutcome r.zone r.asker r.command (body_of r) outcome y es × IsFinished (path_of es) × CutBody r.zone settings.stripe r.bytes r.end es) m.0, m.1)
   request_stays zone (Get container name) outcome shown m =
       let r = get_request zone container name in
       (at_both (GetMeans r outcome) m.0, subst (AreBytesOf r outcome shown) (sym account_same) m.1)

@@ -38,7 +38,7 @@ use Rattle.task_put.specs.declared.stage.Stage.TheVariants.{Looking, Feeding, Ch
 use Rattle.task_put.specs.declared.task.PutTask.{PutTask}
 use Rattle.task_put.specs.Bodies.{has_tail}
 use Rattle.task_put.specs.Cuts.{IsSliced}
-use Rattle.task_put.specs.Orders.{path_of, IsOrdered}
+use Rattle.task_put.specs.Orders.{path_of, IsFinished}
 use Rattle.task_put.specs.Stages.{IsReady, IsBody, op_of, rest_of, resumed, step_of, closed, update_of, after_stage, after_update, settled}
 use Rattle.task_put.specs.Taking.{at_target, normal}
 use Rattle.task_put.specs.Fits.{FitsAt, IsAt, IsInOrder, Fits, MayCome, IsKept}
@@ -163,7 +163,7 @@ after_fits settings r etag u k (ups.Ended end) is f =
       ends = subst (λ g. UpdateFitsAt (asked_of s u) u.tried g k) is v.stands;
       mine = v.mine;
       follow = v.follow;
-      ordered = subst (λ g. IsUpdateAt g (path_from s.from v.mine)) is v.order;
+      finished = subst (λ g. IsUpdateAt g (path_from s.from v.mine)) is v.order;
       own = v.own;
     } in
     let so = ended_so settings r s etag u f.stands.1 k end e in
@@ -179,7 +179,7 @@ after_fits settings r etag u k (ups.LookingForShard made) is f = f
 -- ---- the body's end
 
 at_end : (settings : SettingsView) (r : PutRequest) (write : ℕ) (key : Key) (draft : Draft) (k : Known) (outcome : Outcome) → IsInOrder settings r (Feeding write key draft) k.events → IsInOrder settings r (Ended outcome) k.events
-at_end settings r write key draft k outcome o = (subst IsOrdered (sym (at_feeding write key draft (path_of k.events) o.0)) tt, record { cut = o.1.cut; made = tt })
+at_end settings r write key draft k outcome o = (subst IsFinished (sym (at_feeding write key draft (path_of k.events) o.0)) tt, record { cut = o.1.cut; made = tt })
 
 closed_order : (settings : SettingsView) (r : PutRequest) (write : ℕ) (key : Key) (draft : Draft) (k : Known) (end : Option BodyEnd) → IsInOrder settings r (Feeding write key draft) k.events → IsInOrder settings r (closed write key draft end) k.events
 closed_order settings r write key draft k None o = o

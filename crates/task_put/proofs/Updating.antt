@@ -31,19 +31,20 @@ use Rattle.index_update.specs.declared.stage.Updated.{Updated}
 use Rattle.index_update.specs.declared.stage.Updated.TheVariants as updated
 use Rattle.index_update.specs.declared.update.IndexUpdate.{IndexUpdate}
 use Rattle.index_update.specs.Changes.{IsOfUpdate}
-use Rattle.index_update.specs.Paths.{Path, turned, ready, prepared, announced, changed, refused, adrift, finished, astray, path_after, path_from, IsOrdered}
+use Rattle.index_update.specs.Paths.{Path, turned, ready, prepared, announced, changed, refused, adrift, finished, astray, path_after, path_from, IsOrdered, IsFinished}
 use Rattle.index_update.specs.Fits.{Asked, Start, Known, ByHead, Granted, EndsSo}
 use Rattle.index_update.specs.Updates.{asked_of, IsEnd}
 use Rattle.task_put.specs.declared.stage.PutRequest.{PutRequest}
 use Rattle.task_put.specs.declared.stage.Stage.TheVariants.{Ended}
 use Rattle.task_put.specs.Changes.{AreTailsOf}
 use Rattle.task_put.specs.Cuts.{MayFollow, CutBody}
-use Rattle.task_put.specs.Orders.{path_of, IsOrdered as IsPutOrdered}
+use Rattle.task_put.specs.Orders.{path_of, IsFinished as IsPutFinished}
 use Rattle.task_put.specs.Stages.{outcome_of}
 use Rattle.task_put.specs.Fits.{target_of, body_of, Begins, FitsAt, IsInOrder}
 use Rattle.task_put.proofs.Answering.{change_stored, change_refused}
 use Rattle.task_put.proofs.Looking.{by_three}
-use Rattle.task_put.proofs.Ordering.{stays_astray, ordered_behind}
+use Rattle.index_update.proofs.Ordering.{finished_ordered as update_finished_ordered}
+use Rattle.task_put.proofs.Ordering.{stays_astray, finished_behind}
 
 -- ---- how its events cut the body
 
@@ -175,8 +176,11 @@ module _ (settings : SettingsView) (r : PutRequest) (s : Start) (etag : List ℕ
         let none = nothing_follows more follows in
         b.content.head.first ∙ (λ i. first_bytes (b.stripe i) (sym (append-nil r.bytes) i)) ∙ ap (λ m. first_bytes settings.stripe (r.bytes ++ m)) (sym none)
 
+    finishes : IsFinished (path_from ready e.mine)
+    finishes = subst (λ p. IsFinished (path_from p e.mine)) b.from e.finished
+
     ordered : IsOrdered (path_from ready e.mine)
-    ordered = subst (λ p. IsOrdered (path_from p e.mine)) b.from e.ordered
+    ordered = update_finished_ordered (path_from ready e.mine) finishes
 
     own : AllByRecursion (λ (q : OwnEvent). IsOfUpdate (target_of r) (Write b.new b.when) q.op) e.mine
     own = subst (λ (a : Asked). AllByRecursion (λ (q : OwnEvent). IsOfUpdate a.target a.change q.op) e.mine) asked_is e.own
@@ -191,7 +195,7 @@ module _ (settings : SettingsView) (r : PutRequest) (s : Start) (etag : List ℕ
     ended_so = (
       put_ends end (subst (λ a. EndsSo a end k) asked_is e.ends),
       (
-        subst (λ es. IsPutOrdered (path_of es)) (sym e.follow) (ordered_behind s.known.events e.mine b.order ordered),
+        subst (λ es. IsPutFinished (path_of es)) (sym e.follow) (finished_behind s.known.events e.mine b.order finishes),
         record { cut = cut; made = tt },
       ),
     )

@@ -25,7 +25,7 @@ use Rattle.task_put.specs.Bodies.{BodyView}
 use Rattle.task_put.specs.Changes.{IsHeadOf, IsSent}
 use Rattle.task_put.specs.Cuts.{CutBody, IsSliced}
 use Rattle.task_words.specs.Cuts.{is_changed_from}
-use Rattle.task_put.specs.Orders.{Path, begun, feeding, path_of, IsOrdered}
+use Rattle.task_put.specs.Orders.{Path, begun, feeding, path_of, IsFinished}
 use Rattle.task_put.specs.Stages.{op_of, step_of}
 use Rattle.task_put.specs.declared.stage.PutRequest.{PutRequest}
 use Rattle.task_put.specs.declared.stage.Draft.{Draft}
@@ -111,7 +111,7 @@ pub record Begins (settings : SettingsView) (r : PutRequest) (s : Start) (etag :
 abbrev pub IsAt : Stage → Path → Type 0
 IsAt (Looking draft) begun = Unit {0}
 IsAt (Feeding write key draft) feeding = Unit {0}
-IsAt (Ended outcome) path = IsOrdered path
+IsAt (Ended outcome) path = IsFinished path
 IsAt stage path = ⊥
 
 -- what each stage needs of what is known

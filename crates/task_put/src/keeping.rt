@@ -8,13 +8,13 @@ ghost use Rattle.realm_model.specs.declared.event.Reply.{Reply as ReplyOf};
 ghost use Rattle.rgw_types.specs.declared.pool_key.Key.{Key};
 ghost use Rattle.task_words.specs.declared.command.BodyEnd.{BodyEnd as BodyEndOf};
 ghost use Rattle.index_update.specs.Fits.{Known, known_later};
-ghost use Rattle.index_update.specs.Paths.{ready, path_from as update_from, IsOrdered as IsUpdateOrdered};
+ghost use Rattle.index_update.specs.Paths.{ready, path_from as update_from, IsOrdered as IsUpdateOrdered, IsFinished as IsUpdateFinished};
 ghost use Rattle.task_put.specs.declared.stage.Draft.{Draft as DraftOf};
 ghost use Rattle.task_put.specs.declared.stage.PutRequest.{PutRequest as PutRequestOf};
 ghost use Rattle.task_put.specs.declared.stage.Stage.{Stage as StageOf};
 ghost use Rattle.task_put.specs.declared.stage.Stage.TheVariants.{Looking, Feeding};
 ghost use Rattle.task_put.specs.Bodies.{has_tail};
-ghost use Rattle.task_put.specs.Orders.{Path, feeding, path_of, path_after, IsOrdered};
+ghost use Rattle.task_put.specs.Orders.{Path, feeding, path_of, path_after, IsOrdered, IsFinished};
 ghost use Rattle.task_put.specs.Stages.{IsBody, op_of, step_of, settled};
 ghost use Rattle.task_put.specs.Taking.{IsTaking, fed_request, fed_stage, ended_request, ended_stage};
 ghost use Rattle.task_put.specs.Fits.{IsAt, FitsAt, Fits, MayCome, IsKept};
@@ -35,6 +35,8 @@ pub fn puts_make_their_events_in_order()
         → IsAt (step_of stage number reply) (path_after path (op_of stage) reply) }
     ensures update { (before mine : List OwnEvent)
         → path_of before ≡ feeding → IsUpdateOrdered (update_from ready mine) → IsOrdered (path_of (before ++ mine)) }
+    ensures finish { (before mine : List OwnEvent)
+        → path_of before ≡ feeding → IsUpdateFinished (update_from ready mine) → IsFinished (path_of (before ++ mine)) }
 {}
 
 /// A read of the row brings a PUT to where its events bring it.
