@@ -12,13 +12,7 @@ use object_words::{Bucket, Changed, EntryRow, Guard, ObjectName, ShardKey, Why, 
 use realm_door::Answered;
 use realm_model::{Op, Reply};
 use swift_auth::Deed;
-use task_words::Refusal;
-
-/// So many answers Moved or Closed end an update.
-const MOST_MOVED: u32 = 16;
-
-/// So many answers Expired end an update.
-const MOST_EXPIRED: u32 = 3;
+use task_words::{MOST_EXPIRED, MOST_MOVED, Refusal};
 
 /// With one answer more.
 pub(crate) fn tried_after(tried: Tried, reply: &Reply) -> Tried
