@@ -1,5 +1,5 @@
 -- The own events of a job so far.
-use Rattle.std.proofs.Common.{ℕ, ◌≤◌, None, refl}
+use Rattle.std.proofs.Common.{ℕ, ◌≤◌, refl}
 use Rattle.realm_model.specs.Settings.{SettingsView}
 use Rattle.realm_model.specs.Doors.{DoorView}
 use Rattle.task_words.specs.declared.job.Job.{Job}
@@ -12,7 +12,7 @@ use Rattle.admin_api.specs.Jobs.{repair_of, IsNew, GoesOn}
 -- none was made
 pub goes_on_first : (zone : ℕ) (job : Job) (settings : SettingsView) (d : DoorView) → 1 ≤ zone → zone ≤ settings.zones → IsNew settings d → GoesOn zone job settings d
 goes_on_first zone (Check container) settings d low high new = (
-  record { request = repair_of zone container; stage = Look; applied = 0; fault = None },
+  record { request = repair_of zone container; stage = Look; applied = 0 },
   refl,
   (low, high, fits_first (repair_of zone container) (known_at settings d) new.account new.events),
 )

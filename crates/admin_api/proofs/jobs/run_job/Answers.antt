@@ -1,6 +1,4 @@
 use Rattle.std.proofs.Common.{false}
-use Rattle.task_repair.specs.Tasks.{stage_of}
-use Rattle.task_repair.proofs.Turning.{still_open}
 use Rattle.door_moments.proofs.Asking.{none_asks}
 use Rattle.admin_api.proofs.Going.{goes_on_first}
 use Rattle.admin_api.proofs.jobs.run_job.Goals as goal
@@ -12,6 +10,3 @@ returns-in_default-clause-stopped g c = record {
   goes_on = λ tells. goes_on_first c.args.zone c.args.job.now (g.D.Door.settings c.args.door.now) (g.D.Door.told c.args.door.now) c.requires.low c.requires.high (c.requires.new tells);
   worn = λ tells is. cc;
 }
-
-pub act_to_end-acted-requires-clause-onward : goal.act_to_end-acted-requires-clause-onward
-act_to_end-acted-requires-clause-onward g c κs within = λ t sound going. still_open (stage_of t) (λ over. going (over, sound))
