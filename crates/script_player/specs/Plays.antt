@@ -8,7 +8,8 @@ use Rattle.task_words.specs.declared.command.BodyEnd.TheVariants.{Whole, Failed}
 use Rattle.task_put.specs.Bodies.{most_bytes}
 use Rattle.task_put.specs.Stages as put_stages
 use Rattle.task_put.specs.Taking.{room_at}
-use Rattle.task_put.specs.Tasks as put
+use Rattle.task_put.specs.Runs as put
+use Rattle.task_put.specs.Tasks.{fed as stages_fed, stage_of as stages_stand}
 use Rattle.task_put.specs.declared.task.PutTask.{PutTask}
 use Rattle.task_get.specs.Pieces.{brought}
 use Rattle.task_get.specs.Stages as get_stages
@@ -129,7 +130,7 @@ IsCheck r = Unit {0}
 -- no step stopped with a fault; a PUT is at the body that it was fed, as long as it goes on
 pub record PutStands (x : PutPlay) : Type 0 where
   pub is_put : IsPut x
-  pub steady : (put_stages.IsOver (put.stage_of x.task) → ⊥) → IsSteady x.task
+  pub steady : (put_stages.IsOver (put.stage_of x.task) → ⊥) → IsSteady x.task.stages
   pub sound : put.fault_of x.task ≡ None
 
 pub record GetStands (x : GetPlay) : Type 0 where
@@ -155,10 +156,10 @@ StandsBy (actings.Check t) = CheckStands t
 -- so many bytes behind the first were taken: some, if there was room
 pub record TakesNext (bytes : List ℕ) (at : ℕ) (old new : PutTask) (count : ℕ) : Type 0 where
   pub more : List ℕ
-  pub task : new ≡ put.fed old more
+  pub task : new ≡ stages_fed old more
   pub next : take at bytes ++ more ≡ take (at + count) bytes
   pub inside : at + count ≤ length bytes
-  pub some : 1 ≤ room_at (put.stage_of old) → 1 ≤ count
+  pub some : 1 ≤ room_at (stages_stand old) → 1 ≤ count
 
 -- how many turns may still feed the task: one a piece, and one for the end
 abbrev pub unended : Option BodyEnd → ℕ
