@@ -14,11 +14,10 @@ use Rattle.realm_model.specs.declared.op.Op.TheVariants.{BucketRead}
 use Rattle.realm_model.specs.declared.event.Reply.{Reply}
 use Rattle.realm_model.specs.declared.event.Reply.TheVariants.{No, Row}
 use Rattle.swift_auth.specs.declared.policy.Deed.TheVariants.{ChangeThing}
-use Rattle.swift_auth.specs.declared.policy.Verdict.{Verdict}
-use Rattle.swift_auth.specs.declared.policy.Verdict.TheVariants.{Granted as granted_verdict, Unknown, Denied as denied_verdict}
 use Rattle.swift_auth.specs.Policies.{verdict_of}
 use Rattle.task_words.specs.declared.reply.Refusal.{Refusal}
-use Rattle.task_words.specs.Rows.{refusal_by, row_refusal}
+use Rattle.task_words.specs.Rows.{row_refusal}
+use Rattle.task_words.proofs.Refusals.{some_refusal}
 use Rattle.index_update.specs.declared.head_change.HeadChange.{HeadChange}
 use Rattle.index_update.specs.declared.stage.Tried.{Tried}
 use Rattle.index_update.specs.declared.stage.Updated.TheVariants.{Refused}
@@ -41,14 +40,6 @@ in_realm settings p op low high meets = let zone = between 1 settings.zones (zon
 
 pub may_look : (settings : SettingsView) (r : Asked) (p : Phase) → 1 ≤ r.target.zone → r.target.zone ≤ settings.zones → allowed settings p (BucketRead r.target.zone r.target.container) ≡ true
 may_look settings r p low high = in_realm settings p (BucketRead r.target.zone r.target.container) low high refl
-
--- ---- refusals by a row
-
--- where no row is, something refuses
-some_refusal : (v : Verdict) → refusal_by v None ≡ None → ⊥
-some_refusal Unknown none = cc
-some_refusal granted_verdict none = cc
-some_refusal (denied_verdict rule) none = cc
 
 -- ---- a read more
 

@@ -23,6 +23,7 @@ use Rattle.task_put.specs.declared.stage.Stage.TheVariants.{Looking, Feeding, Ch
 use Rattle.task_put.specs.declared.task.PutTask.{PutTask}
 use Rattle.task_put.specs.Bodies.{first_end}
 use Rattle.task_put.specs.Cuts.{CutBody}
+use Rattle.task_put.specs.Orders.{path_of, IsFinished}
 use Rattle.task_put.specs.Stages.{IsOver}
 use Rattle.task_put.specs.Taking.{fed_request, ended_request}
 use Rattle.task_put.specs.Runs.{request_of, stage_of, fault_of, fits}
@@ -174,6 +175,11 @@ events_of_put : (t : Stepping PutTask) (settings : SettingsView) (d : DoorView) 
 events_of_put t settings d outcome ended sound f =
     of_put (own_events d.seen (actor_at d)) (run_means t settings d outcome ended sound f).1
 
+-- they came in the order of a PUT, and to its end
+events_finished : (t : Stepping PutTask) (settings : SettingsView) (d : DoorView) (outcome : Outcome) → stage_of t ≡ Ended outcome → fault_of t ≡ None → fits t settings d
+    → IsFinished (path_of (own_events d.seen (actor_at d)))
+events_finished t settings d outcome ended sound f = (run_means t settings d outcome ended sound f).1
+
 -- they cut what came of the body, whatever follows it
 events_cut : (t : Stepping PutTask) (settings : SettingsView) (d : DoorView) (outcome : Outcome) → stage_of t ≡ Ended outcome → fault_of t ≡ None → fits t settings d
     → CutBody (request_of t).zone settings.stripe (request_of t).bytes (request_of t).end (own_events d.seen (actor_at d))
@@ -216,6 +222,7 @@ ended_before tells alone settings r t fate x y body front has_fate s over reques
           before_end r.zone r.asker r.command (r.bytes ++ front) (body_at fate body) account events by.0 by.2
           (subst (λ e. IsPutOutcome r.zone r.asker r.command (record { bytes = r.bytes ++ front; end = e }) by.0 account events) unended at_request);
       of_put = λ told. events_of_put t settings y.door by.0 by.1 sound (up told);
+      finished = λ told. events_finished t settings y.door by.0 by.1 sound (up told);
       cut = cut;
       asks = subst (λ m. AsksAt tells alone settings m x y) (sym by.2.1) asks;
     }
@@ -238,6 +245,7 @@ ended_behind tells alone settings now r t x y d b body same given request none u
           let at_request = subst (λ (q : PutRequest). IsPutOutcome q.zone q.asker q.command (body_of q) ends.outcome account events) request (means_put t settings y.door ends.outcome ends.ended sound (up told)) in
           subst (λ (w : Body). IsPutOutcome r.zone r.asker r.command w ends.outcome account events) (λ i. record { bytes = none i ++ body; end = first_end (unended i) Whole }) at_request;
       of_put = λ told. events_of_put t settings y.door ends.outcome ends.ended sound (up told);
+      finished = λ told. events_finished t settings y.door ends.outcome ends.ended sound (up told);
       cut = λ told.
           let at_request = subst (λ (q : PutRequest). CutBody q.zone settings.stripe q.bytes q.end events) request (events_cut t settings y.door ends.outcome ends.ended sound (up told)) in
           let whole = subst (λ (e : Option BodyEnd). CutBody r.zone settings.stripe (r.bytes ++ body) (first_end e Whole) events) unended at_request in
@@ -264,6 +272,7 @@ failed_behind tells alone settings now r t x y d b front why same wrong breaks r
           any_bytes r.zone r.asker r.command (r.bytes ++ front) [] account events ends.outcome
           (subst (λ (w : Body). IsPutOutcome r.zone r.asker r.command w ends.outcome account events) (λ i. record { bytes = r.bytes ++ front; end = first_end (unended i) Failed }) at_request);
       of_put = λ told. events_of_put t settings y.door ends.outcome ends.ended sound (up told);
+      finished = λ told. events_finished t settings y.door ends.outcome ends.ended sound (up told);
       cut = λ told.
           let at_request = subst (λ (q : PutRequest). CutBody q.zone settings.stripe q.bytes q.end events) request (events_cut t settings y.door ends.outcome ends.ended sound (up told)) in
           let failed = subst (λ (e : Option BodyEnd). CutBody r.zone settings.stripe (r.bytes ++ front) (first_end e Failed) events) unended at_request in

@@ -5,7 +5,8 @@ use Rattle.realm_model.specs.declared.op.Op.{Op}
 use Rattle.realm_model.specs.declared.op.Op.TheVariants.{BucketRead, Prepare, Complete, Cancel, HeadWrite, TailMake, Announce}
 use Rattle.realm_model.specs.declared.event.Reply.{Reply}
 use Rattle.index_update.specs.Paths.{turned, ready, prepared, announced, changed, refused, adrift, finished as ended, astray as off}
-use Rattle.task_put.specs.Orders.{Path, begun, feeding, updating, finished, astray, path_after, path_from, path_of, IsOrdered}
+use Rattle.task_put.specs.Orders.{Path, begun, feeding, updating, finished, astray, path_after, path_from, path_of, IsOrdered, IsFinished}
+use Rattle.task_put.proofs.Ordering.{finished_ordered}
 use Rattle.call_words.specs.Events.{is_of_put, AreOfPut}
 
 -- an event came where it may not, of the body or of an update
@@ -60,5 +61,5 @@ from_path path (e ∷ es) ordered =
       | inr gone ↦ absurd (still_astray (path_after path e.op e.reply) es gone ordered)
     ]
 
-pub of_put : (events : List OwnEvent) → IsOrdered (path_of events) → AreOfPut events
-of_put events ordered = from_path begun events ordered
+pub of_put : (events : List OwnEvent) → IsFinished (path_of events) → AreOfPut events
+of_put events finished = from_path begun events (finished_ordered (path_of events) finished)

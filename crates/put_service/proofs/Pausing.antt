@@ -6,10 +6,10 @@ use Rattle.task_words.specs.declared.command.BodyEnd.TheVariants as ends
 use Rattle.task_put.specs.Bodies.{most_bytes, has_tail, first_end}
 use Rattle.task_put.specs.Stages.{IsOver, IsReady, settled, closed, taken}
 use Rattle.task_put.specs.Taking.{WantsBytes, room_at, fed_request, fed_stage, ended_request, ended_stage}
-use Rattle.task_put.specs.Tasks.{request_of, stage_of, decided, fed, body_ended}
-use Rattle.task_put.specs.Runs.{fits, decided as run_decided, with_stages}
+use Rattle.task_put.specs.Tasks.{request_of, stage_of, decided, fed, body_ended, fits as stages_fit}
+use Rattle.task_put.specs.Runs.{fits, with_stages}
 use Rattle.task_put.proofs.Readying.{still_changing}
-use Rattle.task_put.proofs.Running.{settled_run}
+use Rattle.task_put.proofs.Running.{lifted, settled_run}
 use Rattle.index_update.specs.declared.stage.Stage.{Stage as UpdateStage}
 use Rattle.index_update.specs.declared.stage.Stage.TheVariants as ups
 use Rattle.index_update.specs.Stages.{IsOver as IsUpdateOver, IsReady as IsUpdateReady}
@@ -99,6 +99,12 @@ by_body t u is going s o =
 pub up_decided : (tells : Type 0) (settings : SettingsView) (t : Stepping PutTask) (u : PutTask) (d : DoorView) → u ≡ decided t.stages → IsUp tells settings t d → IsUp tells settings (with_stages t u) d
 up_decided tells settings t u d is up =
     λ told. ((up told).0, subst (λ (x : PutTask). fits (with_stages t x) settings d) (sym is) (settled_run settings d t (up told).1))
+
+-- so they do where its stages fit as they did
+pub up_stages : (tells : Type 0) (settings : SettingsView) (t : Stepping PutTask) (u : PutTask) (d : DoorView) → ((other : SettingsView) (e : DoorView) → stages_fit t.stages other e → stages_fit u other e)
+    → IsUp tells settings t d → IsUp tells settings (with_stages t u) d
+up_stages tells settings t u d on up =
+    λ told. ((up told).0, lifted t.fault (stages_fit t.stages settings d) (stages_fit u settings d) (on settings d) (up told).1)
 
 -- ---- bytes
 

@@ -113,7 +113,7 @@ module _ (tells alone : Type 0) (site : Site) (form : ReplyForm) (c : PutCommand
     outcome = ran.outcome;
     shown = [];
     written = subst (λ o. Appends old.taken new.taken (text_of (form_at form (fate_of end)) end o)) (ap outcome_in (sym ended ∙ ran.ended)) written;
-    right = λ told. (ran.right told, end_has_reply ran.outcome (fate_of end) ran.is_end, refl, ran.of_put told, ran.cut told);
+    right = λ told. (ran.right told, end_has_reply ran.outcome (fate_of end) ran.is_end, refl, ran.of_put told, ran.cut told, ran.finished told);
     asks = ran.asks;
   }
 
@@ -162,7 +162,7 @@ module _ (tells alone : Type 0) (site : Site) (form : ReplyForm) (c : PutCommand
       outcome = ran.outcome;
       shown = [];
       written = subst (λ o. AppendsFront old.taken new.taken (text_of (form_at form (fate_of end)) end o)) (ap outcome_in (sym ended ∙ ran.ended)) leaves;
-      right = λ told. (ran.right told, end_has_reply ran.outcome (fate_of end) ran.is_end, refl, ran.of_put told, ran.cut told);
+      right = λ told. (ran.right told, end_has_reply ran.outcome (fate_of end) ran.is_end, refl, ran.of_put told, ran.cut told, ran.finished told);
       more = is_by_end ran.outcome;
       asks = ran.asks;
     },

@@ -124,7 +124,7 @@ module _ (tells alone : Type 0) (site : Site) (form : ReplyForm) (c : PutCommand
         outcome = outcome;
         shown = [];
         written = written;
-        right = λ told. ((right told).0, told_unread outcome is.0, refl, of_put (own_events y.door.seen (actor_at y.door)) (right told).1, (right told).2 [] tt);
+        right = λ told. ((right told).0, told_unread outcome is.0, refl, of_put (own_events y.door.seen (actor_at y.door)) (right told).1, (right told).2 [] tt, (right told).1);
         asks = asks_so;
       },
       not_failed outcome is.0,
@@ -141,7 +141,7 @@ module _ (tells alone : Type 0) (site : Site) (form : ReplyForm) (c : PutCommand
         outcome = outcome;
         shown = [];
         written = leaves;
-        right = λ told. ((right told).0, told_unread outcome is.0, refl, of_put (own_events y.door.seen (actor_at y.door)) (right told).1, (right told).2 [] tt);
+        right = λ told. ((right told).0, told_unread outcome is.0, refl, of_put (own_events y.door.seen (actor_at y.door)) (right told).1, (right told).2 [] tt, (right told).1);
         more = is_by_end outcome;
         asks = asks_so;
       },

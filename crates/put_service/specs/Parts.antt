@@ -22,6 +22,7 @@ use Rattle.realm_door.specs.declared.stepping.Stepping.{Stepping}
 use Rattle.task_put.specs.declared.stage.PutRequest.{PutRequest}
 use Rattle.task_put.specs.declared.stage.Stage.TheVariants.{Ended}
 use Rattle.task_put.specs.declared.task.PutTask.{PutTask}
+use Rattle.task_put.specs.Orders.{path_of, IsFinished}
 use Rattle.task_put.specs.Stages.{IsOver}
 use Rattle.task_put.specs.Taking.{WantsBytes, fed_request}
 use Rattle.task_put.specs.Runs.{request_of, stage_of, fault_of}
@@ -104,6 +105,7 @@ pub record HasEnded (tells alone : Type 0) (settings : SettingsView) (r : PutReq
   pub right : tells → IsPutOutcome r.zone r.asker r.command (body_at fate body) outcome
       (account_of settings y.door.seen (actor_at y.door)) (own_events y.door.seen (actor_at y.door))
   pub of_put : tells → AreOfPut (own_events y.door.seen (actor_at y.door))
+  pub finished : tells → IsFinished (path_of (own_events y.door.seen (actor_at y.door)))
   pub cut : tells → IsCutBy settings.stripe r.zone fate body (own_events y.door.seen (actor_at y.door))
   pub asks : AsksAt tells alone settings (is_by_end outcome) x y
 
