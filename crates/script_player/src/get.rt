@@ -74,7 +74,11 @@ impl Play for GetPlay {
     /// Keeps the bytes that the event brings.
     fn act<D: Door>(&mut self, alloc: Global, door: &mut D, moment: u64) -> Result<(), DoorFault> {
         self.task.event(alloc, door, moment)?;
-        if self.shown.extend_from_slice(self.task.stages.piece()).is_err() {
+        if self
+            .shown
+            .extend_from_slice(self.task.stages.piece())
+            .is_err()
+        {
             return Err(DoorFault::OutOfMemory);
         }
         Ok(())
