@@ -7,7 +7,9 @@ use Rattle.realm_model.specs.Owns.{OwnEvent, own_events}
 use Rattle.realm_model.specs.Phases.{Phase}
 use Rattle.realm_model.specs.Settings.{SettingsView}
 use Rattle.realm_door.specs.Turns.{MakesEvent}
-use Rattle.swift_requests.specs.declared.asked.Asked.TheVariants.{Get}
+use Rattle.swift_requests.specs.declared.asked.Asked.{Asked}
+use Rattle.swift_requests.specs.declared.asked.Asked.TheVariants.{Unfed}
+use Rattle.swift_requests.specs.declared.asked.UnfedCommand.TheVariants.{Get}
 use Rattle.task_words.specs.declared.command.GetCommand.{GetCommand}
 use Rattle.task_words.specs.declared.outcome.Outcome.{Outcome}
 use Rattle.task_words.specs.declared.outcome.Outcome.TheVariants.{Done, LateRead}
@@ -36,8 +38,11 @@ use Rattle.request_service.specs.Gets.{brought_at, whole_by, whole_at}
 use Rattle.request_service.specs.Requests.{Question, site_of, HasBytes, MayEnd, GoesOn, EndsSo, ShowsFront}
 use Rattle.request_service.specs.OwnReads.{means_reads, stage_reads, misses_stripe}
 
+abbrev asked_get : GetCommand → Asked
+asked_get c = Unfed (Get c)
+
 abbrev asks : GetRequest → Question
-asks r = record { zone = r.zone; asker = r.asker; asked = Get r.get }
+asks r = record { zone = r.zone; asker = r.asker; asked = asked_get r.get }
 
 -- ---- also where nothing is told
 
@@ -58,7 +63,7 @@ goes_on t u steps sound = (steps.sound sound, record { shows = steps.shown sound
 pub first : (t u : GetTask) → Steps t u → stage_of t ≡ Look → bytes_of u ≡ []
 first t u steps looks = (steps.looked looks).1
 
-shown_has : (c : GetCommand) (reply : MapReply) → IsShown reply → HasBytes (Get c) reply
+shown_has : (c : GetCommand) (reply : MapReply) → IsShown reply → HasBytes (asked_get c) reply
 shown_has c (Shown kind meta etag stamp size start count) is = tt
 shown_has c reply is = absurd is
 
@@ -71,7 +76,7 @@ stage_shows (Ended outcome given) reply sound is = absurd sound
 stage_shows (Late x (LateRead read_at clock)) reply sound is = let same : x.reply ≡ reply = cc in subst IsShown same sound
 stage_shows (Late x outcome) reply sound is = absurd sound
 
-pub shows : (t : GetTask) (reply : MapReply) → IsSound (stage_of t) → shown_of t ≡ Some reply → HasBytes (Get (request_of t).get) reply
+pub shows : (t : GetTask) (reply : MapReply) → IsSound (stage_of t) → shown_of t ≡ Some reply → HasBytes (asked_get (request_of t).get) reply
 shows t reply sound is = shown_has (request_of t).get reply (stage_shows (stage_of t) reply sound is)
 
 -- ---- how it ends
@@ -89,10 +94,10 @@ by_event (Refused OtherEtag) is = absurd is
 by_event (Refused refusal) is = refl
 by_event reply is = absurd is
 
-stage_ends : (c : GetCommand) (stage : Stage) (outcome : Outcome) → IsSound stage → ended_in stage ≡ Some outcome → MayEnd (Get c) (shown_by stage) outcome
+stage_ends : (c : GetCommand) (stage : Stage) (outcome : Outcome) → IsSound stage → ended_in stage ≡ Some outcome → MayEnd (asked_get c) (shown_by stage) outcome
 stage_ends c (Ended (Done reply) given) outcome sound is =
     let same : Done reply ≡ outcome = cc in
-    subst (MayEnd (Get c) (shown_by (Ended (Done reply) given))) same (record {
+    subst (MayEnd (asked_get c) (shown_by (Ended (Done reply) given))) same (record {
       has_reply = has_reply c reply sound;
       by_event = by_event reply sound;
       is_shown = λ shown there. ap (λ (r : MapReply). Done r) (shown_reply reply shown there).0;
@@ -100,11 +105,11 @@ stage_ends c (Ended (Done reply) given) outcome sound is =
 stage_ends c (Ended end given) outcome sound is = absurd sound
 stage_ends c (Late x (LateRead read_at clock)) outcome sound is =
     let same : LateRead read_at clock ≡ outcome = cc in
-    subst (MayEnd (Get c) (Some x.reply)) same tt
+    subst (MayEnd (asked_get c) (Some x.reply)) same tt
 stage_ends c (Late x end) outcome sound is = absurd sound
 stage_ends c stage outcome sound is = cc
 
-pub may_end : (t : GetTask) (outcome : Outcome) → IsSound (stage_of t) → ended_in (stage_of t) ≡ Some outcome → MayEnd (Get (request_of t).get) (shown_of t) outcome
+pub may_end : (t : GetTask) (outcome : Outcome) → IsSound (stage_of t) → ended_in (stage_of t) ≡ Some outcome → MayEnd (asked_get (request_of t).get) (shown_of t) outcome
 may_end t outcome sound is = stage_ends (request_of t).get (stage_of t) outcome sound is
 
 -- ---- bytes
@@ -128,13 +133,13 @@ rests_on_event r reply y is rests = absurd is
 
 -- it is borne out where these bytes are shown
 borne_by_event : (stripe : ℕ) (r : GetRequest) (reply : MapReply) (y : Account) (events : List OwnEvent) (bytes body : List ℕ) (event : Decided) → IsShown reply → IsGetOutcome r.zone r.asker r.get (Done reply) y → y.decided ≡ Some event → bytes ≡ shown_at r event → AreOfGet events
-    → IsBorneOut stripe r.zone r.asker (Get r.get) read_whole body (Done reply) bytes y events
+    → IsBorneOut stripe r.zone r.asker (asked_get r.get) read_whole body (Done reply) bytes y events
 borne_by_event stripe r (Shown kind meta etag stamp size start count) y events bytes body event is rests decided are read =
     ((rests, tt), tt, record { event = event; is_last = decided; bytes = are }, read)
 borne_by_event stripe r reply y events bytes body event is rests decided are read = absurd is
 
 pub front : (t : GetTask) (settings : SettingsView) (d : DoorView) (reply : MapReply) → Fits t settings d → shown_of t ≡ Some reply
-    → ShowsFront (site_of settings (asks (request_of t))) (Get (request_of t).get) reply (brought_at (request_of t) d) (whole_at (request_of t) settings d) d
+    → ShowsFront (site_of settings (asks (request_of t))) (asked_get (request_of t).get) reply (brought_at (request_of t) d) (whole_at (request_of t) settings d) d
 front t settings d reply fits is =
     let r = request_of t in
     let y = account_at settings d in
@@ -150,7 +155,7 @@ front t settings d reply fits is =
     }
 
 done_borne : (stripe : ℕ) (r : GetRequest) (reply : MapReply) (given : ℕ) (y : Account) (p : Phase) (events : List OwnEvent) (body : List ℕ) → IsGetReply reply → FitsStage r (Ended (Done reply) given) y p events
-    → IsBorneOut stripe r.zone r.asker (Get r.get) read_whole body (Done reply) (brought r.get events) y events
+    → IsBorneOut stripe r.zone r.asker (asked_get r.get) read_whole body (Done reply) (brought r.get events) y events
 done_borne stripe r (Shown kind meta etag stamp size start count) given y p events body is fits =
     let by = fits.0.0.0 in
     ((fits.0.0, tt), tt, record { event = by.event; is_last = by.is_last; bytes = fits.0.1.1 by.event by.is_last }, means_reads r (Done (Shown kind meta etag stamp size start count)) y events fits.0)
@@ -160,27 +165,27 @@ done_borne stripe r (Refused refusal) given y p events body is fits =
     ((fits.0.0, tt), tt, none_brought r (Ended (Done (Refused refusal)) given) y p events fits refl, means_reads r (Done (Refused refusal)) y events fits.0)
 done_borne stripe r reply given y p events body is fits = absurd is
 
-stage_right : (r : GetRequest) (stage : Stage) (settings : SettingsView) (d : DoorView) (outcome : Outcome) → IsSound stage → FitsStage r stage (account_at settings d) (phase_at settings d) (events_at d) → ended_in stage ≡ Some outcome → EndsSo (site_of settings (asks r)) (Get r.get) (brought_at r d) d outcome
+stage_right : (r : GetRequest) (stage : Stage) (settings : SettingsView) (d : DoorView) (outcome : Outcome) → IsSound stage → FitsStage r stage (account_at settings d) (phase_at settings d) (events_at d) → ended_in stage ≡ Some outcome → EndsSo (site_of settings (asks r)) (asked_get r.get) (brought_at r d) d outcome
 stage_right r (Ended (Done reply) given) settings d outcome sound fits is =
     let same : Done reply ≡ outcome = cc in
-    subst (EndsSo (site_of settings (asks r)) (Get r.get) (brought_at r d) d) same
+    subst (EndsSo (site_of settings (asks r)) (asked_get r.get) (brought_at r d) d) same
     (λ body. done_borne settings.stripe r reply given (account_at settings d) (phase_at settings d) (events_at d) body sound fits)
 stage_right r (Ended end given) settings d outcome sound fits is = absurd sound
 stage_right r (Late x (LateRead read_at clock)) settings d outcome sound fits is =
     let same : LateRead read_at clock ≡ outcome = cc in
-    subst (EndsSo (site_of settings (asks r)) (Get r.get) (brought_at r d) d) same
+    subst (EndsSo (site_of settings (asks r)) (asked_get r.get) (brought_at r d) d) same
     (misses_stripe r read_at clock (account_at settings d) (events_at d) fits.0)
 stage_right r (Late x end) settings d outcome sound fits is = absurd sound
 stage_right r stage settings d outcome sound fits is = cc
 
 pub right : (t : GetTask) (settings : SettingsView) (d : DoorView) (outcome : Outcome) → IsSound (stage_of t) → Fits t settings d → ended_in (stage_of t) ≡ Some outcome
-    → EndsSo (site_of settings (asks (request_of t))) (Get (request_of t).get) (brought_at (request_of t) d) d outcome
+    → EndsSo (site_of settings (asks (request_of t))) (asked_get (request_of t).get) (brought_at (request_of t) d) d outcome
 right t settings d outcome sound fits is = stage_right (request_of t) (stage_of t) settings d outcome sound fits.stage is
 
 -- ---- behind a body that broke off
 
 early_borne : (stripe : ℕ) (r : GetRequest) (why : BodyEnd) (stage : Stage) (y : Account) (p : Phase) (events : List OwnEvent) → IsWrong why → IsBehindRow stage → FitsStage r stage y p events
-    → IsBorneOut stripe r.zone r.asker (Get r.get) (broken_off why) [] (early_end (ended_in stage)) [] y events
+    → IsBorneOut stripe r.zone r.asker (asked_get r.get) (broken_off why) [] (early_end (ended_in stage)) [] y events
 early_borne stripe r why (Open container) y p events wrong behind fits = (
   (
     record {
@@ -208,6 +213,6 @@ early_borne stripe r why (Ended (Done (Refused NoContainer)) given) y p events w
 early_borne stripe r why stage y p events wrong behind fits = absurd behind
 
 pub early : (t u : GetTask) (settings : SettingsView) (e : DoorView) (why : BodyEnd) → stage_of t ≡ Look → Steps t u → false ≡ false → Fits u settings e → IsWrong why
-    → BearsOut (site_of settings (asks (request_of u))) (Get (request_of u).get) (broken_off why) [] (early_end (ended_in (stage_of u))) [] e
+    → BearsOut (site_of settings (asks (request_of u))) (asked_get (request_of u).get) (broken_off why) [] (early_end (ended_in (stage_of u))) [] e
 early t u settings e why looks steps going fits wrong =
     early_borne settings.stripe (request_of u) why (stage_of u) (account_at settings e) (phase_at settings e) (events_at e) wrong (steps.looked looks).0 fits.stage

@@ -4,3 +4,5 @@ pub mod Early
 pub mod Gets
 pub mod OwnReads
 pub mod GetLaws
+pub mod Listings
+pub mod ListLaws

@@ -5,7 +5,8 @@ use Rattle.realm_model.specs.Doors.{DoorView}
 use Rattle.realm_model.specs.Settings.{SettingsView}
 use Rattle.swift_reply.specs.declared.reply.SwiftReply.{SwiftReply}
 use Rattle.swift_requests.specs.declared.asked.Asked.{Asked}
-use Rattle.swift_requests.specs.declared.asked.Asked.TheVariants.{BadHost, Refused, Put, Get, Listing}
+use Rattle.swift_requests.specs.declared.asked.Asked.TheVariants.{BadHost, Refused, Put, Unfed}
+use Rattle.swift_requests.specs.declared.asked.UnfedCommand.TheVariants.{Get, Listing}
 use Rattle.task_words.specs.declared.asker.Asker.{Asker}
 use Rattle.task_words.specs.declared.outcome.Outcome.{Outcome}
 use Rattle.task_words.specs.declared.outcome.Outcome.TheVariants.{Done, LateRead}
@@ -29,10 +30,8 @@ site_of settings q = record { settings = settings; zone = q.zone; asker = q.aske
 
 -- it has a task, which wants no body
 abbrev pub IsUnfed : Asked → Type 0
-IsUnfed BadHost = ⊥
-IsUnfed (Refused why) = ⊥
-IsUnfed (Put c) = ⊥
-IsUnfed asked = Unit {0}
+IsUnfed (Unfed u) = Unit {0}
+IsUnfed asked = ⊥
 
 -- ---- replies
 
@@ -41,8 +40,8 @@ abbrev pub reply_by : Asked → Fate → Outcome → Option SwiftReply
 reply_by BadHost fate outcome = None
 reply_by (Refused why) fate outcome = None
 reply_by (Put c) fate outcome = told_reply None fate outcome
-reply_by (Get c) fate outcome = told_reply (span_of c) fate outcome
-reply_by (Listing c listing) fate outcome = told_list listing fate outcome
+reply_by (Unfed (Get c)) fate outcome = told_reply (span_of c) fate outcome
+reply_by (Unfed (Listing c listing)) fate outcome = told_list listing fate outcome
 
 -- its text behind a whole body, but for bytes of an object
 abbrev pub text_at : ReplyForm → Asked → Outcome → List ℕ
@@ -50,7 +49,7 @@ text_at form asked outcome = text_by form asked read_whole (task 0 outcome) []
 
 -- bytes of an object may follow that of this reply
 abbrev pub HasBytes : Asked → MapReply → Type 0
-HasBytes (Get c) (Shown kind meta etag stamp size start count) = Unit {0}
+HasBytes (Unfed (Get c)) (Shown kind meta etag stamp size start count) = Unit {0}
 HasBytes asked reply = ⊥
 
 -- the same, of the reply whose bytes come

@@ -22,14 +22,15 @@ fn span_in(request: &GetRequest) -> Option<Span>
 
 impl Request for GetTask {
     ghost use Rattle.std.specs.Prelude.{◌≡◌, false};
-    ghost use Rattle.swift_requests.specs.declared.asked.Asked.TheVariants.{Get};
+    ghost use Rattle.swift_requests.specs.declared.asked.Asked.TheVariants.{Unfed};
+    ghost use Rattle.swift_requests.specs.declared.asked.UnfedCommand.TheVariants.{Get};
     ghost use Rattle.task_get.specs.Stages.{IsSound, ended_in};
     ghost use Rattle.task_get.specs.declared.stage.Stage.TheVariants.{Look};
     ghost use Rattle.task_get.specs.Tasks.{stage_of, shown_of};
     ghost use Rattle.request_service.specs.Gets.{brought_at, whole_at};
     ghost use Rattle.request_service.specs.GetLaws.{onward, begun, goes_on, first, shows, may_end, unbrought, brings, front, right, early};
 
-    ghost question = { λ r. record { zone = r.zone; asker = r.asker; asked = Get r.get } };
+    ghost question = { λ r. record { zone = r.zone; asker = r.asker; asked = Unfed (Get r.get) } };
 
     ghost begins = { λ t. stage_of t ≡ Look };
 

@@ -2,10 +2,14 @@
 //! from the task to the sink as they come, and the reply is written. What requests differ in is a `Request`.
 #![tactic(auto)]
 
+mod command;
 mod get;
+mod listing;
 mod request;
 mod serve;
 mod write;
 
+pub use command::serve_command;
+pub use listing::Listing;
 pub use request::Request;
 pub use serve::serve_unfed;

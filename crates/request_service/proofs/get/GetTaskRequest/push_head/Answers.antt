@@ -1,6 +1,7 @@
 use Rattle.std.proofs.Common.{rules, ◌≡◌, ◌++◌, List, ℕ, Some, sym, ap, ◌∙◌}
 use Rattle.std.proofs.lemmas.Result.{on_ok_weaker}
-use Rattle.swift_requests.specs.declared.asked.Asked.TheVariants.{Get}
+use Rattle.swift_requests.specs.declared.asked.Asked.TheVariants.{Unfed}
+use Rattle.swift_requests.specs.declared.asked.UnfedCommand.TheVariants.{Get}
 use Rattle.task_words.specs.declared.outcome.Outcome.TheVariants.{Done}
 use Rattle.task_words.specs.Answers.{span_of}
 use Rattle.task_get.specs.declared.request.GetRequest.{GetRequest}
@@ -16,5 +17,5 @@ returns c =
     let span = c.span_in.ensures ∙ ap (λ (r : GetRequest). span_of r.get) c.request.ensures in
     let shown : shown_of c.args.self.now ≡ Some reply = search rules in
     on_ok_weaker c.push_map_reply.result
-    (λ grown. grown ∙ ap (λ (l : List ℕ). c.args.out.now.items ++ l) (get_text c.args.form r.get c.span_in.result (Done reply) span ∙ sym (ap (shown_text c.args.form (Get r.get)) shown)))
+    (λ grown. grown ∙ ap (λ (l : List ℕ). c.args.out.now.items ++ l) (get_text c.args.form r.get c.span_in.result (Done reply) span ∙ sym (ap (shown_text c.args.form (Unfed (Get r.get))) shown)))
     c.push_map_reply.ensures
