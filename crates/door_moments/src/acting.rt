@@ -1,7 +1,7 @@
 //! The events of a task, made at the moments that a clock tells.
 ghost use Rattle.std.specs.Prelude.{◌≡◌, ◌⊎◌, ◌<◌, ◌≤◌, ◌^◌, true, false, None, length, OnOk, OnErr, IfErr};
 ghost use Rattle.turn_cell.specs.declared.machine.DoorFault.TheVariants.{Worn};
-ghost use Rattle.door_moments.specs.Acts.{Asks, IsUpTo, IsUnderWay};
+ghost use Rattle.door_moments.specs.Acts.{Asks, IsUpTo, IsUnderWay, MakesSome};
 
 use gw_io::Clock;
 use realm_door::{Door, EventTask, Next, Staged, Stepping, Task};
@@ -24,7 +24,8 @@ pub fn act<T: EventTask, D: Door, C: Clock>(
         (D.told door.old) (D.told door.new) (C.told clock.old) (C.told clock.new)) }
     ensures unasked { OnErr result (Asks D.tells D.alone (D.settings door.old) true
         (D.told door.old) (D.told door.new) (C.told clock.old) (C.told clock.new)) }
-    ensures stopped { OnErr result (D.tells → D.told door.new ≡ D.told door.old) }
+    ensures made { OnOk result (D.tells → MakesSome (D.settings door.old) (D.told door.old) (D.told door.new)) }
+    ensures stays { OnErr result (D.tells → D.told door.new ≡ D.told door.old) }
     ensures worn { IfErr result (λ f. D.tells → f ≡ Worn → length (D.found door.new) ≡ 2 ^ 62) }
     ensures steps { OnOk result (T.steps task.old task.new) }
     ensures counts { OnOk result ((D.last door.old < D.last door.new) × (D.last door.new ≤ 2 ^ 62)) }

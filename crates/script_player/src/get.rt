@@ -6,7 +6,7 @@ ghost use Rattle.script_player.specs.Plays.{IsBegun, asked_get, GetStands, GetEn
 use crate::asker::standard_asker;
 use crate::play::{EndingPlay, Play};
 use object_words::{BucketName, Conditions, ObjectName};
-use realm_door::{Door, Task};
+use realm_door::{Door, EventTask, Staged, Stepping, Task};
 use std::alloc::{AllocError, Global};
 use task_get::{GetRequest, GetTask};
 use task_words::{GetCommand, Outcome};
@@ -15,7 +15,7 @@ use turn_cell::DoorFault;
 /// A GET, and the bytes that its events brought.
 #[derive(Drop)]
 pub(crate) struct GetPlay {
-    task: GetTask,
+    task: Stepping<GetTask>,
     shown: Vec<u8>,
 }
 
@@ -47,7 +47,7 @@ impl GetPlay {
             get,
         };
         Ok(GetPlay {
-            task: GetTask::new(request),
+            task: Stepping::new(GetTask::new(request)),
             shown: Vec::new(alloc),
         })
     }
@@ -74,7 +74,7 @@ impl Play for GetPlay {
     /// Keeps the bytes that the event brings.
     fn act<D: Door>(&mut self, alloc: Global, door: &mut D, moment: u64) -> Result<(), DoorFault> {
         self.task.event(alloc, door, moment)?;
-        if self.shown.extend_from_slice(self.task.piece()).is_err() {
+        if self.shown.extend_from_slice(self.task.stages.piece()).is_err() {
             return Err(DoorFault::OutOfMemory);
         }
         Ok(())
