@@ -9,12 +9,11 @@ use Rattle.realm_model.specs.Histories.{Legal, account_of}
 use Rattle.realm_model.specs.Owns.{own_events}
 use Rattle.realm_model.specs.Settings.{SettingsView}
 use Rattle.realm_model.specs.declared.event.Event.{Event}
-use Rattle.door_moments.specs.Acts.{Asks}
-use Rattle.job_words.specs.declared.job.Job.{Job}
-use Rattle.job_words.specs.declared.job.Job.TheVariants.{Check}
-use Rattle.job_words.specs.declared.outcome.JobOutcome.{JobOutcome}
+use Rattle.door_moments.specs.Acts.{Asks, IsUnderWay}
+use Rattle.task_words.specs.declared.job.Job.{Job}
+use Rattle.task_words.specs.declared.job.Job.TheVariants.{Check}
+use Rattle.task_words.specs.declared.job.JobOutcome.{JobOutcome}
 use Rattle.task_repair.specs.declared.request.RepairRequest.{RepairRequest}
-use Rattle.task_repair.specs.declared.task.RepairTask.{RepairTask}
 use Rattle.task_repair.specs.Repairs.{IsRepairOutcome}
 use Rattle.task_repair.specs.Tasks.{request_of, fits}
 
@@ -39,9 +38,9 @@ pub record IsNew (settings : SettingsView) (d : DoorView) : Type 0 where
 
 -- ---- faults
 
--- the own events of the door's actor are those of the job so far: a repair stands where they bring it
+-- the own events of the door's actor are those of the job so far
 abbrev pub GoesOn : ℕ → Job → SettingsView → DoorView → Type 0
-GoesOn zone (Check container) settings d = (t : RepairTask) × (request_of t ≡ repair_of zone container) × fits t settings d
+GoesOn zone (Check container) settings d = IsUnderWay request_of fits (repair_of zone container) settings d
 
 -- the events up to a fault, those of the job so far, and the moments for them; the clock may have been asked for the event
 -- that did not come. The realm is worn only where the door's last step found as many events as there may be

@@ -4,10 +4,10 @@ ghost use Rattle.door_moments.specs.Acts.{Asks};
 
 use door_moments::act_to_end;
 use gw_io::Clock;
-use job_words::{Job, JobOutcome};
-use realm_door::{Door, Task};
+use realm_door::{Door, Stepping, Task};
 use std::alloc::Global;
 use task_repair::RepairTask;
+use task_words::{Job, JobOutcome};
 use turn_cell::DoorFault;
 
 /// Runs a job in a zone, as the door's present actor, which made no event. The clock is asked once for each event, and
@@ -39,7 +39,7 @@ pub fn run_job<D: Door, C: Clock>(
     let Ok(bucket) = container.clone() else {
         return Err(DoorFault::OutOfMemory);
     };
-    let mut task = RepairTask::new(zone, bucket);
+    let mut task = Stepping::new(RepairTask::new(zone, bucket));
     let acted = act_to_end(alloc, &mut task, door, clock);
     let outcome = task.outcome().copied();
     drop(task);

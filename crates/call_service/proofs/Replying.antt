@@ -12,7 +12,8 @@ use Rattle.realm_model.specs.Owns.{OwnEvent, own_events}
 use Rattle.realm_model.specs.declared.event.Event.{Event}
 use Rattle.swift_reply.specs.declared.reply.ListingForm.{ListingForm}
 use Rattle.swift_requests.specs.declared.asked.Asked.{Asked}
-use Rattle.swift_requests.specs.declared.asked.Asked.TheVariants.{BadHost, Refused, Put, Get, Listing}
+use Rattle.swift_requests.specs.declared.asked.Asked.TheVariants.{BadHost, Refused, Put, Unfed}
+use Rattle.swift_requests.specs.declared.asked.UnfedCommand.TheVariants.{Get, Listing}
 use Rattle.swift_requests.specs.declared.body.BodyUse.{BodyUse}
 use Rattle.swift_requests.specs.Bodies.{is_unread}
 use Rattle.task_words.specs.declared.asker.Asker.{Asker}
@@ -44,8 +45,8 @@ pub any_actor : (form : ReplyForm) (asked : Asked) (fate : Fate) (outcome : Outc
 any_actor form BadHost fate outcome shown a b = refl
 any_actor form (Refused why) fate outcome shown a b = refl
 any_actor form (Put c) fate outcome shown a b = refl
-any_actor form (Get c) fate outcome shown a b = refl
-any_actor form (Listing c listing) fate outcome shown a b = refl
+any_actor form (Unfed (Get c)) fate outcome shown a b = refl
+any_actor form (Unfed (Listing c listing)) fate outcome shown a b = refl
 
 -- a form that closes the connection is that behind a body that is left
 pub shut_form : (form : ReplyForm) → form.close ≡ true → form ≡ form_at form unread
@@ -65,8 +66,8 @@ left_text : (form : ReplyForm) (asked : Asked) (outcome : Outcome) (shown : List
 left_text form BadHost outcome shown a is = refl
 left_text form (Refused why) outcome shown a is = refl
 left_text form (Put c) outcome shown a is = ap (λ r. text_if form r []) (told_same None outcome is)
-left_text form (Get c) outcome shown a is = ap (λ r. text_if form r shown) (told_same (span_of c) outcome is)
-left_text form (Listing c listing) outcome shown a is = ap (λ r. text_if form r []) (listed_same listing outcome is)
+left_text form (Unfed (Get c)) outcome shown a is = ap (λ r. text_if form r shown) (told_same (span_of c) outcome is)
+left_text form (Unfed (Listing c listing)) outcome shown a is = ap (λ r. text_if form r []) (listed_same listing outcome is)
 
 fate_text : (form : ReplyForm) (asked : Asked) (fate : Fate) (outcome : Outcome) (shown : List ℕ) (a b : ℕ) → is_broken fate ≡ false → is_by_end outcome ≡ false → text_by form asked read_whole (task a outcome) shown ≡ text_by form asked fate (task b outcome) shown
 fate_text form asked read_whole outcome shown a b whole is = any_actor form asked read_whole outcome shown a b
@@ -78,10 +79,10 @@ module _ (stripe zone : ℕ) (asker : Asker) (body shown : List ℕ) (y : Accoun
   left_borne BadHost outcome unwanted is borne = absurd borne
   left_borne (Refused why) outcome unwanted is borne = absurd borne
   left_borne (Put c) outcome unwanted is borne = absurd unwanted
-  left_borne (Get c) BodyFailed unwanted is borne = let clash : true ≡ false = is in absurd (cc)
-  left_borne (Get c) outcome unwanted is borne = borne
-  left_borne (Listing c listing) BodyFailed unwanted is borne = let clash : true ≡ false = is in absurd (cc)
-  left_borne (Listing c listing) outcome unwanted is borne = borne
+  left_borne (Unfed (Get c)) BodyFailed unwanted is borne = let clash : true ≡ false = is in absurd (cc)
+  left_borne (Unfed (Get c)) outcome unwanted is borne = borne
+  left_borne (Unfed (Listing c listing)) BodyFailed unwanted is borne = let clash : true ≡ false = is in absurd (cc)
+  left_borne (Unfed (Listing c listing)) outcome unwanted is borne = borne
 
   fate_borne : (asked : Asked) (fate : Fate) (outcome : Outcome) → IsUnwanted asked → is_broken fate ≡ false → is_by_end outcome ≡ false → IsBorneOut stripe zone asker asked read_whole body outcome shown y events → IsBorneOut stripe zone asker asked fate body outcome shown y events
   fate_borne asked read_whole outcome unwanted whole is borne = borne

@@ -18,7 +18,8 @@ use Rattle.realm_model.specs.declared.event.Reply.TheVariants.{No}
 use Rattle.object_words.specs.declared.why.Why.TheVariants.{Gone}
 use Rattle.door_moments.specs.Acts.{Asks}
 use Rattle.swift_requests.specs.declared.asked.Asked.{Asked}
-use Rattle.swift_requests.specs.declared.asked.Asked.TheVariants.{BadHost, Refused, Put, Get, Listing}
+use Rattle.swift_requests.specs.declared.asked.Asked.TheVariants.{BadHost, Refused, Put, Unfed}
+use Rattle.swift_requests.specs.declared.asked.UnfedCommand.TheVariants.{Get, Listing}
 use Rattle.task_words.specs.declared.asker.Asker.{Asker}
 use Rattle.task_words.specs.declared.outcome.Outcome.{Outcome}
 use Rattle.task_words.specs.declared.outcome.Outcome.TheVariants.{Done, BodyFailed, LateRead}
@@ -184,8 +185,8 @@ abbrev pub IsLateIn : Site → Asked → DoorView → ℕ → ℕ → Type 0
 IsLateIn site BadHost e read_at clock = ⊥
 IsLateIn site (Refused why) e read_at clock = ⊥
 IsLateIn site (Put c) e read_at clock = ⊥
-IsLateIn site (Listing c listing) e read_at clock = ⊥
-IsLateIn site (Get c) e read_at clock =
+IsLateIn site (Unfed (Listing c listing)) e read_at clock = ⊥
+IsLateIn site (Unfed (Get c)) e read_at clock =
     IsGetOutcome site.zone site.asker c (LateRead read_at clock) (account_of site.settings e.seen (actor_at e))
     × MissesStripe clock (own_events e.seen (actor_at e))
 

@@ -17,7 +17,8 @@ use Rattle.swift_reply.specs.Replies as swift
 use Rattle.swift_auth.specs.declared.policy.Deed.{Deed}
 use Rattle.swift_auth.specs.declared.policy.Deed.TheVariants.{ListContainer}
 use Rattle.swift_requests.specs.declared.asked.Asked.{Asked}
-use Rattle.swift_requests.specs.declared.asked.Asked.TheVariants.{BadHost, Refused, Put, Get, Listing}
+use Rattle.swift_requests.specs.declared.asked.Asked.TheVariants.{BadHost, Refused, Put, Unfed}
+use Rattle.swift_requests.specs.declared.asked.UnfedCommand.TheVariants.{Get, Listing}
 use Rattle.task_words.specs.declared.asker.Asker.{Asker}
 use Rattle.task_words.specs.declared.command.GetCommand.{GetCommand}
 use Rattle.task_words.specs.declared.command.BodyEnd.TheVariants.{Whole, Failed}
@@ -28,6 +29,7 @@ use Rattle.task_words.specs.declared.reply.Refusal.TheVariants.{Unauthorized, De
 use Rattle.task_words.specs.Answers.{get, answer, deed_of, span_of}
 use Rattle.task_words.specs.Cuts.{AreCut}
 use Rattle.task_words.specs.Outcomes.{Body, Granted, IsGetOutcome, IsPutOutcome}
+use Rattle.task_put.specs.Orders.{path_of, IsFinished}
 use Rattle.task_list.specs.Listed.{IsListOutcome, AreOfListing}
 use Rattle.task_list.specs.declared.request.ListRequest.{ListRequest}
 use Rattle.call_words.specs.Bodies.{Fate, read_whole, broken_off, unread}
@@ -58,10 +60,9 @@ text_by form BadHost fate ground shown = bad_request_text form Host
 text_by form (Refused why) fate ground shown = swift.reply_text form (Swift.Refused why) []
 text_by form (Put c) fate alone shown = []
 text_by form (Put c) fate (task actor outcome) shown = text_if form (told_reply None fate outcome) []
-text_by form (Get c) fate alone shown = []
-text_by form (Get c) fate (task actor outcome) shown = text_if form (told_reply (span_of c) fate outcome) shown
-text_by form (Listing c listing) fate alone shown = []
-text_by form (Listing c listing) fate (task actor outcome) shown = text_if form (told_list listing fate outcome) []
+text_by form (Unfed (Get c)) fate (task actor outcome) shown = text_if form (told_reply (span_of c) fate outcome) shown
+text_by form (Unfed u) fate alone shown = []
+text_by form (Unfed (Listing c listing)) fate (task actor outcome) shown = text_if form (told_list listing fate outcome) []
 
 abbrev pub call_text : ReplyForm → Call → List ℕ
 call_text form call = text_by form call.asked call.fate call.ground call.shown
@@ -123,17 +124,17 @@ IsCutBy stripe zone (broken_off why) body events = (came : List ℕ) × AreCut z
 IsCutBy stripe zone fate body events = AreCut zone stripe body events
 
 -- the account and the events of an actor bear the end of its task out, and the events are those that such a task makes, of
--- stripes of this size
+-- stripes of this size; those of a PUT came in their order, and to its end
 abbrev pub IsBorneOut : ℕ → ℕ → Asker → Asked → Fate → List ℕ → Outcome → List ℕ → Account → List OwnEvent → Type 0
 IsBorneOut stripe zone asker BadHost fate body outcome shown y events = ⊥
 IsBorneOut stripe zone asker (Refused why) fate body outcome shown y events = ⊥
 IsBorneOut stripe zone asker (Put c) fate body outcome shown y events =
     IsPutOutcome zone asker c (body_at fate body) outcome y events × HasReply (told_reply None fate outcome) × (shown ≡ []) × AreOfPut events
-    × IsCutBy stripe zone fate body events
-IsBorneOut stripe zone asker (Get c) fate body outcome shown y events =
+    × IsCutBy stripe zone fate body events × IsFinished (path_of events)
+IsBorneOut stripe zone asker (Unfed (Get c)) fate body outcome shown y events =
     IsGetEnd zone asker c fate outcome y × HasReply (told_reply (span_of c) fate outcome) × AreShownBy zone c outcome shown y.decided
     × AreOfGet events
-IsBorneOut stripe zone asker (Listing c listing) fate body outcome shown y events =
+IsBorneOut stripe zone asker (Unfed (Listing c listing)) fate body outcome shown y events =
     IsListEnd (record { zone = zone; asker = asker; command = c }) fate outcome y events × HasReply (told_list listing fate outcome)
     × (shown ≡ []) × AreOfListing events
 
@@ -142,8 +143,7 @@ abbrev pub IsRefused : Asked → Type 0
 IsRefused BadHost = Unit {0}
 IsRefused (Refused why) = Unit {0}
 IsRefused (Put c) = ⊥
-IsRefused (Get c) = ⊥
-IsRefused (Listing c listing) = ⊥
+IsRefused (Unfed u) = ⊥
 
 -- what a reply rests on is so in a history
 abbrev pub RestsOn : SettingsView → ℕ → Asker → ℕ → List Event → Asked → Fate → List ℕ → List ℕ → Ground → Type 0

@@ -6,11 +6,8 @@ ghost use Rattle.object_words.specs.ShardCalls.{cancelled, complete_refusal};
 ghost use Rattle.class_words.specs.Shards.{IsShard, IsSmall};
 ghost use Rattle.class_words.specs.Works.{Works};
 
-use crate::header::{check_changes, header_at};
-use crate::rows::take_tag;
 use crate::settling::{bytes_of, keep_row};
-use crate::tags::find_tag;
-use index_entry::EntryFront;
+use crate::taking::take_change;
 use object_pool::Place;
 use object_words::{ObjectName, Why};
 
@@ -21,17 +18,7 @@ pub fn cancel(shard: &mut Place<'_>, name: &ObjectName, tag: u64) -> Result<(), 
     ensures answers { (s : ShardOf) → IsShard (object_of shard.old) s → IsSmall s
         → Replies result (complete_refusal s name.now tag) (λ _. Unit {0}) (IsShard (object_of shard.new)) (cancelled s name.now tag) }
 {
-    let header = header_at(shard);
-    check_changes(&header)?;
-    let text = bytes_of(name);
-    let Some((front, place)) = find_tag(shard, text, tag) else {
-        return Err(Why::NoTag);
-    };
-    take_tag(shard, text, &front, place);
-    let left = EntryFront {
-        tags: front.tags - 1,
-        ..front
-    };
-    keep_row(shard, text, &header, &left, 1);
+    let (header, left) = take_change(shard, name, tag)?;
+    keep_row(shard, bytes_of(name), &header, &left, 1);
     Ok(())
 }

@@ -6,11 +6,8 @@ ghost use Rattle.object_words.specs.ShardCalls.{complete_refusal, completed};
 ghost use Rattle.class_words.specs.Shards.{IsShard, IsSmall};
 ghost use Rattle.class_words.specs.Works.{Works};
 
-use crate::header::{check_changes, header_at};
-use crate::rows::take_tag;
-use crate::settling::{bytes_of, settle};
-use crate::tags::find_tag;
-use index_entry::EntryFront;
+use crate::settling::settle;
+use crate::taking::take_change;
 use object_pool::Place;
 use object_words::{EntryRow, ObjectName, Why};
 
@@ -28,17 +25,7 @@ pub fn complete(
     ensures answers { (s : ShardOf) → IsShard (object_of shard.old) s → IsSmall s
         → Replies result (complete_refusal s name.now tag) (λ _. Unit {0}) (IsShard (object_of shard.new)) (completed s name.now tag version row.now) }
 {
-    let header = header_at(shard);
-    check_changes(&header)?;
-    let text = bytes_of(name);
-    let Some((front, place)) = find_tag(shard, text, tag) else {
-        return Err(Why::NoTag);
-    };
-    take_tag(shard, text, &front, place);
-    let left = EntryFront {
-        tags: front.tags - 1,
-        ..front
-    };
+    let (header, left) = take_change(shard, name, tag)?;
     settle(shard, name, &header, &left, 1, version, row);
     Ok(())
 }

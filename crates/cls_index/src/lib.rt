@@ -12,6 +12,7 @@ mod settling;
 mod statistics;
 mod suggesting;
 mod tags;
+mod taking;
 
 pub use cancelling::cancel;
 pub use completing::complete;

@@ -9,10 +9,19 @@ use Rattle.realm_model.specs.Settings.{SettingsView}
 use Rattle.realm_model.specs.Worlds.{actor_of, same_actor}
 use Rattle.realm_model.specs.declared.event.Event.{Event}
 use Rattle.realm_door.specs.Steps.{Grows}
+use Rattle.realm_door.specs.Turns.{MakesEvent}
 
 -- a task stands where the events of the door's actor bring it
 abbrev pub IsUpTo : {A : Type 0} → (A → SettingsView → DoorView → Type 0) → Type 0 → SettingsView → A → DoorView → Type 0
 IsUpTo fits tells settings task d = tells → Legal settings d.seen × fits task settings d
+
+-- the events of the door's actor are those of a task that is asked so, as far as it came
+abbrev pub IsUnderWay : {A C : Type 0} → (A → C) → (A → SettingsView → DoorView → Type 0) → C → SettingsView → DoorView → Type 0
+IsUnderWay {A} command fits asked settings d = (task : A) × (command task ≡ asked) × fits task settings d
+
+-- one event of the present actor at some moment, and none by another of the pass
+abbrev pub MakesSome : SettingsView → DoorView → DoorView → Type 0
+MakesSome settings d e = (moment : ℕ) × MakesEvent settings moment d e
 
 -- the moments of an actor's events
 abbrev pub own_moments : List Event → ActorId → List ℕ

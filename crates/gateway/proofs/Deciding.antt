@@ -4,7 +4,8 @@ use Rattle.realm_model.specs.Accounts.{blank}
 use Rattle.realm_model.specs.Owns.{OwnEvent}
 use Rattle.swift_auth.specs.declared.policy.Deed.{Deed}
 use Rattle.swift_requests.specs.declared.asked.Asked.{Asked}
-use Rattle.swift_requests.specs.declared.asked.Asked.TheVariants.{BadHost, Refused, Put, Get, Listing}
+use Rattle.swift_requests.specs.declared.asked.Asked.TheVariants.{BadHost, Refused, Put, Unfed}
+use Rattle.swift_requests.specs.declared.asked.UnfedCommand.TheVariants.{Get, Listing}
 use Rattle.task_words.specs.declared.asker.Asker.{Asker}
 use Rattle.task_words.specs.declared.command.GetCommand.{GetCommand}
 use Rattle.task_words.specs.declared.command.PutCommand.{PutCommand}
@@ -117,5 +118,5 @@ pub not_blank : (stripe zone : ℕ) (asker : Asker) (asked : Asked) (fate : Fate
 not_blank stripe zone asker BadHost fate body shown outcome events x = x
 not_blank stripe zone asker (Refused why) fate body shown outcome events x = x
 not_blank stripe zone asker (Put c) fate body shown outcome events x = put_outcome zone asker c (body_at fate body) outcome events x.0
-not_blank stripe zone asker (Get c) fate body shown outcome events x = get_end zone asker c fate outcome x.0
-not_blank stripe zone asker (Listing c l) fate body shown outcome events x = list_end (record { zone = zone; asker = asker; command = c }) fate outcome events x.0
+not_blank stripe zone asker (Unfed (Get c)) fate body shown outcome events x = get_end zone asker c fate outcome x.0
+not_blank stripe zone asker (Unfed (Listing c l)) fate body shown outcome events x = list_end (record { zone = zone; asker = asker; command = c }) fate outcome events x.0

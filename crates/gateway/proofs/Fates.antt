@@ -15,7 +15,7 @@ use Rattle.swift_reply.specs.declared.reply.SwiftRefusal.{SwiftRefusal}
 use Rattle.swift_reply.specs.declared.reply.SwiftRefusal.TheVariants as why
 use Rattle.swift_requests.specs.Bodies.{body_use, unwanted, is_unread, is_awaited, closes}
 use Rattle.swift_requests.specs.declared.asked.Asked.{Asked}
-use Rattle.swift_requests.specs.declared.asked.Asked.TheVariants.{BadHost, Refused, Put, Get, Listing}
+use Rattle.swift_requests.specs.declared.asked.Asked.TheVariants.{BadHost, Refused, Put, Unfed}
 use Rattle.swift_requests.specs.declared.body.BodyUse.{BodyUse}
 use Rattle.swift_requests.specs.declared.body.BodyUse.TheVariants.{Fed, Awaited, Dropped, Unread}
 use Rattle.task_words.specs.declared.outcome.Outcome.{Outcome}
@@ -89,8 +89,7 @@ pub refused_text : (form : ReplyForm) (asked : Asked) (fate other : Fate) → Is
 refused_text form BadHost fate other is = refl
 refused_text form (Refused why) fate other is = refl
 refused_text form (Put c) fate other is = absurd is
-refused_text form (Get c) fate other is = absurd is
-refused_text form (Listing c l) fate other is = absurd is
+refused_text form (Unfed u) fate other is = absurd is
 
 -- where a body that is not waited for is left and not broken, the form closes
 pub left_shut : (plan : BodyUse) (fate : Fate) (close : Bool) → is_awaited plan ≡ false → Suits plan fate → is_broken fate ≡ false → (is_unread plan ≡ true → close ≡ true) → is_left fate ≡ true → close ≡ true
@@ -167,16 +166,14 @@ pub waits_so : (largest : ℕ) (head : Head) (asked : Asked) → is_waiting aske
 waits_so largest head BadHost = unwanted_quiet largest head
 waits_so largest head (Refused w) = refused_quiet largest head w
 waits_so largest head (Put c) = put_waits (waits head)
-waits_so largest head (Get c) = unwanted_quiet largest head
-waits_so largest head (Listing c l) = unwanted_quiet largest head
+waits_so largest head (Unfed u) = unwanted_quiet largest head
 
 -- a refusal is no answer to such a client
 pub refused_waits : (head : Head) (asked : Asked) → IsRefused asked → is_waiting asked head ≡ false
 refused_waits head BadHost is = refl
 refused_waits head (Refused w) is = refl
 refused_waits head (Put c) is = absurd is
-refused_waits head (Get c) is = absurd is
-refused_waits head (Listing c l) is = absurd is
+refused_waits head (Unfed u) is = absurd is
 
 -- no 100 is written for a body that is left
 pub unread_quiet : (waiting : Bool) → [] ≡ continue_if waiting unread

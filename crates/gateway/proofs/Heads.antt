@@ -20,7 +20,9 @@ use Rattle.swift_requests.specs.Asks.{target_limit, has_taken_method, is_taken, 
 use Rattle.swift_requests.proofs.Refusals.{put_passed}
 use Rattle.swift_requests.specs.Bodies.{body_use, is_unread}
 use Rattle.swift_requests.specs.declared.asked.Asked.{Asked}
-use Rattle.swift_requests.specs.declared.asked.Asked.TheVariants.{BadHost, Refused, Put, Get, Listing}
+use Rattle.swift_requests.specs.declared.asked.Asked.TheVariants.{BadHost, Refused, Put, Unfed}
+use Rattle.swift_requests.specs.declared.asked.UnfedCommand.{UnfedCommand}
+use Rattle.swift_requests.specs.declared.asked.UnfedCommand.TheVariants.{Get, Listing}
 use Rattle.swift_requests.specs.declared.body.BodyUse.{BodyUse}
 use Rattle.swift_requests.specs.declared.body.BodyUse.TheVariants.{Fed, Awaited, Dropped, Unread}
 use Rattle.list_words.specs.declared.command.ListCommand.{ListCommand}
@@ -39,7 +41,7 @@ host_put : (host : Bool) (x : Asked) (c : PutCommand) → cond (not host) BadHos
 host_put true x c e = e
 host_put false x c e = absurd (cc)
 
-host_get : (host : Bool) (x : Asked) (c : GetCommand) → cond (not host) BadHost x ≡ Get c → x ≡ Get c
+host_get : (host : Bool) (x : Asked) (c : GetCommand) → cond (not host) BadHost x ≡ Unfed (Get c) → x ≡ Unfed (Get c)
 host_get true x c e = e
 host_get false x c e = absurd (cc)
 
@@ -47,13 +49,13 @@ short_put : (long : Bool) (w : SwiftRefusal) (x : Asked) (c : PutCommand) → co
 short_put true w x c e = absurd (cc)
 short_put false w x c e = e
 
-short_get : (long : Bool) (w : SwiftRefusal) (x : Asked) (c : GetCommand) → cond long (Refused w) x ≡ Get c → x ≡ Get c
+short_get : (long : Bool) (w : SwiftRefusal) (x : Asked) (c : GetCommand) → cond long (Refused w) x ≡ Unfed (Get c) → x ≡ Unfed (Get c)
 short_get true w x c e = absurd (cc)
 short_get false w x c e = e
 
 -- a request for an object that is served, and that no field refuses
 object_put : (served put : Bool) (r g : Option SwiftRefusal) (p c : PutCommand) (q : GetCommand)
-    → cond served (cond put (asked_unless r (Put p)) (asked_unless g (Get q))) (Refused why.NotBuilt) ≡ Put c
+    → cond served (cond put (asked_unless r (Put p)) (asked_unless g (Unfed (Get q)))) (Refused why.NotBuilt) ≡ Put c
     → (served ≡ true) × (put ≡ true) × (r ≡ None)
 object_put true true None g p c q e = (refl, refl, refl)
 object_put true true (Some w) g p c q e = absurd (cc)
@@ -62,7 +64,7 @@ object_put true false r (Some w) p c q e = absurd (cc)
 object_put false put r g p c q e = absurd (cc)
 
 object_get : (served put : Bool) (r g : Option SwiftRefusal) (p : PutCommand) (q c : GetCommand)
-    → cond served (cond put (asked_unless r (Put p)) (asked_unless g (Get q))) (Refused why.NotBuilt) ≡ Get c
+    → cond served (cond put (asked_unless r (Put p)) (asked_unless g (Unfed (Get q)))) (Refused why.NotBuilt) ≡ Unfed (Get c)
     → (served ≡ true) × (put ≡ false) × (g ≡ None) × (q ≡ c)
 object_get true true None g p q c e = absurd (cc)
 object_get true true (Some w) g p q c e = absurd (cc)
@@ -72,13 +74,13 @@ object_get false put r g p q c e = absurd (cc)
 
 -- a request for a container that is served, and that no field refuses
 container_put : (served : Bool) (r : Option SwiftRefusal) (m : ListCommand) (f : ListingForm) (c : PutCommand)
-    → cond served (asked_unless r (Listing m f)) (Refused why.NotBuilt) ≡ Put c → ⊥
+    → cond served (asked_unless r (Unfed (Listing m f))) (Refused why.NotBuilt) ≡ Put c → ⊥
 container_put true None m f c e = cc
 container_put true (Some w) m f c e = cc
 container_put false r m f c e = cc
 
 container_get : (served : Bool) (r : Option SwiftRefusal) (m : ListCommand) (f : ListingForm) (c : GetCommand)
-    → cond served (asked_unless r (Listing m f)) (Refused why.NotBuilt) ≡ Get c → ⊥
+    → cond served (asked_unless r (Unfed (Listing m f))) (Refused why.NotBuilt) ≡ Unfed (Get c) → ⊥
 container_get true None m f c e = cc
 container_get true (Some w) m f c e = cc
 container_get false r m f c e = cc
@@ -106,7 +108,7 @@ module _ (largest : ℕ) (head : Head) where
       let found = object_put (is_own account && is_taken head) (is_put head) (put_refusal largest head) (get_refusal largest head) _ c _ e in
       record { taken = (and_parts (is_own account) (is_taken head) found.0).1; is_one = found.1; passed = found.2 }
 
-  at_get : (query : Query) (target : Target) (c : GetCommand) → asked_at largest head query target ≡ Get c → AsksGet largest head c
+  at_get : (query : Query) (target : Target) (c : GetCommand) → asked_at largest head query target ≡ Unfed (Get c) → AsksGet largest head c
   at_get query targets.Unknown c e = absurd (cc)
   at_get query targets.Auth c e = absurd (cc)
   at_get query (targets.Account account) c e = absurd (cc)
@@ -125,7 +127,7 @@ module _ (largest : ℕ) (head : Head) where
   by_put (Some fault) c e = absurd (cc)
   by_put None c e = at_put (query_of head.target) (target_of head.target) c e
 
-  by_get : (fault : Option WordFault) (c : GetCommand) → asked_by largest head fault ≡ Get c → AsksGet largest head c
+  by_get : (fault : Option WordFault) (c : GetCommand) → asked_by largest head fault ≡ Unfed (Get c) → AsksGet largest head c
   by_get (Some fault) c e = absurd (cc)
   by_get None c e = at_get (query_of head.target) (target_of head.target) c e
 
@@ -135,7 +137,7 @@ module _ (largest : ℕ) (head : Head) where
       let in_length = host_put (has_host head) _ c e in
       by_put (target_fault head.target) c (short_put (nat_lt target_limit (length head.target)) why.TargetTooLong _ c in_length)
 
-  asks_get : (c : GetCommand) → asked_of largest head ≡ Get c → AsksGet largest head c
+  asks_get : (c : GetCommand) → asked_of largest head ≡ Unfed (Get c) → AsksGet largest head c
   unfolding asked_of
   asks_get c e =
       let in_length = host_get (has_host head) _ c e in
@@ -185,7 +187,7 @@ put_body largest head intake c e behind =
     (due_by largest head.framing intake behind.body_left behind.chunked behind.room tests.4, put_has_body head asks.is_one)
 
 -- only the reply to a GET has a body
-pub get_bodiless : (largest : ℕ) (head : Head) (c : GetCommand) → asked_of largest head ≡ Get c → is_bodiless head.method ≡ not c.body
+pub get_bodiless : (largest : ℕ) (head : Head) (c : GetCommand) → asked_of largest head ≡ Unfed (Get c) → is_bodiless head.method ≡ not c.body
 get_bodiless largest head c e =
     let asks = asks_get largest head c e in
     get_form head asks.taken asks.is_one ∙ ap not (sym asks.body)
@@ -209,11 +211,8 @@ dropped_so true = refl
 dropped_so false = refl
 
 -- a body that is not wanted is dropped, where it is read
-pub get_use : (largest : ℕ) (head : Head) (c : GetCommand) → asked_of largest head ≡ Get c → dropped_if (not (is_unread (use_of largest head))) ≡ use_of largest head
-get_use largest head c e = subst (λ (a : Asked). dropped_if (not (is_unread (body_use largest head a))) ≡ body_use largest head a) (sym e) (dropped_so _)
-
-pub list_use : (largest : ℕ) (head : Head) (c : ListCommand) (l : ListingForm) → asked_of largest head ≡ Listing c l → dropped_if (not (is_unread (use_of largest head))) ≡ use_of largest head
-list_use largest head c l e = subst (λ (a : Asked). dropped_if (not (is_unread (body_use largest head a))) ≡ body_use largest head a) (sym e) (dropped_so _)
+pub unfed_use : (largest : ℕ) (head : Head) (u : UnfedCommand) → asked_of largest head ≡ Unfed u → dropped_if (not (is_unread (use_of largest head))) ≡ use_of largest head
+unfed_use largest head u e = subst (λ (a : Asked). dropped_if (not (is_unread (body_use largest head a))) ≡ body_use largest head a) (sym e) (dropped_so _)
 
 -- nothing is read behind a request that ends the connection refused
 refusing_unread : (largest : ℕ) (head : Head) (w : SwiftRefusal) → is_refusing (Refused w) ≡ true → is_unread (body_use largest head (Refused w)) ≡ true
@@ -244,17 +243,15 @@ refusing_unread largest head (why.NoSpace free needed) is = absurd (cc)
 pub read_not_refusing : (largest : ℕ) (head : Head) (asked : Asked) → is_unread (body_use largest head asked) ≡ false → is_refusing asked ≡ false
 read_not_refusing largest head BadHost read = refl
 read_not_refusing largest head (Put c) read = refl
-read_not_refusing largest head (Get c) read = refl
-read_not_refusing largest head (Listing c l) read = refl
+read_not_refusing largest head (Unfed u) read = refl
 read_not_refusing largest head (Refused w) read = by (is_refusing (Refused w)) refl
   where
     by : (b : Bool) → is_refusing (Refused w) ≡ b → is_refusing (Refused w) ≡ false
     by false is = is
     by true is = let clash : true ≡ false = sym (refusing_unread largest head w is) ∙ read in absurd (cc)
 
-pub is_refused : (asked : Asked) → ((c : PutCommand) → asked ≡ Put c → ⊥) → ((c : GetCommand) → asked ≡ Get c → ⊥) → ((c : ListCommand) (l : ListingForm) → asked ≡ Listing c l → ⊥) → IsRefused asked
-is_refused BadHost not_put not_get not_list = tt
-is_refused (Refused w) not_put not_get not_list = tt
-is_refused (Put c) not_put not_get not_list = absurd (not_put c refl)
-is_refused (Get c) not_put not_get not_list = absurd (not_get c refl)
-is_refused (Listing c l) not_put not_get not_list = absurd (not_list c l refl)
+pub is_refused : (asked : Asked) → ((c : PutCommand) → asked ≡ Put c → ⊥) → ((u : UnfedCommand) → asked ≡ Unfed u → ⊥) → IsRefused asked
+is_refused BadHost not_put not_unfed = tt
+is_refused (Refused w) not_put not_unfed = tt
+is_refused (Put c) not_put not_unfed = absurd (not_put c refl)
+is_refused (Unfed u) not_put not_unfed = absurd (not_unfed u refl)

@@ -10,7 +10,7 @@ use Rattle.http_model.specs.declared.reply.ReplyForm.{ReplyForm}
 use Rattle.realm_model.specs.Doors.{DoorView}
 use Rattle.realm_model.specs.declared.event.Event.{Event}
 use Rattle.swift_requests.specs.declared.asked.Asked.{Asked}
-use Rattle.swift_requests.specs.declared.asked.Asked.TheVariants.{BadHost, Refused, Put, Get, Listing}
+use Rattle.swift_requests.specs.declared.asked.Asked.TheVariants.{BadHost, Refused, Put, Unfed}
 use Rattle.swift_requests.specs.declared.body.BodyUse.{BodyUse}
 use Rattle.swift_requests.specs.Bodies.{body_use, is_unread, is_awaited}
 use Rattle.call_words.specs.Bodies.{Fate, read_whole, broken_off}
@@ -92,8 +92,7 @@ module _ (tells alone : Type 0) (site : Site) (head : Head) (asked : Asked) (ref
     asked_leaves BadHost is fault x = (x, record { door = refl; untold = untold })
     asked_leaves (Refused w) is fault x = (x, record { door = refl; untold = untold })
     asked_leaves (Put c) is fault x = absurd is
-    asked_leaves (Get c) is fault x = absurd is
-    asked_leaves (Listing c l) is fault x = absurd is
+    asked_leaves (Unfed u) is fault x = absurd is
 
     refused_stops : (fault : ServeFault) → LeavesRefusal form asked plan old new before.left after.left before.taken after.taken fault
         → Stops tells alone site form asked plan found (side d old before) (side d new after) fault

@@ -17,7 +17,7 @@ use Rattle.realm_door.specs.Steps.{next_count, begun}
 use Rattle.swift_requests.specs.Asks.{asked_of}
 use Rattle.swift_requests.specs.Bodies.{is_unread, is_awaited}
 use Rattle.swift_requests.specs.declared.asked.Asked.{Asked}
-use Rattle.swift_requests.specs.declared.asked.Asked.TheVariants.{BadHost, Refused, Put, Get, Listing}
+use Rattle.swift_requests.specs.declared.asked.Asked.TheVariants.{BadHost, Refused, Put, Unfed}
 use Rattle.swift_requests.specs.declared.body.BodyUse.{BodyUse}
 use Rattle.call_words.specs.Bodies.{Fate, read_whole, broken_off, unread}
 use Rattle.call_words.specs.Calls.{Ground, Call, whole_text, actor_after}
@@ -113,8 +113,7 @@ module _ (tells alone : Type 0) (site : Site) (form : ReplyForm) (found : List E
   asked_left BadHost plan z y fault may (left, idle) is = same_left alone site z.door y.door may idle.door
   asked_left (Refused w) plan z y fault may (left, idle) is = same_left alone site z.door y.door may idle.door
   asked_left (Put c) plan z y fault may (b, begins, x) is = task_left z y b may begins (put_asks (is_awaited plan) c (side b z.intake z.ends) y fault x) is
-  asked_left (Get c) plan z y fault may (b, begins, x) is = task_left z y b may begins (stopped_asks (Get c) plan (side b z.intake z.ends) y fault x) is
-  asked_left (Listing c l) plan z y fault may (b, begins, x) is = task_left z y b may begins (stopped_asks (Listing c l) plan (side b z.intake z.ends) y fault x) is
+  asked_left (Unfed u) plan z y fault may (b, begins, x) is = task_left z y b may begins (stopped_asks (Unfed u) plan (side b z.intake z.ends) y fault x) is
 
   request_left : (asked : Asked) (plan : BodyUse) (z y : Side) (fault : ServeFault) → MayBegin site.settings z.door → LeavesRequest tells alone site form asked plan found z y fault → tells
       → IsLeftBy alone site z.door y.door

@@ -10,7 +10,7 @@ use Rattle.realm_model.specs.Doors.{DoorView}
 use Rattle.realm_model.specs.declared.event.Event.{Event}
 use Rattle.realm_door.specs.Steps.{begun, next_count, actor_of_pass}
 use Rattle.swift_requests.specs.declared.asked.Asked.{Asked}
-use Rattle.swift_requests.specs.declared.asked.Asked.TheVariants.{BadHost, Refused, Put, Get, Listing}
+use Rattle.swift_requests.specs.declared.asked.Asked.TheVariants.{BadHost, Refused, Put, Unfed}
 use Rattle.swift_requests.specs.declared.body.BodyUse.{BodyUse}
 use Rattle.swift_requests.specs.Bodies.{is_unread, is_awaited}
 use Rattle.http_chunks.specs.declared.body.BodyEnd.{BodyEnd}
@@ -191,8 +191,7 @@ abbrev pub LeavesAsked : Type 0 → Type 0 → Site → ReplyForm → Asked → 
 LeavesAsked tells alone site form BadHost plan found z y fault = LeavesRefused form BadHost plan z y fault
 LeavesAsked tells alone site form (Refused why) plan found z y fault = LeavesRefused form (Refused why) plan z y fault
 LeavesAsked tells alone site form (Put c) plan found z y fault = LeavesPut tells alone site form c plan found z y fault
-LeavesAsked tells alone site form (Get c) plan found z y fault = LeavesTask tells alone site form (Get c) plan found z y fault
-LeavesAsked tells alone site form (Listing c l) plan found z y fault = LeavesTask tells alone site form (Listing c l) plan found z y fault
+LeavesAsked tells alone site form (Unfed u) plan found z y fault = LeavesTask tells alone site form (Unfed u) plan found z y fault
 
 -- what a fault other than a failed read leaves behind a head: memory was wanting before anything was done, or the refusal or
 -- the task was left

@@ -3,7 +3,7 @@ use http_model::{Head, read_head};
 use object_words::EtagRule;
 use std::alloc::Global;
 use std::test::Fail;
-use swift_requests::{Asked, BodyUse, body_use, closes, read_asked};
+use swift_requests::{Asked, BodyUse, UnfedCommand, body_use, closes, read_asked};
 use task_words::{GetCommand, PutCommand, Span};
 
 const LARGEST: u64 = 5_368_709_120;
@@ -21,7 +21,7 @@ fn put_in(asked: &Asked) -> Option<&PutCommand> {
 
 fn get_in(asked: &Asked) -> Option<&GetCommand> {
     match asked {
-        Asked::Get(get) => Some(get),
+        Asked::Unfed(UnfedCommand::Get(get)) => Some(get),
         _other => None,
     }
 }

@@ -27,6 +27,7 @@ use Rattle.object_words.specs.Shards.{Shard}
 use Rattle.object_words.specs.ShardCalls.{page_of}
 use Rattle.object_words.specs.Tags.{has_tag}
 use Rattle.object_words.proofs.NameLemmas.{name_itself}
+use Rattle.realm_model.specs.Allowed.{page_limit}
 use Rattle.realm_model.specs.Settings.{SettingsView, IsSettings}
 use Rattle.realm_model.specs.States.{at_moment, number_next}
 use Rattle.realm_model.specs.Steps.{reply_or, on_shard, row_reply, reply_of}
@@ -49,7 +50,7 @@ use Rattle.index_law.proofs.Keeping.{holds}
 use Rattle.list_words.specs.declared.command.ListCommand.{ListCommand}
 use Rattle.list_words.specs.Listings.{is_before}
 use Rattle.list_words.proofs.Texts.{same_place, before_trans}
-use Rattle.task_list.specs.Listed.{page_limit, last_name, reaches, is_settled, row_if_there, entry_row, slot_row, IsByPage, IsByHead}
+use Rattle.task_list.specs.Listed.{last_name, reaches, is_settled, row_if_there, entry_row, slot_row, IsByPage, IsByHead}
 use Rattle.task_list.proofs.Names.{truth, from_truth, find-below}
 use Rattle.list_law.specs.Maps.{slot_after}
 use Rattle.list_law.proofs.Turned.{mapped_by-append}

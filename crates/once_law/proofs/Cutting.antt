@@ -12,6 +12,7 @@ use Rattle.swift_reply.specs.declared.reply.ListingForm.{ListingForm}
 use Rattle.swift_reply.specs.declared.reply.SwiftReply.TheVariants as Swift
 use Rattle.swift_requests.specs.declared.asked.Asked.{Asked}
 use Rattle.swift_requests.specs.declared.asked.Asked.TheVariants as Asks
+use Rattle.swift_requests.specs.declared.asked.UnfedCommand.TheVariants.{Get, Listing}
 use Rattle.list_words.specs.declared.command.ListCommand.{ListCommand}
 use Rattle.task_list.specs.declared.request.ListRequest.{ListRequest}
 use Rattle.task_list.specs.Listed.{IsListOutcome}
@@ -105,7 +106,7 @@ module _ (settings : SettingsView) (before history : List Event) (zone : ℕ) (a
   cut_get c why outcome shown by bytes = absurd by.1
 
   pub get_told : (c : GetCommand) (fate : Fate) (body : List ℕ) (outcome : Outcome) (shown : List ℕ) → IsGetEnd zone asker c fate outcome y → HasReply (told_reply (span_of c) fate outcome) → AreShownBy zone c outcome shown y.decided
-      → Tells (Asks.Get c) fate body outcome shown
+      → Tells (Asks.Unfed (Get c)) fate body outcome shown
   get_told c read_whole body outcome shown by has bytes =
       let d = whole_get c read_whole outcome shown refl by has bytes in record { is_said = d.is_said; left = d.left }
   get_told c (broken_off why) body outcome shown by has bytes =
@@ -182,7 +183,7 @@ module _ (settings : SettingsView) (before history : List Event) (zone : ℕ) (a
   Ends c outcome = IsListDone settings before history zone asker clocks c outcome
 
   pub list_told : (c : ListCommand) (listing : ListingForm) (fate : Fate) (body : List ℕ) (outcome : Outcome) (events : List OwnEvent) (shown : List ℕ) → (IsListOutcome (request c) outcome y events → Ends c outcome)
-      → IsListEnd (request c) fate outcome y events → HasReply (told_list listing fate outcome) → shown ≡ [] → Tells (Asks.Listing c listing) fate body outcome shown
+      → IsListEnd (request c) fate outcome y events → HasReply (told_list listing fate outcome) → shown ≡ [] → Tells (Asks.Unfed (Listing c listing)) fate body outcome shown
   list_told c listing read_whole body outcome events shown done by has is =
       let d = done (list_end c listing read_whole outcome events refl by has) in record { is_said = (d.is_said, is); left = d.left }
   list_told c listing (broken_off why) body outcome events shown done by has is =

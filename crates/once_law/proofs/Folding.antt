@@ -22,6 +22,7 @@ use Rattle.realm_door.specs.Steps.{actor_of_pass}
 use Rattle.realm_door.proofs.Others.{own-append, same_after_others}
 use Rattle.swift_requests.specs.declared.asked.Asked.{Asked}
 use Rattle.swift_requests.specs.declared.asked.Asked.TheVariants as Asks
+use Rattle.swift_requests.specs.declared.asked.UnfedCommand.TheVariants.{Get, Listing}
 use Rattle.task_words.specs.declared.asker.Asker.{Asker}
 use Rattle.task_words.specs.declared.outcome.Outcome.{Outcome}
 use Rattle.call_words.specs.Bodies.{Fate}
@@ -200,11 +201,11 @@ module _ (settings : SettingsView) (good : IsSettings settings) (zone : ℕ) (as
           let early = λ (d : Decided) (is : y.decided ≡ Some d). found_early settings (before ++ first) actor d legal few is in
           let told = put_told settings before (before ++ first) zone asker clocks count y standing clock c fate body outcome (own_events (before ++ first) actor) shown early borne.0 borne.1 borne.2 in
           (standing.roots, told.is_said, told.left)
-      one_task (Asks.Get c) fate body outcome shown clock borne =
+      one_task (Asks.Unfed (Get c)) fate body outcome shown clock borne =
           let standing = stands (gets_of_tasks (own_events (before ++ first) actor) borne.3) in
           let told = get_told settings before (before ++ first) zone asker clocks count y standing clock c fate body outcome shown borne.0 borne.1 borne.2 in
           (standing.roots, told.is_said, told.left)
-      one_task (Asks.Listing c listing) fate body outcome shown clock borne =
+      one_task (Asks.Unfed (Listing c listing)) fate body outcome shown clock borne =
           let standing = stands (lists_of_tasks (own_events (before ++ first) actor) borne.3) in
           let reads = first_reads before first pass count unused own borne.3 in
           let told =
@@ -227,8 +228,7 @@ module _ (settings : SettingsView) (good : IsSettings settings) (zone : ℕ) (as
         by_asked Asks.BadHost rests same = ((λ z. ap (λ l. (state_of settings l).root z) same), rests.1, ap (λ l. slots_in settings l zone) (sym same))
         by_asked (Asks.Refused why) rests same = ((λ z. ap (λ l. (state_of settings l).root z) same), rests.1, ap (λ l. slots_in settings l zone) (sym same))
         by_asked (Asks.Put c) rests same = absurd rests.0
-        by_asked (Asks.Get c) rests same = absurd rests.0
-        by_asked (Asks.Listing c listing) rests same = absurd rests.0
+        by_asked (Asks.Unfed u) rests same = absurd rests.0
 
     -- what the call's own events leave, where the others come behind them
     module _ (next : ℕ) (call : Call) (calls : List Call) (others later : List Event) (last : ℕ) (unused : NoneBy (actor_of_pass pass next) before)

@@ -13,6 +13,7 @@ use Rattle.realm_model.proofs.Runs.{legal_front}
 use Rattle.realm_door.specs.Steps.{actor_of_pass}
 use Rattle.swift_requests.specs.declared.asked.Asked.{Asked}
 use Rattle.swift_requests.specs.declared.asked.Asked.TheVariants as Asks
+use Rattle.swift_requests.specs.declared.asked.UnfedCommand.TheVariants.{Get, Listing}
 use Rattle.task_words.specs.declared.asker.Asker.{Asker}
 use Rattle.task_words.specs.declared.outcome.Outcome.{Outcome}
 use Rattle.task_words.specs.declared.outcome.Outcome.TheVariants.{Done, BodyFailed, Busy, MovedOften, LateTag, LateRead, NoSpace}
@@ -82,8 +83,8 @@ module _ (settings : SettingsView) (good : IsSettings settings) (zone : ℕ) (as
     one_full (Asks.Refused why) fate body outcome shown borne = absurd borne
     one_full (Asks.Put c) fate body outcome shown borne =
         put_full c (body_at fate body) outcome (own_events (before ++ first) actor) (calm (puts_of_tasks (own_events (before ++ first) actor) borne.3)) borne.0
-    one_full (Asks.Get c) fate body outcome shown borne = get_full c fate outcome borne.0 borne.1
-    one_full (Asks.Listing c listing) fate body outcome shown borne =
+    one_full (Asks.Unfed (Get c)) fate body outcome shown borne = get_full c fate outcome borne.0 borne.1
+    one_full (Asks.Unfed (Listing c listing)) fate body outcome shown borne =
         list_full (record { zone = zone; asker = asker; command = c }) fate outcome (own_events (before ++ first) actor)
         (calm (lists_of_tasks (own_events (before ++ first) actor) borne.3)) borne.0
 

@@ -6,6 +6,7 @@ use Rattle.swift_auth.specs.declared.policy.Deed.TheVariants.{ListContainer}
 use Rattle.swift_reply.specs.declared.reply.ListingForm.{ListingForm}
 use Rattle.swift_requests.specs.declared.asked.Asked.{Asked}
 use Rattle.swift_requests.specs.declared.asked.Asked.TheVariants as Asks
+use Rattle.swift_requests.specs.declared.asked.UnfedCommand.TheVariants.{Get, Listing}
 use Rattle.task_words.specs.declared.command.GetCommand.{GetCommand}
 use Rattle.task_words.specs.declared.command.PutCommand.{PutCommand}
 use Rattle.task_words.specs.declared.outcome.Outcome.{Outcome}
@@ -88,7 +89,7 @@ module _ (x : Fixed) (one_clock : (one another : ℕ) → x.clocks one ≡ x.clo
           record { text = λ form. ap (λ q. text_if form (told_reply None unread q) []) (short first second); left = refl }
 
     module _ (c : GetCommand) (a b : ℕ) (o p : Outcome) (is_a : IsReplied (task a o)) (is_b : IsReplied (task b p)) where
-      get_same : (fate : Fate) → IsGetSaid x slots c fate a o shown → IsGetSaid x slots c fate b p other → Both (Asks.Get c) fate a b o p
+      get_same : (fate : Fate) → IsGetSaid x slots c fate a o shown → IsGetSaid x slots c fate b p other → Both (Asks.Unfed (Get c)) fate a b o p
       get_same read_whole first second =
           let s = same_command (get c) a b o p is_a is_b first second in
           record { text = λ form. λ i. text_if form (told_reply (span_of c) read_whole (s.0 i)) (s.1 i); left = s.2 }
@@ -101,7 +102,7 @@ module _ (x : Fixed) (one_clock : (one another : ℕ) → x.clocks one ≡ x.clo
           record { text = λ form. λ i. text_if form (told_reply (span_of c) unread (s.0 i)) (s.1 i); left = s.2 }
 
     module _ (c : ListCommand) (l : ListingForm) (a b : ℕ) (o p : Outcome) (is_a : IsReplied (task a o)) (is_b : IsReplied (task b p)) where
-      list_same : (fate : Fate) → IsListingSaid x slots c fate o shown → IsListingSaid x slots c fate p other → Both (Asks.Listing c l) fate a b o p
+      list_same : (fate : Fate) → IsListingSaid x slots c fate o shown → IsListingSaid x slots c fate p other → Both (Asks.Unfed (Listing c l)) fate a b o p
       list_same read_whole first second =
           record { text = λ form. ap (λ q. text_if form (told_list l read_whole q) []) (same_list c a b o p is_a is_b first.0 second.0); left = refl }
       list_same (broken_off why) first second =
@@ -114,14 +115,12 @@ module _ (x : Fixed) (one_clock : (one another : ℕ) → x.clocks one ≡ x.clo
     told Asks.BadHost fate g h is_g is_h first second = record { text = λ form. refl; left = refl }
     told (Asks.Refused why) fate g h is_g is_h first second = record { text = λ form. refl; left = refl }
     told (Asks.Put c) fate (task a o) (task b p) is_g is_h first second = put_same c a b o p is_g is_h fate first second
-    told (Asks.Get c) fate (task a o) (task b p) is_g is_h first second = get_same c a b o p is_g is_h fate first second
-    told (Asks.Listing c l) fate (task a o) (task b p) is_g is_h first second = list_same c l a b o p is_g is_h fate first second
+    told (Asks.Unfed (Get c)) fate (task a o) (task b p) is_g is_h first second = get_same c a b o p is_g is_h fate first second
+    told (Asks.Unfed (Listing c l)) fate (task a o) (task b p) is_g is_h first second = list_same c l a b o p is_g is_h fate first second
     told (Asks.Put c) fate alone h is_g is_h first second = absurd first
-    told (Asks.Get c) fate alone h is_g is_h first second = absurd first
-    told (Asks.Listing c l) fate alone h is_g is_h first second = absurd first
+    told (Asks.Unfed u) fate alone h is_g is_h first second = absurd first
     told (Asks.Put c) fate g alone is_g is_h first second = absurd second
-    told (Asks.Get c) fate g alone is_g is_h first second = absurd second
-    told (Asks.Listing c l) fate g alone is_g is_h first second = absurd second
+    told (Asks.Unfed u) fate g alone is_g is_h first second = absurd second
 
   pub tell : (slots : Slots) (calls others : List Call) → AskTheSame calls others → AreFolded x slots calls → AreFolded x slots others → AreReplied calls → AreReplied others → SayTheSame calls others
   tell slots [] [] ask first second is also = tt

@@ -16,6 +16,7 @@ use Rattle.swift_auth.specs.declared.policy.Deed.{Deed}
 use Rattle.swift_auth.specs.declared.policy.Deed.TheVariants.{ListContainer}
 use Rattle.swift_requests.specs.declared.asked.Asked.{Asked}
 use Rattle.swift_requests.specs.declared.asked.Asked.TheVariants as Asks
+use Rattle.swift_requests.specs.declared.asked.UnfedCommand.TheVariants.{Get, Listing}
 use Rattle.task_words.specs.declared.asker.Asker.{Asker}
 use Rattle.task_words.specs.declared.outcome.Outcome.{Outcome}
 use Rattle.task_words.specs.declared.outcome.Outcome.TheVariants.{Done, BodyFailed, Busy, MovedOften, LateTag, NoSpace}
@@ -167,10 +168,10 @@ command_in (Asks.Refused why) fate body = None
 command_in (Asks.Put c) read_whole body = Some (put c body)
 command_in (Asks.Put c) (broken_off why) body = None
 command_in (Asks.Put c) unread body = None
-command_in (Asks.Get c) read_whole body = Some (get c)
-command_in (Asks.Get c) (broken_off why) body = None
-command_in (Asks.Get c) unread body = Some (get c)
-command_in (Asks.Listing c listing) fate body = None
+command_in (Asks.Unfed (Get c)) read_whole body = Some (get c)
+command_in (Asks.Unfed (Get c)) (broken_off why) body = None
+command_in (Asks.Unfed (Get c)) unread body = Some (get c)
+command_in (Asks.Unfed (Listing c listing)) fate body = None
 
 abbrev pub command_of : Call → Option Command
 command_of call = command_in call.asked call.fate call.request.body
@@ -201,8 +202,8 @@ abbrev pub IsSaidTo : Fixed → Slots → Asked → Fate → List ℕ → Ground
 IsSaidTo x slots Asks.BadHost fate body alone shown = shown ≡ []
 IsSaidTo x slots (Asks.Refused why) fate body alone shown = shown ≡ []
 IsSaidTo x slots (Asks.Put c) fate body (task actor outcome) shown = IsPutSaid x slots c fate body actor outcome shown
-IsSaidTo x slots (Asks.Get c) fate body (task actor outcome) shown = IsGetSaid x slots c fate actor outcome shown
-IsSaidTo x slots (Asks.Listing c listing) fate body (task actor outcome) shown = IsListingSaid x slots c fate outcome shown
+IsSaidTo x slots (Asks.Unfed (Get c)) fate body (task actor outcome) shown = IsGetSaid x slots c fate actor outcome shown
+IsSaidTo x slots (Asks.Unfed (Listing c listing)) fate body (task actor outcome) shown = IsListingSaid x slots c fate outcome shown
 IsSaidTo x slots asked fate body basis shown = ⊥
 
 abbrev pub left_behind : Fixed → Slots → Option Command → Ground → Slots

@@ -16,17 +16,19 @@ use Rattle.task_words.specs.declared.reply.MapReply.TheVariants.{Stored, Refused
 use Rattle.task_words.specs.declared.reply.Refusal.TheVariants.{Unauthorized, Denied, NoContainer, NotMet, OtherEtag}
 use Rattle.task_words.specs.Cuts.{AreCut}
 use Rattle.task_words.specs.Outcomes.{Body, IsPutOutcome}
+use Rattle.realm_door.specs.declared.stepping.Stepping.{Stepping}
 use Rattle.task_put.specs.declared.stage.PutRequest.{PutRequest}
 use Rattle.task_put.specs.declared.stage.Stage.{Stage}
-use Rattle.task_put.specs.declared.stage.Stage.TheVariants.{Looking, Feeding, LookingAgain, Preparing, Announcing, Writing, Cancelling, Completing, LookingForShard, Ended}
+use Rattle.task_put.specs.declared.stage.Stage.TheVariants.{Looking, Feeding, Changing, Ended}
 use Rattle.task_put.specs.declared.task.PutTask.{PutTask}
 use Rattle.task_put.specs.Bodies.{first_end}
 use Rattle.task_put.specs.Cuts.{CutBody}
+use Rattle.task_put.specs.Orders.{path_of, IsFinished}
 use Rattle.task_put.specs.Stages.{IsOver}
 use Rattle.task_put.specs.Taking.{fed_request, ended_request}
-use Rattle.task_put.specs.Tasks.{request_of, stage_of, fault_of, fits}
+use Rattle.task_put.specs.Runs.{request_of, stage_of, fault_of, fits}
 use Rattle.task_put.specs.Fits.{body_of}
-use Rattle.task_put.proofs.Stepping.{means_it}
+use Rattle.task_put.proofs.Running.{run_means}
 use Rattle.http_chunks.specs.declared.body.BodyEnd.{BodyEnd as HttpEnd}
 use Rattle.http_chunks.specs.declared.body.BodyEnd.TheVariants as End
 use Rattle.call_words.specs.Bodies.{Fate, read_whole, broken_off, IsWrong}
@@ -50,13 +52,7 @@ pub by_event : (r : PutRequest) (stage : Stage) → IsSteadyAt r stage → IsOve
 by_event r (Ended outcome) s o = (outcome, refl, s)
 by_event r (Looking draft) s o = absurd o
 by_event r (Feeding write key draft) s o = absurd o
-by_event r (LookingAgain c) s o = absurd o
-by_event r (Preparing key c) s o = absurd o
-by_event r (Announcing key guard c) s o = absurd o
-by_event r (Writing key guard c) s o = absurd o
-by_event r (Cancelling key tag a) s o = absurd o
-by_event r (Completing key change) s o = absurd o
-by_event r (LookingForShard change) s o = absurd o
+by_event r (Changing etag u) s o = absurd o
 
 -- the end of a body that was read whole brought it
 pub by_whole_body : (end : Option BodyEnd) (stage : Stage) → end ≡ Some Whole → IsByBody end stage → stage ≡ Ended (Done (Refused OtherEtag))
@@ -120,8 +116,8 @@ failed_end (NoSpace free needed) why wrong is = is
 
 -- ---- between two moments
 
-module _ (tells alone : Type 0) (settings : SettingsView) (t : PutTask) (d e : DoorView) (a b : Option (List ℕ)) where
-  pub ends_by_event : (end : BodyEnd) → IsSteady t → IsOver (stage_of t) → Asks tells alone settings false d e a b → EndsSo tells alone settings t end d e a b
+module _ (tells alone : Type 0) (settings : SettingsView) (t : Stepping PutTask) (d e : DoorView) (a b : Option (List ℕ)) where
+  pub ends_by_event : (end : BodyEnd) → IsSteady t.stages → IsOver (stage_of t) → Asks tells alone settings false d e a b → EndsSo tells alone settings t end d e a b
   ends_by_event end s over asks =
       let by = by_event (request_of t) (stage_of t) s over in
       record { outcome = by.0; ended = by.1; is_end = end_by by.0 end by.2.0; asks = subst (λ m. Asks tells alone settings m d e a b) (sym by.2.1) asks }
@@ -169,20 +165,25 @@ module _ (zone : ℕ) (asker : Asker) (c : PutCommand) (bytes given : List ℕ) 
   any_bytes outcome m = absurd m
 
 -- what the outcome of a task says of the events of its actor
-pub means_put : (t : PutTask) (settings : SettingsView) (d : DoorView) (outcome : Outcome) → stage_of t ≡ Ended outcome → fault_of t ≡ None → fits t settings d
+pub means_put : (t : Stepping PutTask) (settings : SettingsView) (d : DoorView) (outcome : Outcome) → stage_of t ≡ Ended outcome → fault_of t ≡ None → fits t settings d
     → IsPutOutcome (request_of t).zone (request_of t).asker (request_of t).command (body_of (request_of t)) outcome (account_of settings d.seen (actor_at d)) (own_events d.seen (actor_at d))
-means_put t settings d outcome ended sound f = (means_it t settings d outcome ended sound f).0
+means_put t settings d outcome ended sound f = (run_means t settings d outcome ended sound f).0
 
 -- its events are such as a PUT makes
-events_of_put : (t : PutTask) (settings : SettingsView) (d : DoorView) (outcome : Outcome) → stage_of t ≡ Ended outcome → fault_of t ≡ None → fits t settings d
+events_of_put : (t : Stepping PutTask) (settings : SettingsView) (d : DoorView) (outcome : Outcome) → stage_of t ≡ Ended outcome → fault_of t ≡ None → fits t settings d
     → AreOfPut (own_events d.seen (actor_at d))
 events_of_put t settings d outcome ended sound f =
-    of_put (own_events d.seen (actor_at d)) (means_it t settings d outcome ended sound f).1
+    of_put (own_events d.seen (actor_at d)) (run_means t settings d outcome ended sound f).1
+
+-- they came in the order of a PUT, and to its end
+events_finished : (t : Stepping PutTask) (settings : SettingsView) (d : DoorView) (outcome : Outcome) → stage_of t ≡ Ended outcome → fault_of t ≡ None → fits t settings d
+    → IsFinished (path_of (own_events d.seen (actor_at d)))
+events_finished t settings d outcome ended sound f = (run_means t settings d outcome ended sound f).1
 
 -- they cut what came of the body, whatever follows it
-events_cut : (t : PutTask) (settings : SettingsView) (d : DoorView) (outcome : Outcome) → stage_of t ≡ Ended outcome → fault_of t ≡ None → fits t settings d
+events_cut : (t : Stepping PutTask) (settings : SettingsView) (d : DoorView) (outcome : Outcome) → stage_of t ≡ Ended outcome → fault_of t ≡ None → fits t settings d
     → CutBody (request_of t).zone settings.stripe (request_of t).bytes (request_of t).end (own_events d.seen (actor_at d))
-events_cut t settings d outcome ended sound f = (means_it t settings d outcome ended sound f).2
+events_cut t settings d outcome ended sound f = (run_means t settings d outcome ended sound f).2
 
 -- so they do where a task that had no bytes took these
 cut_after : (zone stripe : ℕ) (before came : List ℕ) (end : Option BodyEnd) (events : List OwnEvent) → before ≡ [] → CutBody zone stripe (before ++ came) end events → CutBody zone stripe came end events
@@ -191,7 +192,7 @@ cut_after zone stripe before came end events none cut = subst (λ l. CutBody zon
 -- ---- the whole task
 
 -- where the outcome was there before the end of the body, the events cut a front of it
-front_cut : (settings : SettingsView) (r : PutRequest) (t : PutTask) (d : DoorView) (front : List ℕ) → IsSteady t → IsOver (stage_of t) → request_of t ≡ fed_request r front → r.bytes ≡ [] → r.end ≡ None → fault_of t ≡ None → fits t settings d
+front_cut : (settings : SettingsView) (r : PutRequest) (t : Stepping PutTask) (d : DoorView) (front : List ℕ) → IsSteady t.stages → IsOver (stage_of t) → request_of t ≡ fed_request r front → r.bytes ≡ [] → r.end ≡ None → fault_of t ≡ None → fits t settings d
     → (more : List ℕ) → AreCut r.zone settings.stripe (front ++ more) (own_events d.seen (actor_at d))
 front_cut settings r t d front s over request none unended sound f more =
     let by = by_event (request_of t) (stage_of t) s over in
@@ -201,8 +202,8 @@ front_cut settings r t d front s over request none unended sound f more =
     cut_after r.zone settings.stripe r.bytes front None events none going more tt
 
 -- the outcome was there before the end of the body
-pub ended_before : (tells alone : Type 0) (settings : SettingsView) (r : PutRequest) (t : PutTask) (fate : Fate) (x y : Place) (body front : List ℕ) → HasFate fate x.intake y.intake x.left y.left body
-    → IsSteady t → IsOver (stage_of t) → request_of t ≡ fed_request r front → r.end ≡ None → fault_of t ≡ None → (tells → fits t settings y.door)
+pub ended_before : (tells alone : Type 0) (settings : SettingsView) (r : PutRequest) (t : Stepping PutTask) (fate : Fate) (x y : Place) (body front : List ℕ) → HasFate fate x.intake y.intake x.left y.left body
+    → IsSteady t.stages → IsOver (stage_of t) → request_of t ≡ fed_request r front → r.end ≡ None → fault_of t ≡ None → (tells → fits t settings y.door)
     → (tells → IsCutBy settings.stripe r.zone fate body (own_events y.door.seen (actor_at y.door))) → AsksAt tells alone settings false x y
     → HasEnded tells alone settings r t fate x y
 ended_before tells alone settings r t fate x y body front has_fate s over request unended sound up cut asks =
@@ -221,12 +222,13 @@ ended_before tells alone settings r t fate x y body front has_fate s over reques
           before_end r.zone r.asker r.command (r.bytes ++ front) (body_at fate body) account events by.0 by.2
           (subst (λ e. IsPutOutcome r.zone r.asker r.command (record { bytes = r.bytes ++ front; end = e }) by.0 account events) unended at_request);
       of_put = λ told. events_of_put t settings y.door by.0 by.1 sound (up told);
+      finished = λ told. events_finished t settings y.door by.0 by.1 sound (up told);
       cut = cut;
       asks = subst (λ m. AsksAt tells alone settings m x y) (sym by.2.1) asks;
     }
 
 -- the task took the whole body, and ended behind it
-pub ended_behind : (tells alone : Type 0) (settings now : SettingsView) (r : PutRequest) (t : PutTask) (x y : Place) (d : DoorView) (b : Option (List ℕ)) (body : List ℕ) → now ≡ settings
+pub ended_behind : (tells alone : Type 0) (settings now : SettingsView) (r : PutRequest) (t : Stepping PutTask) (x y : Place) (d : DoorView) (b : Option (List ℕ)) (body : List ℕ) → now ≡ settings
     → HasGivenAll x.intake y.intake x.left y.left body → request_of t ≡ ended_request (fed_request r body) Whole → r.bytes ≡ [] → r.end ≡ None → fault_of t ≡ None → (tells → fits t settings y.door)
     → Asks tells alone settings false x.door d x.told b → EndsSo tells alone now t Whole d y.door b y.told → HasEnded tells alone settings r t read_whole x y
 ended_behind tells alone settings now r t x y d b body same given request none unended sound up first ends =
@@ -243,6 +245,7 @@ ended_behind tells alone settings now r t x y d b body same given request none u
           let at_request = subst (λ (q : PutRequest). IsPutOutcome q.zone q.asker q.command (body_of q) ends.outcome account events) request (means_put t settings y.door ends.outcome ends.ended sound (up told)) in
           subst (λ (w : Body). IsPutOutcome r.zone r.asker r.command w ends.outcome account events) (λ i. record { bytes = none i ++ body; end = first_end (unended i) Whole }) at_request;
       of_put = λ told. events_of_put t settings y.door ends.outcome ends.ended sound (up told);
+      finished = λ told. events_finished t settings y.door ends.outcome ends.ended sound (up told);
       cut = λ told.
           let at_request = subst (λ (q : PutRequest). CutBody q.zone settings.stripe q.bytes q.end events) request (events_cut t settings y.door ends.outcome ends.ended sound (up told)) in
           let whole = subst (λ (e : Option BodyEnd). CutBody r.zone settings.stripe (r.bytes ++ body) (first_end e Whole) events) unended at_request in
@@ -251,7 +254,7 @@ ended_behind tells alone settings now r t x y d b body same given request none u
     }
 
 -- the task took what came of a body that broke off, and ended behind it
-pub failed_behind : (tells alone : Type 0) (settings now : SettingsView) (r : PutRequest) (t : PutTask) (x y : Place) (d : DoorView) (b : Option (List ℕ)) (front : List ℕ) (why : HttpEnd) → now ≡ settings
+pub failed_behind : (tells alone : Type 0) (settings now : SettingsView) (r : PutRequest) (t : Stepping PutTask) (x y : Place) (d : DoorView) (b : Option (List ℕ)) (front : List ℕ) (why : HttpEnd) → now ≡ settings
     → IsWrong why → BreaksIn x.intake x.left y.left why → request_of t ≡ ended_request (fed_request r front) Failed → r.end ≡ None → fault_of t ≡ None → (tells → fits t settings y.door)
     → Asks tells alone settings false x.door d x.told b → EndsSo tells alone now t Failed d y.door b y.told → HasEnded tells alone settings r t (broken_off why) x y
 failed_behind tells alone settings now r t x y d b front why same wrong breaks request unended sound up first ends =
@@ -269,6 +272,7 @@ failed_behind tells alone settings now r t x y d b front why same wrong breaks r
           any_bytes r.zone r.asker r.command (r.bytes ++ front) [] account events ends.outcome
           (subst (λ (w : Body). IsPutOutcome r.zone r.asker r.command w ends.outcome account events) (λ i. record { bytes = r.bytes ++ front; end = first_end (unended i) Failed }) at_request);
       of_put = λ told. events_of_put t settings y.door ends.outcome ends.ended sound (up told);
+      finished = λ told. events_finished t settings y.door ends.outcome ends.ended sound (up told);
       cut = λ told.
           let at_request = subst (λ (q : PutRequest). CutBody q.zone settings.stripe q.bytes q.end events) request (events_cut t settings y.door ends.outcome ends.ended sound (up told)) in
           let failed = subst (λ (e : Option BodyEnd). CutBody r.zone settings.stripe (r.bytes ++ front) (first_end e Failed) events) unended at_request in
@@ -277,7 +281,7 @@ failed_behind tells alone settings now r t x y d b front why same wrong breaks r
     }
 
 -- the body was read to its end, and the task ended behind it
-pub concluded : (tells alone : Type 0) (settings now : SettingsView) (r : PutRequest) (t : PutTask) (x y : Place) (d : DoorView) (b : Option (List ℕ)) (given : List ℕ) (end : HttpEnd) → (end ≡ End.Cut → ⊥) → now ≡ settings
+pub concluded : (tells alone : Type 0) (settings now : SettingsView) (r : PutRequest) (t : Stepping PutTask) (x y : Place) (d : DoorView) (b : Option (List ℕ)) (given : List ℕ) (end : HttpEnd) → (end ≡ End.Cut → ⊥) → now ≡ settings
     → ReadsTo x.intake y.intake x.left y.left given end → request_of t ≡ ended_request (fed_request r given) (task_end end) → r.bytes ≡ [] → r.end ≡ None → fault_of t ≡ None → (tells → fits t settings y.door)
     → Asks tells alone settings false x.door d x.told b → EndsSo tells alone now t (task_end end) d y.door b y.told → RunsTask tells alone settings r t x y end
 concluded tells alone settings now r t x y d b given End.Whole not same reads request none unended sound up first ends =
@@ -295,8 +299,8 @@ begun_to x y given End.BadChunk not reads = inr (End.BadChunk, tt, reads)
 begun_to x y given End.TooLarge not reads = inr (End.TooLarge, tt, reads)
 
 -- what is left of a body behind the outcome is dropped
-pub drops_behind : (tells alone : Type 0) (settings : SettingsView) (r : PutRequest) (t : PutTask) (x y : Place) (i : IntakeState) (l : Option (List ℕ)) (given front rest : List ℕ) (end : HttpEnd) → HasGiven x.intake i x.left l given
-    → IsSteady t → IsOver (stage_of t) → given ≡ front ++ rest → request_of t ≡ fed_request r front → r.bytes ≡ [] → r.end ≡ None → fault_of t ≡ None → (tells → fits t settings y.door) → AsksAt tells alone settings false x y
+pub drops_behind : (tells alone : Type 0) (settings : SettingsView) (r : PutRequest) (t : Stepping PutTask) (x y : Place) (i : IntakeState) (l : Option (List ℕ)) (given front rest : List ℕ) (end : HttpEnd) → HasGiven x.intake i x.left l given
+    → IsSteady t.stages → IsOver (stage_of t) → given ≡ front ++ rest → request_of t ≡ fed_request r front → r.bytes ≡ [] → r.end ≡ None → fault_of t ≡ None → (tells → fits t settings y.door) → AsksAt tells alone settings false x y
     → DropsBody i y.intake l y.left end → RunsTask tells alone settings r t x y end
 drops_behind tells alone settings r t x y i l given front rest End.Whole has s over parts request none unended sound up asks (more, all) =
     let joined : front ++ (rest ++ more) ≡ given ++ more = sym (append_assoc front rest more) ∙ ap (λ l. l ++ more) (sym parts) in

@@ -3,11 +3,13 @@ use Rattle.std.proofs.Common.{◌≡◌, ℕ, ◌+◌, ◌-◌, ◌≤◌, Bool,
 use Rattle.std.proofs.lemmas.List.{take_all, append-nil}
 use Rattle.realm_model.specs.Settings.{SettingsView}
 use Rattle.realm_model.specs.declared.event.Event.{Event}
+use Rattle.realm_door.specs.declared.stepping.Stepping.{Stepping}
 use Rattle.task_put.specs.declared.task.PutTask.{PutTask}
 use Rattle.task_put.specs.declared.stage.PutRequest.{PutRequest}
 use Rattle.task_put.specs.Bodies.{most_bytes}
 use Rattle.task_put.specs.Taking.{fed_request}
-use Rattle.task_put.specs.Tasks.{request_of, fed}
+use Rattle.task_put.specs.Runs.{request_of}
+use Rattle.task_put.specs.Tasks.{fed, request_of as stages_request}
 use Rattle.call_service.specs.Bodies.{HasBegun}
 use Rattle.call_service.specs.declared.fault.ServeFault.{ServeFault}
 use Rattle.call_service.specs.declared.fault.ServeFault.TheVariants as faults
@@ -28,8 +30,8 @@ fed_behind r s t first second before behind =
     behind ∙ ap (λ q. fed_request q second) before
     ∙ ap (λ l. record { zone = r.zone; asker = r.asker; command = r.command; bytes = l; end = r.end }) (append_assoc r.bytes first second)
 
-pub request_fed : (t u v : PutTask) (more : List ℕ) → u ≡ fed t more → request_of v ≡ request_of u → request_of v ≡ fed_request (request_of t) more
-request_fed t u v more is same = same ∙ ap request_of is
+pub request_fed : (t : Stepping PutTask) (u : PutTask) (v : Stepping PutTask) (more : List ℕ) → u ≡ fed t.stages more → request_of v ≡ stages_request u → request_of v ≡ fed_request (request_of t) more
+request_fed t u v more is same = same ∙ ap stages_request is
 
 pub fed_none : (r : PutRequest) → fed_request r [] ≡ r
 fed_none r = ap (λ l. record { zone = r.zone; asker = r.asker; command = r.command; bytes = l; end = r.end }) (append-nil r.bytes)

@@ -6,14 +6,19 @@ use Rattle.task_words.specs.declared.command.BodyEnd.TheVariants as ends
 use Rattle.task_put.specs.Bodies.{most_bytes, has_tail, first_end}
 use Rattle.task_put.specs.Stages.{IsOver, IsReady, settled, closed, taken}
 use Rattle.task_put.specs.Taking.{WantsBytes, room_at, fed_request, fed_stage, ended_request, ended_stage}
-use Rattle.task_put.specs.Tasks.{request_of, stage_of, decided, fed, body_ended, fits}
-use Rattle.task_put.proofs.Stepping.{settled_task}
+use Rattle.task_put.specs.Tasks.{request_of, stage_of, decided, fed, body_ended, fits as stages_fit}
+use Rattle.task_put.specs.Runs.{fits, with_stages}
+use Rattle.task_put.proofs.Readying.{still_changing}
+use Rattle.task_put.proofs.Running.{lifted, settled_run}
+use Rattle.index_update.specs.declared.stage.Stage.{Stage as UpdateStage}
+use Rattle.index_update.specs.declared.stage.Stage.TheVariants as ups
+use Rattle.index_update.specs.Stages.{IsOver as IsUpdateOver, IsReady as IsUpdateReady}
+use Rattle.realm_door.specs.declared.stepping.Stepping.{Stepping}
 use Rattle.realm_model.specs.Settings.{SettingsView}
 use Rattle.realm_model.specs.Doors.{DoorView}
 use Rattle.task_put.specs.declared.stage.PutRequest.{PutRequest}
-use Rattle.task_put.specs.declared.stage.After.TheVariants.{Again, End}
 use Rattle.task_put.specs.declared.stage.Stage.{Stage}
-use Rattle.task_put.specs.declared.stage.Stage.TheVariants.{Looking, Feeding, LookingAgain, Preparing, Announcing, Writing, Cancelling, Completing, LookingForShard, Ended}
+use Rattle.task_put.specs.declared.stage.Stage.TheVariants.{Looking, Feeding, Changing, Ended}
 use Rattle.task_put.specs.declared.task.PutTask.{PutTask}
 use Rattle.put_service.specs.Standing.{IsUp, IsByBody, IsSteadyAt, IsSteady}
 
@@ -21,25 +26,17 @@ pub wants_open : (stage : Stage) → WantsBytes stage → IsOver stage → ⊥
 wants_open (Ended outcome) w o = w
 wants_open (Looking draft) w o = o
 wants_open (Feeding write key draft) w o = o
-wants_open (LookingAgain c) w o = o
-wants_open (Preparing key c) w o = o
-wants_open (Announcing key guard c) w o = o
-wants_open (Writing key guard c) w o = o
-wants_open (Cancelling key tag a) w o = o
-wants_open (Completing key change) w o = o
-wants_open (LookingForShard change) w o = o
+wants_open (Changing etag u) w o = o
 
 pub ready_open : (stage : Stage) → IsReady stage → IsOver stage → ⊥
 ready_open (Ended outcome) w o = w
 ready_open (Looking draft) w o = o
 ready_open (Feeding write key draft) w o = o
-ready_open (LookingAgain c) w o = o
-ready_open (Preparing key c) w o = o
-ready_open (Announcing key guard c) w o = o
-ready_open (Writing key guard c) w o = o
-ready_open (Cancelling key tag a) w o = o
-ready_open (Completing key change) w o = o
-ready_open (LookingForShard change) w o = o
+ready_open (Changing etag u) w o = o
+
+update_open : (stage : UpdateStage) → IsUpdateReady stage → IsUpdateOver stage → ⊥
+update_open (ups.Ended end) ready over = ready
+update_open stage ready over = over
 
 -- ---- the end of the body
 
@@ -49,7 +46,7 @@ steady_settled r (Feeding write key draft) going s = by (has_tail draft.body) re
   where
     by_etag : (b : _) → is_other_etag draft.etag draft.body.bytes ≡ b → (IsOver (taken write key draft) → ⊥) → IsSteadyAt r (taken write key draft)
     by_etag true is going = let clash = rw is at going in absurd (clash tt)
-    by_etag false is going = rw is tt
+    by_etag false is going = rw is (tt, tt)
 
     by_close : (end : Option BodyEnd) → (IsOver (closed write key draft end) → ⊥) → IsSteadyAt r (closed write key draft end)
     by_close None going = s
@@ -60,13 +57,7 @@ steady_settled r (Feeding write key draft) going s = by (has_tail draft.body) re
     by true is = rw is s
     by false is = let still = rw is at going in rw is (by_close draft.body.end still)
 steady_settled r (Looking draft) going s = s
-steady_settled r (LookingAgain c) going s = s
-steady_settled r (Preparing key c) going s = s
-steady_settled r (Announcing key guard c) going s = s
-steady_settled r (Writing key guard c) going s = s
-steady_settled r (Cancelling key tag a) going s = s
-steady_settled r (Completing key change) going s = s
-steady_settled r (LookingForShard change) going s = s
+steady_settled r (Changing etag u) going s = subst (IsSteadyAt r) (sym (still_changing etag u (update_open u.stage s.0))) s
 steady_settled r (Ended outcome) going s = s
 
 -- where no event brought the outcome, the body's end did
@@ -86,13 +77,7 @@ settled_by_body r (Feeding write key draft) going s over = subst (λ e. IsByBody
     by true is = let clash = rw is at over in absurd clash
     by false is = let closes = rw is at over in rw is (by_close draft.body.end closes)
 settled_by_body r (Looking draft) going s over = absurd over
-settled_by_body r (LookingAgain c) going s over = absurd over
-settled_by_body r (Preparing key c) going s over = absurd over
-settled_by_body r (Announcing key guard c) going s over = absurd over
-settled_by_body r (Writing key guard c) going s over = absurd over
-settled_by_body r (Cancelling key tag a) going s over = absurd over
-settled_by_body r (Completing key change) going s over = absurd over
-settled_by_body r (LookingForShard change) going s over = absurd over
+settled_by_body r (Changing etag u) going s over = absurd (subst IsOver (still_changing etag u (update_open u.stage s.0)) over)
 settled_by_body r (Ended outcome) going s over = absurd (going over)
 
 pub steady_wanting : (t u : PutTask) → u ≡ decided t → IsSteady t → WantsBytes (stage_of u) → IsSteady u
@@ -111,36 +96,28 @@ by_body t u is going s o =
     subst (λ (x : PutTask). IsByBody (request_of x).end x.stage) (sym is) (settled_by_body (request_of t) t.stage going s over)
 
 -- the door's events bring it there
-pub up_decided : (tells : Type 0) (settings : SettingsView) (t u : PutTask) (d : DoorView) → u ≡ decided t → IsUp tells settings t d → IsUp tells settings u d
+pub up_decided : (tells : Type 0) (settings : SettingsView) (t : Stepping PutTask) (u : PutTask) (d : DoorView) → u ≡ decided t.stages → IsUp tells settings t d → IsUp tells settings (with_stages t u) d
 up_decided tells settings t u d is up =
-    λ told. ((up told).0, subst (λ (x : PutTask). fits x settings d) (sym is) (settled_task settings d t (up told).1))
+    λ told. ((up told).0, subst (λ (x : PutTask). fits (with_stages t x) settings d) (sym is) (settled_run settings d t (up told).1))
+
+-- so they do where its stages fit as they did
+pub up_stages : (tells : Type 0) (settings : SettingsView) (t : Stepping PutTask) (u : PutTask) (d : DoorView) → ((other : SettingsView) (e : DoorView) → stages_fit t.stages other e → stages_fit u other e)
+    → IsUp tells settings t d → IsUp tells settings (with_stages t u) d
+up_stages tells settings t u d on up =
+    λ told. ((up told).0, lifted t.fault (stages_fit t.stages settings d) (stages_fit u settings d) (on settings d) (up told).1)
 
 -- ---- bytes
 
 fed_steady : (r : PutRequest) (stage : Stage) (more : List ℕ) → IsSteadyAt r stage → IsSteadyAt (fed_request r more) (fed_stage stage more)
 fed_steady r (Looking draft) more s = record { bytes = ap (λ l. l ++ more) s.bytes; end = s.end }
 fed_steady r (Feeding write key draft) more s = record { bytes = ap (λ l. l ++ more) s.bytes; end = s.end }
-fed_steady r (LookingAgain c) more s = s
-fed_steady r (Preparing key c) more s = s
-fed_steady r (Announcing key guard c) more s = s
-fed_steady r (Writing key guard c) more s = s
-fed_steady r (Cancelling key tag (Again c)) more s = s
-fed_steady r (Cancelling key tag (End outcome)) more s = s
-fed_steady r (Completing key change) more s = s
-fed_steady r (LookingForShard change) more s = s
+fed_steady r (Changing etag u) more s = s
 fed_steady r (Ended outcome) more s = s
 
 ended_steady : (r : PutRequest) (stage : Stage) (end : BodyEnd) → IsSteadyAt r stage → IsSteadyAt (ended_request r end) (ended_stage stage end)
 ended_steady r (Looking draft) end s = record { bytes = s.bytes; end = ap (λ e. first_end e end) s.end }
 ended_steady r (Feeding write key draft) end s = record { bytes = s.bytes; end = ap (λ e. first_end e end) s.end }
-ended_steady r (LookingAgain c) end s = s
-ended_steady r (Preparing key c) end s = s
-ended_steady r (Announcing key guard c) end s = s
-ended_steady r (Writing key guard c) end s = s
-ended_steady r (Cancelling key tag (Again c)) end s = s
-ended_steady r (Cancelling key tag (End outcome)) end s = s
-ended_steady r (Completing key change) end s = s
-ended_steady r (LookingForShard change) end s = s
+ended_steady r (Changing etag u) end s = s
 ended_steady r (Ended outcome) end s = s
 
 pub steady_fed : (t u : PutTask) (more : List ℕ) → u ≡ fed t more → IsSteady t → IsSteady u
@@ -153,24 +130,12 @@ steady_ended t u end is s = subst IsSteady (sym is) (ended_steady (request_of t)
 pub wants_room : (r : PutRequest) (stage : Stage) → IsSteadyAt r stage → WantsBytes stage → length r.bytes < most_bytes → 1 ≤ room_at stage
 wants_room r (Feeding write key draft) s w few = w.1 (subst (λ l. length l < most_bytes) (sym s.bytes) few)
 wants_room r (Looking draft) s w few = absurd w
-wants_room r (LookingAgain c) s w few = absurd w
-wants_room r (Preparing key c) s w few = absurd w
-wants_room r (Announcing key guard c) s w few = absurd w
-wants_room r (Writing key guard c) s w few = absurd w
-wants_room r (Cancelling key tag a) s w few = absurd w
-wants_room r (Completing key change) s w few = absurd w
-wants_room r (LookingForShard change) s w few = absurd w
+wants_room r (Changing etag u) s w few = absurd w
 wants_room r (Ended outcome) s w few = absurd w
 
 -- bytes are wanted only of a body that has not ended
 pub wants_unended : (r : PutRequest) (stage : Stage) → IsSteadyAt r stage → WantsBytes stage → r.end ≡ None
 wants_unended r (Feeding write key draft) s w = sym s.end ∙ w.0
 wants_unended r (Looking draft) s w = absurd w
-wants_unended r (LookingAgain c) s w = absurd w
-wants_unended r (Preparing key c) s w = absurd w
-wants_unended r (Announcing key guard c) s w = absurd w
-wants_unended r (Writing key guard c) s w = absurd w
-wants_unended r (Cancelling key tag a) s w = absurd w
-wants_unended r (Completing key change) s w = absurd w
-wants_unended r (LookingForShard change) s w = absurd w
+wants_unended r (Changing etag u) s w = absurd w
 wants_unended r (Ended outcome) s w = absurd w

@@ -14,8 +14,10 @@ use Rattle.task_words.specs.declared.outcome.Outcome.{Outcome}
 use Rattle.task_words.specs.declared.outcome.Outcome.TheVariants.{Done, BodyFailed, Busy, MovedOften, RacedOften, LateTag, LateRead, NoSpace}
 use Rattle.http_chunks.specs.declared.body.BodyEnd.{BodyEnd}
 use Rattle.http_chunks.specs.declared.body.BodyEnd.TheVariants as Body
+use Rattle.realm_door.specs.declared.stepping.Stepping.{Stepping}
 use Rattle.task_put.specs.Bodies.{no_bytes}
-use Rattle.task_put.specs.Tasks.{request_of, stage_of}
+use Rattle.task_put.specs.Tasks.{request_of as stages_request}
+use Rattle.task_put.specs.Runs.{request_of, stage_of}
 use Rattle.task_put.specs.declared.stage.PutRequest.{PutRequest}
 use Rattle.task_put.specs.declared.stage.Draft.{Draft}
 use Rattle.task_put.specs.declared.stage.Stage.{Stage}
@@ -35,9 +37,9 @@ outcome_in (Ended outcome) = outcome
 outcome_in stage = MovedOften
 
 -- a new task stands steady
-pub steady_new : (t : PutTask) (r : PutRequest) (stripe : ℕ) → request_of t ≡ r → r.bytes ≡ [] → r.end ≡ None → (draft : Draft) × (stage_of t ≡ Looking draft) × (draft.body ≡ no_bytes stripe) → IsSteady t
+pub steady_new : (t : PutTask) (r : PutRequest) (stripe : ℕ) → stages_request t ≡ r → r.bytes ≡ [] → r.end ≡ None → (draft : Draft) × (t.stage ≡ Looking draft) × (draft.body ≡ no_bytes stripe) → IsSteady t
 steady_new t r stripe request none unended (draft, looks, new) =
-    subst (IsSteadyAt (request_of t)) (sym looks) (record {
+    subst (IsSteadyAt (stages_request t)) (sym looks) (record {
       bytes = ap (λ b. b.bytes) new ∙ sym (ap (λ q. q.bytes) request ∙ none);
       end = ap (λ b. b.end) new ∙ sym (ap (λ q. q.end) request ∙ unended);
     })
@@ -62,16 +64,16 @@ module _ (tells alone : Type 0) (site : Site) (form : ReplyForm) (c : PutCommand
   abbrev to : Side
   to = side e j new
 
-  abbrev Ran : PutTask → BodyEnd → Type 0
+  abbrev Ran : Stepping PutTask → BodyEnd → Type 0
   Ran t end = HasEnded tells alone site.settings (first_request site c) t (fate_of end) (place d i old.left old.told) (place e j new.left new.told)
 
-  by_run : (t : PutTask) (end : BodyEnd) → (end ≡ Body.Cut → ⊥) → RunsTask tells alone site.settings (first_request site c) t (place d i old.left old.told) (place e j new.left new.told) end → Ran t end
+  by_run : (t : Stepping PutTask) (end : BodyEnd) → (end ≡ Body.Cut → ⊥) → RunsTask tells alone site.settings (first_request site c) t (place d i old.left old.told) (place e j new.left new.told) end → Ran t end
   by_run t Body.Whole not ran = ran
   by_run t Body.Cut not ran = absurd (not refl)
   by_run t Body.BadChunk not ran = ran
   by_run t Body.TooLarge not ran = ran
 
-  pub has_run : (t : PutTask) (r : PutRequest) (end : BodyEnd) → r ≡ first_request site c → (end ≡ Body.Cut → ⊥) → RunsTask tells alone site.settings r t (place d i old.left old.told) (place e j new.left new.told) end → Ran t end
+  pub has_run : (t : Stepping PutTask) (r : PutRequest) (end : BodyEnd) → r ≡ first_request site c → (end ≡ Body.Cut → ⊥) → RunsTask tells alone site.settings r t (place d i old.left old.told) (place e j new.left new.told) end → Ran t end
   has_run t r end request not ran =
       by_run t end not (subst (λ (q : PutRequest). RunsTask tells alone site.settings q t (place d i old.left old.told) (place e j new.left new.told) end) request ran)
 
@@ -86,7 +88,7 @@ module _ (tells alone : Type 0) (site : Site) (form : ReplyForm) (c : PutCommand
   stops_unwritten found faults.Worn none (worn, (begun, more, asks)) = (worn, unwritten more none begun asks)
   stops_unwritten found fault none stops = absurd stops
 
-  pub cut_unwritten : (t : PutTask) (r : PutRequest) (end : BodyEnd) → end ≡ Body.Cut → Appends old.taken new.taken [] → RunsTask tells alone site.settings r t (place d i old.left old.told) (place e j new.left new.told) end → IsCutOff tells alone site Fed from to
+  pub cut_unwritten : (t : Stepping PutTask) (r : PutRequest) (end : BodyEnd) → end ≡ Body.Cut → Appends old.taken new.taken [] → RunsTask tells alone site.settings r t (place d i old.left old.told) (place e j new.left new.told) end → IsCutOff tells alone site Fed from to
   cut_unwritten t r end is none ran =
       let cut = subst (RunsTask tells alone site.settings r t (place d i old.left old.told) (place e j new.left new.told)) is ran in
       (refl, cut.0, record { unwritten = none; asks = cut.1 })
@@ -104,14 +106,14 @@ module _ (tells alone : Type 0) (site : Site) (form : ReplyForm) (c : PutCommand
   suits_of Body.TooLarge body has = tt
 
   -- the reply was written
-  abbrev reply_is : (t : PutTask) (end : BodyEnd) (outcome : Outcome) → Ran t end → stage_of t ≡ Ended outcome → Appends old.taken new.taken (text_of (form_at form (fate_of end)) end outcome) → IsReplied tells alone site form (Put c) (fate_of end) from to
+  abbrev reply_is : (t : Stepping PutTask) (end : BodyEnd) (outcome : Outcome) → Ran t end → stage_of t ≡ Ended outcome → Appends old.taken new.taken (text_of (form_at form (fate_of end)) end outcome) → IsReplied tells alone site form (Put c) (fate_of end) from to
   reply_is t end outcome ran ended written = record {
     body = ran.body;
     has_fate = ran.has_fate;
     outcome = ran.outcome;
     shown = [];
     written = subst (λ o. Appends old.taken new.taken (text_of (form_at form (fate_of end)) end o)) (ap outcome_in (sym ended ∙ ran.ended)) written;
-    right = λ told. (ran.right told, end_has_reply ran.outcome (fate_of end) ran.is_end, refl, ran.of_put told, ran.cut told);
+    right = λ told. (ran.right told, end_has_reply ran.outcome (fate_of end) ran.is_end, refl, ran.of_put told, ran.cut told, ran.finished told);
     asks = ran.asks;
   }
 
@@ -142,13 +144,13 @@ module _ (tells alone : Type 0) (site : Site) (form : ReplyForm) (c : PutCommand
   by_end Body.Whole (LateRead read_at clock) not ends r is = (read_whole, tt, refl, r, λ e. let clash = sym is ∙ e in cc)
   by_end Body.Whole (NoSpace free needed) not ends r is = (read_whole, tt, refl, r, λ e. let clash = sym is ∙ e in cc)
 
-  pub replied : (t : PutTask) (end : BodyEnd) (outcome : Outcome) → (end ≡ Body.Cut → ⊥) → Ran t end → stage_of t ≡ Ended outcome → Appends old.taken new.taken (text_of (form_at form (fate_of end)) end outcome)
+  pub replied : (t : Stepping PutTask) (end : BodyEnd) (outcome : Outcome) → (end ≡ Body.Cut → ⊥) → Ran t end → stage_of t ≡ Ended outcome → Appends old.taken new.taken (text_of (form_at form (fate_of end)) end outcome)
       → IsServed tells alone site form (Put c) Fed from to (served_so end outcome)
   replied t end outcome not ran ended written =
       by_end end outcome not (subst (λ o. IsEndAt o (fate_of end)) (ap outcome_in (sym ran.ended ∙ ended)) ran.is_end) (reply_is t end outcome ran ended written) (ap outcome_in (sym ran.ended ∙ ended))
 
   -- or not, or a front of it
-  pub stops_reply : (found : List Event) (t : PutTask) (end : BodyEnd) (outcome : Outcome) (fault : ServeFault) → Ran t end → stage_of t ≡ Ended outcome → LeavesText old.taken new.taken (text_of (form_at form (fate_of end)) end outcome) fault
+  pub stops_reply : (found : List Event) (t : Stepping PutTask) (end : BodyEnd) (outcome : Outcome) (fault : ServeFault) → Ran t end → stage_of t ≡ Ended outcome → LeavesText old.taken new.taken (text_of (form_at form (fate_of end)) end outcome) fault
       → IsStopped tells alone site form (Put c) Fed found from to fault
   stops_reply found t end outcome faults.OutOfMemory ran ended leaves = unwritten (is_by_end ran.outcome) leaves (begun_of end ran.body ran.has_fate) ran.asks
   stops_reply found t end outcome faults.WriteFault ran ended leaves = (
@@ -160,7 +162,7 @@ module _ (tells alone : Type 0) (site : Site) (form : ReplyForm) (c : PutCommand
       outcome = ran.outcome;
       shown = [];
       written = subst (λ o. AppendsFront old.taken new.taken (text_of (form_at form (fate_of end)) end o)) (ap outcome_in (sym ended ∙ ran.ended)) leaves;
-      right = λ told. (ran.right told, end_has_reply ran.outcome (fate_of end) ran.is_end, refl, ran.of_put told, ran.cut told);
+      right = λ told. (ran.right told, end_has_reply ran.outcome (fate_of end) ran.is_end, refl, ran.of_put told, ran.cut told, ran.finished told);
       more = is_by_end ran.outcome;
       asks = ran.asks;
     },

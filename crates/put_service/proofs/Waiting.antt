@@ -17,10 +17,13 @@ use Rattle.task_words.specs.declared.outcome.Outcome.{Outcome}
 use Rattle.task_words.specs.declared.outcome.Outcome.TheVariants.{Done, BodyFailed, Busy, MovedOften, LateTag, NoSpace}
 use Rattle.task_words.specs.declared.reply.MapReply.TheVariants.{Stored, Refused}
 use Rattle.task_words.specs.Outcomes.{Granted}
+use Rattle.realm_door.specs.declared.stepping.Stepping.{Stepping}
 use Rattle.task_put.specs.Stages.{IsOver}
 use Rattle.task_put.specs.Taking.{WantsBytes}
-use Rattle.task_put.specs.Fits.{FitsAt, known_at}
-use Rattle.task_put.specs.Tasks.{request_of, stage_of, fault_of, UnlessFaulted, Stands, fits, IsPutEnd}
+use Rattle.index_update.specs.Fits.{known_at}
+use Rattle.task_put.specs.Fits.{FitsAt}
+use Rattle.task_put.specs.Runs.{request_of, stage_of, fault_of, fits}
+use Rattle.task_put.specs.Tasks.{IsPutEnd}
 use Rattle.task_put.specs.declared.stage.PutRequest.{PutRequest}
 use Rattle.task_put.specs.declared.stage.Stage.{Stage}
 use Rattle.task_put.specs.declared.stage.Stage.TheVariants.{Feeding, Ended}
@@ -38,7 +41,7 @@ use Rattle.call_words.specs.Texts.{continue_text}
 use Rattle.door_moments.proofs.Asking.{none_asks}
 use Rattle.call_service.proofs.Passing.{none_begun}
 use Rattle.put_service.specs.Leaving.{left_text}
-use Rattle.task_put.proofs.Stepping.{means_it}
+use Rattle.task_put.proofs.Running.{stands_of, run_means}
 use Rattle.put_service.specs.Parts.{site_at}
 use Rattle.put_service.specs.Standing.{IsUp, IsSteady, IsSteadyAt, IsEnd, IsByEvent}
 use Rattle.put_service.proofs.Ending.{by_event}
@@ -46,26 +49,22 @@ use Rattle.put_service.proofs.Orders.{of_put}
 
 -- ---- where the row grants the PUT
 
-granted_at : (settings : SettingsView) (t : PutTask) (d : DoorView) → WantsBytes (stage_of t) → Stands t settings d → Granted (request_of t).zone (request_of t).asker (request_of t).command.container ChangeThing (account_of settings d.seen (actor_at d))
-granted_at settings t d wants stands = by_stage t.stage wants stands.known.stands
-  where
-    by_stage : (stage : Stage) → WantsBytes stage → FitsAt settings (request_of t) t.tried stage (known_at settings d) → Granted (request_of t).zone (request_of t).asker (request_of t).command.container ChangeThing (account_of settings d.seen (actor_at d))
-    by_stage (Feeding write key draft) wants (draft_is, trying, row, free, tails) = record {
-      by_row = record {
-        look = record { zone = (request_of t).zone; name = (request_of t).command.container; row = Some row.row; number = row.number };
-        is_last = row.looked;
-        in_zone = refl;
-        under_name = refl;
-        refuses = row.granted;
-      };
-      unchanged = trying.unchanged;
-    }
-    by_stage stage wants fitting = absurd wants
+granted_at : (settings : SettingsView) (r : PutRequest) (stage : Stage) (d : DoorView) → WantsBytes stage → FitsAt settings r stage (known_at settings d) → Granted r.zone r.asker r.command.container ChangeThing (account_of settings d.seen (actor_at d))
+granted_at settings r (Feeding write key draft) d wants (draft_is, untried, row, free, tails) = record {
+  by_row = record {
+    look = record { zone = r.zone; name = r.command.container; row = Some row.row; number = row.number };
+    is_last = row.looked;
+    in_zone = refl;
+    under_name = refl;
+    refuses = row.granted;
+  };
+  unchanged = untried.unchanged;
+}
+granted_at settings r stage d wants fitting = absurd wants
 
 -- a task that wants bytes was granted
-pub wants_granted : (settings : SettingsView) (t : PutTask) (d : DoorView) → fault_of t ≡ None → WantsBytes (stage_of t) → fits t settings d → Granted (request_of t).zone (request_of t).asker (request_of t).command.container ChangeThing (account_of settings d.seen (actor_at d))
-wants_granted settings t d sound wants fitting =
-    granted_at settings t d wants (subst (λ f. UnlessFaulted f (Stands t settings d)) sound fitting)
+pub wants_granted : (settings : SettingsView) (t : Stepping PutTask) (d : DoorView) → fault_of t ≡ None → WantsBytes (stage_of t) → fits t settings d → Granted (request_of t).zone (request_of t).asker (request_of t).command.container ChangeThing (account_of settings d.seen (actor_at d))
+wants_granted settings t d sound wants fitting = granted_at settings (request_of t) (stage_of t) d wants (stands_of t settings d sound fitting).stands
 
 -- ---- where it does not
 
@@ -91,7 +90,7 @@ left_front form (Done reply) is = absurd is
 left_front form outcome is = absurd is
 
 -- where the first pause is the end of the task, it is such an end
-pub ended_end : (t : PutTask) (outcome : Outcome) → stage_of t ≡ Ended outcome → IsSteady t → IsEnd outcome
+pub ended_end : (t : Stepping PutTask) (outcome : Outcome) → stage_of t ≡ Ended outcome → IsSteady t.stages → IsEnd outcome
 ended_end t outcome ended steady = (subst (IsSteadyAt (request_of t)) ended steady).0
 
 told_unread : (outcome : Outcome) → IsEnd outcome → HasReply (told_reply None unread outcome)
@@ -125,7 +124,7 @@ module _ (tells alone : Type 0) (site : Site) (form : ReplyForm) (c : PutCommand
         outcome = outcome;
         shown = [];
         written = written;
-        right = λ told. ((right told).0, told_unread outcome is.0, refl, of_put (own_events y.door.seen (actor_at y.door)) (right told).1, (right told).2 [] tt);
+        right = λ told. ((right told).0, told_unread outcome is.0, refl, of_put (own_events y.door.seen (actor_at y.door)) (right told).1, (right told).2 [] tt, (right told).1);
         asks = asks_so;
       },
       not_failed outcome is.0,
@@ -142,7 +141,7 @@ module _ (tells alone : Type 0) (site : Site) (form : ReplyForm) (c : PutCommand
         outcome = outcome;
         shown = [];
         written = leaves;
-        right = λ told. ((right told).0, told_unread outcome is.0, refl, of_put (own_events y.door.seen (actor_at y.door)) (right told).1, (right told).2 [] tt);
+        right = λ told. ((right told).0, told_unread outcome is.0, refl, of_put (own_events y.door.seen (actor_at y.door)) (right told).1, (right told).2 [] tt, (right told).1);
         more = is_by_end outcome;
         asks = asks_so;
       },
@@ -160,14 +159,14 @@ nothing_stops true tells alone site form c found x sound legal =
 
 -- ---- where the first pause is
 
-module _ (tells alone : Type 0) (settings : SettingsView) (form : ReplyForm) (r : PutRequest) (first : r ≡ record { zone = r.zone; asker = r.asker; command = r.command; bytes = []; end = None }) (t : PutTask) (x y : Side)
+module _ (tells alone : Type 0) (settings : SettingsView) (form : ReplyForm) (r : PutRequest) (first : r ≡ record { zone = r.zone; asker = r.asker; command = r.command; bytes = []; end = None }) (t : Stepping PutTask) (x y : Side)
     (same : (y.intake) ≡ x.intake) (left : Consumes x.ends.left y.ends.left []) (asks : Asks tells alone settings false x.door y.door x.ends.told y.ends.told)
     (is_request : request_of t ≡ r) (sound : fault_of t ≡ None) (up : IsUp tells settings t y.door) where
   -- the outcome was there
-  module _ (steady : IsSteady t) (over : IsOver (stage_of t)) (found : List Event) where
+  module _ (steady : IsSteady t.stages) (over : IsOver (stage_of t)) (found : List Event) where
     right_at : (outcome : Outcome) → stage_of t ≡ Ended outcome → tells → IsPutEnd (record { zone = r.zone; asker = r.asker; command = r.command; bytes = []; end = None }) outcome settings y.door
     right_at outcome ended told =
-        subst (λ (q : PutRequest). IsPutEnd q outcome settings y.door) (is_request ∙ first) (means_it t settings y.door outcome ended sound (up told).1)
+        subst (λ (q : PutRequest). IsPutEnd q outcome settings y.door) (is_request ∙ first) (run_means t settings y.door outcome ended sound (up told).1)
 
     pub over_served : (s : Served) → (s ≡ services.Closed) × Appends x.ends.taken y.ends.taken (left_text form (stage_of t)) → IsServedWaiting tells alone (site_at settings r) form r.command x y s
     over_served s (is, written) =

@@ -18,12 +18,14 @@ use Rattle.call_words.specs.Bodies.{Fate, read_whole, broken_off}
 use Rattle.call_words.specs.Calls.{body_at, IsCutBy}
 use Rattle.call_words.specs.Texts.{told_reply, text_if}
 use Rattle.call_words.specs.Events.{AreOfPut}
+use Rattle.realm_door.specs.declared.stepping.Stepping.{Stepping}
 use Rattle.task_put.specs.declared.stage.PutRequest.{PutRequest}
 use Rattle.task_put.specs.declared.stage.Stage.TheVariants.{Ended}
 use Rattle.task_put.specs.declared.task.PutTask.{PutTask}
+use Rattle.task_put.specs.Orders.{path_of, IsFinished}
 use Rattle.task_put.specs.Stages.{IsOver}
 use Rattle.task_put.specs.Taking.{WantsBytes, fed_request}
-use Rattle.task_put.specs.Tasks.{request_of, stage_of, fault_of}
+use Rattle.task_put.specs.Runs.{request_of, stage_of, fault_of}
 use Rattle.call_service.specs.Bodies.{HasGiven, ReadsTo, IsCutIn, FailsIn, HasFate, HasBegun}
 use Rattle.call_service.specs.Serving.{Site, is_by_end}
 use Rattle.door_moments.specs.Acts.{Asks}
@@ -57,14 +59,14 @@ abbrev pub AsksAt : Type 0 → Type 0 → SettingsView → Bool → Place → Pl
 AsksAt tells alone settings more x y = Asks tells alone settings more x.door y.door x.told y.told
 
 -- the task took all of these bytes, and wants more; or a front of them alone, and its outcome was there
-abbrev pub TakesBytes : PutTask → PutTask → List ℕ → Bool → Type 0
-TakesBytes old new bytes true = IsSteady new × WantsBytes (stage_of new) × (request_of new ≡ fed_request (request_of old) bytes)
+abbrev pub TakesBytes : Stepping PutTask → Stepping PutTask → List ℕ → Bool → Type 0
+TakesBytes old new bytes true = IsSteady new.stages × WantsBytes (stage_of new) × (request_of new ≡ fed_request (request_of old) bytes)
 TakesBytes old new bytes false =
-    IsSteady new × IsOver (stage_of new) × (front : List ℕ) × (rest : List ℕ) × (bytes ≡ front ++ rest)
+    IsSteady new.stages × IsOver (stage_of new) × (front : List ℕ) × (rest : List ℕ) × (bytes ≡ front ++ rest)
     × (request_of new ≡ fed_request (request_of old) front)
 
 -- the body was read so far, and the task took it so
-abbrev pub TakesBody : PutTask → PutTask → Place → Place → Taken → Type 0
+abbrev pub TakesBody : Stepping PutTask → Stepping PutTask → Place → Place → Taken → Type 0
 TakesBody old new x y (takens.Ended end) =
     (given : List ℕ) × ReadsTo x.intake y.intake x.left y.left given end × TakesBytes old new given true
 TakesBody old new x y takens.Over =
@@ -86,14 +88,14 @@ StopsBody tells alone settings found x y fault = ⊥
 -- ---- the task as a whole
 
 -- the task ended so between two moments, behind a body that ended so
-pub record EndsSo (tells alone : Type 0) (settings : SettingsView) (task : PutTask) (end : TaskBodyEnd) (d e : DoorView) (told told' : Option (List ℕ)) : Type 0 where
+pub record EndsSo (tells alone : Type 0) (settings : SettingsView) (task : Stepping PutTask) (end : TaskBodyEnd) (d e : DoorView) (told told' : Option (List ℕ)) : Type 0 where
   pub outcome : Outcome
   pub ended : stage_of task ≡ Ended outcome
   pub is_end : IsEndBy outcome end
   pub asks : Asks tells alone settings (is_by_end outcome) d e told told'
 
 -- the body had that fate, and the task ended so
-pub record HasEnded (tells alone : Type 0) (settings : SettingsView) (r : PutRequest) (task : PutTask) (fate : Fate) (x y : Place) : Type 0 where
+pub record HasEnded (tells alone : Type 0) (settings : SettingsView) (r : PutRequest) (task : Stepping PutTask) (fate : Fate) (x y : Place) : Type 0 where
   pub body : List ℕ
   pub has_fate : HasFate fate x.intake y.intake x.left y.left body
   pub outcome : Outcome
@@ -103,6 +105,7 @@ pub record HasEnded (tells alone : Type 0) (settings : SettingsView) (r : PutReq
   pub right : tells → IsPutOutcome r.zone r.asker r.command (body_at fate body) outcome
       (account_of settings y.door.seen (actor_at y.door)) (own_events y.door.seen (actor_at y.door))
   pub of_put : tells → AreOfPut (own_events y.door.seen (actor_at y.door))
+  pub finished : tells → IsFinished (path_of (own_events y.door.seen (actor_at y.door)))
   pub cut : tells → IsCutBy settings.stripe r.zone fate body (own_events y.door.seen (actor_at y.door))
   pub asks : AsksAt tells alone settings (is_by_end outcome) x y
 
@@ -117,7 +120,7 @@ task_end Body.Whole = Whole
 task_end end = Failed
 
 -- the body ended so, and the task did; unless the input ended inside the body
-abbrev pub RunsTask : Type 0 → Type 0 → SettingsView → PutRequest → PutTask → Place → Place → BodyEnd → Type 0
+abbrev pub RunsTask : Type 0 → Type 0 → SettingsView → PutRequest → Stepping PutTask → Place → Place → BodyEnd → Type 0
 RunsTask tells alone settings r task x y Body.Cut = IsCutIn x.intake x.left y.left × AsksAt tells alone settings false x y
 RunsTask tells alone settings r task x y end = HasEnded tells alone settings r task (fate_of end) x y
 

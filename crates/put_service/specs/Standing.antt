@@ -12,16 +12,19 @@ use Rattle.task_words.specs.declared.outcome.Outcome.{Outcome}
 use Rattle.task_words.specs.declared.outcome.Outcome.TheVariants.{Done, BodyFailed, Busy, MovedOften, LateTag, NoSpace}
 use Rattle.task_words.specs.declared.reply.MapReply.TheVariants.{Stored, Refused}
 use Rattle.task_words.specs.declared.reply.Refusal.TheVariants.{OtherEtag}
+use Rattle.realm_door.specs.declared.stepping.Stepping.{Stepping}
 use Rattle.task_put.specs.declared.stage.PutRequest.{PutRequest}
 use Rattle.task_put.specs.declared.stage.Draft.{Draft}
-use Rattle.task_put.specs.declared.stage.After.TheVariants.{Again, End}
 use Rattle.task_put.specs.declared.stage.Stage.{Stage}
-use Rattle.task_put.specs.declared.stage.Stage.TheVariants.{Looking, Feeding, Cancelling, Ended}
+use Rattle.task_put.specs.declared.stage.Stage.TheVariants.{Looking, Feeding, Changing, Ended}
 use Rattle.task_put.specs.declared.task.PutTask.{PutTask}
 use Rattle.task_put.specs.Bodies.{most_bytes}
 use Rattle.task_put.specs.Stages.{IsOver}
 use Rattle.task_put.specs.Taking.{WantsBytes}
-use Rattle.task_put.specs.Tasks.{request_of, stage_of, fault_of, fits}
+use Rattle.task_put.specs.Tasks.{request_of as stages_request}
+use Rattle.task_put.specs.Runs.{request_of, stage_of, fault_of, fits}
+use Rattle.index_update.specs.Refusals.{OnlyRowsRefuse}
+use Rattle.index_update.specs.Stages.{IsReady as IsUpdateReady}
 use Rattle.call_service.specs.Bodies.{ReadsAtFault, most_due}
 use Rattle.call_service.specs.declared.fault.ServeFault.{ServeFault}
 use Rattle.call_service.specs.Serving.{Outside, is_by_end, outside}
@@ -31,7 +34,7 @@ use Rattle.put_service.specs.declared.stepping.Pause.TheVariants as pauses
 -- ---- by what the door tells
 
 -- the task stands where the events of the door's actor bring it
-abbrev pub IsUp : Type 0 → SettingsView → PutTask → DoorView → Type 0
+abbrev pub IsUp : Type 0 → SettingsView → Stepping PutTask → DoorView → Type 0
 IsUp tells settings task d = tells → Legal settings d.seen × fits task settings d
 
 -- ---- whatever the door tells
@@ -71,34 +74,32 @@ pub record IsOf (r : PutRequest) (draft : Draft) : Type 0 where
   pub bytes : draft.body.bytes ≡ r.bytes
   pub end : draft.body.end ≡ r.end
 
--- the draft is of the body as it came, and only an event brings the end
+-- the draft is of the body as it came, and only an event brings the end, that of an update too
 abbrev pub IsSteadyAt : PutRequest → Stage → Type 0
 IsSteadyAt r (Looking draft) = IsOf r draft
 IsSteadyAt r (Feeding write key draft) = IsOf r draft
-IsSteadyAt r (Cancelling key tag (Again content)) = Unit {0}
-IsSteadyAt r (Cancelling key tag (End outcome)) = IsByEvent outcome
+IsSteadyAt r (Changing etag update) = IsUpdateReady update.stage × OnlyRowsRefuse update.stage
 IsSteadyAt r (Ended outcome) = IsByEvent outcome
-IsSteadyAt r stage = Unit {0}
 
 abbrev pub IsSteady : PutTask → Type 0
-IsSteady task = IsSteadyAt (request_of task) (stage_of task)
+IsSteady stages = IsSteadyAt (stages_request stages) stages.stage
 
 -- no step stopped with a fault, and it stands where the events of the door's actor bring it
-pub record IsGoing (tells : Type 0) (settings : SettingsView) (task : PutTask) (d : DoorView) : Type 0 where
+pub record IsGoing (tells : Type 0) (settings : SettingsView) (task : Stepping PutTask) (d : DoorView) : Type 0 where
   pub sound : fault_of task ≡ None
-  pub steady : IsSteady task
+  pub steady : IsSteady task.stages
   pub up : IsUp tells settings task d
 
 -- the task met no fault, took no byte of its body, and did not see its end
-abbrev pub IsFresh : PutTask → Type 0
-IsFresh task = (fault_of task ≡ None) × IsSteady task × ((request_of task).bytes ≡ []) × ((request_of task).end ≡ None)
+abbrev pub IsFresh : Stepping PutTask → Type 0
+IsFresh task = (fault_of task ≡ None) × IsSteady task.stages × ((request_of task).bytes ≡ []) × ((request_of task).end ≡ None)
 
 -- the intake met no fault, and no more of the body is due than a PUT may have
 abbrev pub IsReadable : IntakeState → Type 0
 IsReadable intake = (intake.failed ≡ None) × (most_due intake ≤ most_bytes)
 
 -- a task that took no byte yet may be served: the reply may have a body, and the buffer for pieces has room
-pub record IsReady (tells : Type 0) (settings : SettingsView) (task : PutTask) (d : DoorView) (form : ReplyForm) (intake : IntakeState) (buffer : ℕ) : Type 0 where
+pub record IsReady (tells : Type 0) (settings : SettingsView) (task : Stepping PutTask) (d : DoorView) (form : ReplyForm) (intake : IntakeState) (buffer : ℕ) : Type 0 where
   pub room : 0 < buffer
   pub fresh : IsFresh task
   pub readable : IsReadable intake
@@ -127,14 +128,14 @@ pub record StaysReading {T : Type 0} (old new : Reading) (result : Result T Serv
 -- ---- pauses
 
 -- the task stands so at a pause
-abbrev pub PausesAt : Pause → PutTask → Type 0
-PausesAt pauses.Wants task = IsSteady task × WantsBytes (stage_of task)
-PausesAt pauses.Over task = IsSteady task × IsOver (stage_of task)
+abbrev pub PausesAt : Pause → Stepping PutTask → Type 0
+PausesAt pauses.Wants task = IsSteady task.stages × WantsBytes (stage_of task)
+PausesAt pauses.Over task = IsSteady task.stages × IsOver (stage_of task)
 PausesAt pauses.ByEnd task = IsByBody (request_of task).end (stage_of task)
 
 -- a step made an event, or paused
-abbrev pub StandsAfter : Option Pause → PutTask → Type 0
-StandsAfter None task = IsSteady task
+abbrev pub StandsAfter : Option Pause → Stepping PutTask → Type 0
+StandsAfter None task = IsSteady task.stages
 StandsAfter (Some pause) task = PausesAt pause task
 
 -- the clock is asked without an event

@@ -2,7 +2,7 @@
 ghost use Rattle.std.specs.Prelude.{◌≡◌, ◌+◌, ◌<◌, ◌≤◌, None, Bool, length, false, IfOk, OnOk, IfErr, OnErr};
 ghost use Rattle.task_put.specs.Bodies.{most_bytes};
 ghost use Rattle.task_put.specs.Taking.{WantsBytes};
-ghost use Rattle.task_put.specs.Tasks.{request_of, stage_of, fault_of};
+ghost use Rattle.task_put.specs.Runs.{request_of, stage_of, fault_of};
 ghost use Rattle.call_service.specs.Bodies.{most_due};
 ghost use Rattle.door_moments.specs.Acts.{Asks};
 ghost use Rattle.call_service.specs.Serving.{Stays, outside};
@@ -15,7 +15,7 @@ use call_service::{Piece, ServeFault, next_piece};
 use gw_io::{Clock, Source};
 use http_chunks::BodyEnd;
 use http_intake::Intake;
-use realm_door::Door;
+use realm_door::{Door, Stepping};
 use std::alloc::Global;
 use task_put::PutTask;
 
@@ -32,7 +32,7 @@ pub(crate) enum Taken {
 /// before all were taken.
 fn feed_all<D: Door, C: Clock>(
     alloc: Global,
-    task: &mut PutTask,
+    task: &mut Stepping<PutTask>,
     door: &mut D,
     clock: &mut C,
     bytes: &[u8],
@@ -51,7 +51,7 @@ fn feed_all<D: Door, C: Clock>(
 {
     let mut rest = bytes;
     'parts: while !rest.is_empty() {
-        let Ok(count) = task.feed(rest) else {
+        let Ok(count) = task.stages.feed(rest) else {
             return Err(ServeFault::OutOfMemory);
         };
         match advance(alloc, task, door, clock)? {
@@ -66,7 +66,7 @@ fn feed_all<D: Door, C: Clock>(
 /// Reads the row, and behind it the present body into the task: to where it ends, or to where the outcome is there.
 pub(crate) fn take_body<D: Door, C: Clock, S: Source>(
     alloc: Global,
-    task: &mut PutTask,
+    task: &mut Stepping<PutTask>,
     door: &mut D,
     clock: &mut C,
     intake: &mut Intake,

@@ -8,7 +8,7 @@ ghost use Rattle.call_service.specs.Waiting.{IsServedWaiting, IsStoppedWaiting, 
 ghost use Rattle.put_service.specs.Leaving.{left_text};
 ghost use Rattle.task_put.specs.Bodies.{most_bytes};
 ghost use Rattle.task_put.specs.Taking.{ended_request};
-ghost use Rattle.task_put.specs.Tasks.{request_of, stage_of, fault_of};
+ghost use Rattle.task_put.specs.Runs.{request_of, stage_of, fault_of};
 ghost use Rattle.call_service.specs.Bodies.{most_due};
 ghost use Rattle.call_service.specs.Serving.{MayServe, WritesAtFault, IsServed, IsStopped, StaysAround, around, form_at, side, LeavesText, Stays, outside};
 ghost use Rattle.door_moments.specs.Acts.{Asks};
@@ -24,7 +24,7 @@ use gw_io::{Clock, Ends, Sink, Source};
 use http_chunks::BodyEnd;
 use http_intake::Intake;
 use http_model::ReplyForm;
-use realm_door::{Door, Task};
+use realm_door::{Door, Staged, Stepping};
 use realm_model::Settings;
 use std::alloc::{AllocError, Global};
 use task_put::PutTask;
@@ -33,7 +33,7 @@ use task_words::{Asker, BodyEnd as TaskBodyEnd, Outcome, PutCommand};
 /// Ends the body of a PUT so, and makes the events up to the outcome.
 fn conclude<D: Door, C: Clock>(
     alloc: Global,
-    task: &mut PutTask,
+    task: &mut Stepping<PutTask>,
     end: TaskBodyEnd,
     door: &mut D,
     clock: &mut C,
@@ -48,7 +48,7 @@ fn conclude<D: Door, C: Clock>(
     ensures fault { IfErr result (StopsEvent D.tells (D.found door.new)) }
     ensures stays { Stays (outside (D.settings door.old) (D.home door.old) (C.plan clock.old)) (outside (D.settings door.new) (D.home door.new) (C.plan clock.new)) }
 {
-    task.finish(end);
+    task.stages.finish(end);
     match advance(alloc, task, door, clock)? {
         Pause::Over => Ok(()),
         Pause::ByEnd => Ok(()),
@@ -70,7 +70,7 @@ fn task_end(end: BodyEnd) -> TaskBodyEnd
 /// dropped. Answers how the body ended; where the input ends inside it, the task has no outcome.
 fn run_put<D: Door, C: Clock, S: Source>(
     alloc: Global,
-    task: &mut PutTask,
+    task: &mut Stepping<PutTask>,
     door: &mut D,
     clock: &mut C,
     intake: &mut Intake,
@@ -164,7 +164,7 @@ fn served_so(end: BodyEnd, outcome: &Outcome) -> Served
 /// Serves the PUT of a task that took no byte yet: reads its body, makes its events, and writes its reply.
 fn serve_body<D: Door, C: Clock, S: Source, K: Sink>(
     alloc: Global,
-    task: &mut PutTask,
+    task: &mut Stepping<PutTask>,
     form: ReplyForm,
     door: &mut D,
     clock: &mut C,
@@ -190,7 +190,7 @@ fn serve_body<D: Door, C: Clock, S: Source, K: Sink>(
         BodyEnd::Cut => return Ok(Served::Cut),
         _ => {}
     }
-    match task.outcome() {
+    match task.stages.end() {
         Some(outcome) => {
             send_reply(sink, out, outcome, end, form)?;
             Ok(served_so(end, outcome))
@@ -203,21 +203,21 @@ fn serve_body<D: Door, C: Clock, S: Source, K: Sink>(
 /// buffer is used for its text.
 #[tactic(auto, using(crate::proofs::Waiting::left_has_reply, crate::proofs::Waiting::left_front, crate::proofs::Waiting::ended_end))]
 fn leave_body<K: Sink>(
-    task: &PutTask,
+    task: &Stepping<PutTask>,
     sink: &mut K,
     out: &mut Vec<u8>,
     form: ReplyForm,
 ) -> Result<Served, ServeFault>
     requires over { IsOver (stage_of task.now) }
     requires sound { fault_of task.now ≡ None }
-    requires steady { IsSteady task.now }
+    requires steady { IsSteady task.now.stages }
     ensures left { IfOk result (λ served. (served ≡ services.Closed)
         × Appends (K.taken sink.old) (K.taken sink.new) (left_text form (stage_of task.now))) }
     ensures stopped { IfErr result (LeavesText (K.taken sink.old) (K.taken sink.new) (left_text form (stage_of task.now))) }
     ensures cause { WritesAtFault (K.faults sink.old) (K.faults sink.new) result }
 {
     let form = closing(form);
-    match task.outcome() {
+    match task.stages.end() {
         Some(outcome) => {
             out.clear();
             push_outcome(out, outcome, None, form)?;
@@ -235,7 +235,7 @@ const CONTINUE: &[u8] = b"HTTP/1.1 100 Continue\r\n\r\n";
 /// the PUT writes the 100 before the body is read; where it does not, the body is left.
 fn serve_waiting<D: Door, C: Clock, S: Source, K: Sink>(
     alloc: Global,
-    task: &mut PutTask,
+    task: &mut Stepping<PutTask>,
     form: ReplyForm,
     door: &mut D,
     clock: &mut C,
@@ -272,7 +272,7 @@ fn serve_waiting<D: Door, C: Clock, S: Source, K: Sink>(
 /// Serves the PUT of a new task, whose client waits for a 100 or not.
 fn serve_new<D: Door, C: Clock, S: Source, K: Sink>(
     alloc: Global,
-    task: &mut PutTask,
+    task: &mut Stepping<PutTask>,
     form: ReplyForm,
     waits: bool,
     door: &mut D,
@@ -346,9 +346,10 @@ pub fn serve_put<D: Door, C: Clock, S: Source, K: Sink>(
         (around (⟦<(S, K, C) as Ends>⟧.ends (source.old, sink.old, clock.old)) (D.settings door.old) (D.home door.old) (length buffer.old))
         (around (⟦<(S, K, C) as Ends>⟧.ends (source.new, sink.new, clock.new)) (D.settings door.new) (D.home door.new) (length buffer.new)) result }
 {
-    let Ok(mut task) = PutTask::new(alloc, settings, zone, asker, put) else {
+    let Ok(stages) = PutTask::new(alloc, settings, zone, asker, put) else {
         return Err(ServeFault::OutOfMemory);
     };
+    let mut task = Stepping::new(stages);
     let served = serve_new(
         alloc, &mut task, form, waits, door, clock, intake, source, sink, buffer, out,
     );

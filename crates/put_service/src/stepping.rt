@@ -1,6 +1,6 @@
 // The task of a PUT, step by step: the clock is asked once for each event, and once where the end of the body decides.
 ghost use Rattle.std.specs.Prelude.{◌≡◌, ◌<◌, ◌≤◌, ◌^◌, Ok, None, true, IfOk, OnOk, IfErr, OnErr};
-ghost use Rattle.task_put.specs.Tasks.{request_of, fault_of};
+ghost use Rattle.task_put.specs.Runs.{request_of, fault_of};
 ghost use Rattle.door_moments.specs.Acts.{Asks};
 ghost use Rattle.call_service.specs.Serving.{Stays, outside};
 ghost use Rattle.put_service.specs.Standing.{IsGoing, IsUp, PausesAt, StandsAfter, is_untold, is_untold_at};
@@ -9,9 +9,9 @@ ghost use Rattle.call_service.specs.Replying.{StopsEvent};
 use call_service::ServeFault;
 use door_moments::act;
 use gw_io::Clock;
-use realm_door::{Door, Task};
+use realm_door::{Door, Next, Staged, Stepping};
 use std::alloc::Global;
-use task_put::{Next, PutTask};
+use task_put::PutTask;
 
 /// Why the task of a PUT makes no event now.
 #[derive(Clone, Copy, Debug, PartialEq, Eq)]
@@ -28,7 +28,7 @@ pub(crate) enum Pause {
 #[tactic(auto, using(crate::proofs::Pausing::steady_wanting, crate::proofs::Pausing::steady_ready, crate::proofs::Pausing::by_body))]
 fn take_step<D: Door, C: Clock>(
     alloc: Global,
-    task: &mut PutTask,
+    task: &mut Stepping<PutTask>,
     door: &mut D,
     clock: &mut C,
 ) -> Result<Option<Pause>, ServeFault>
@@ -43,10 +43,10 @@ fn take_step<D: Door, C: Clock>(
     ensures fault { IfErr result (StopsEvent D.tells (D.found door.new)) }
     ensures stays { Stays (outside (D.settings door.old) (D.home door.old) (C.plan clock.old)) (outside (D.settings door.new) (D.home door.new) (C.plan clock.new)) }
 {
-    if task.outcome().is_some() {
+    if task.stages.end().is_some() {
         return Ok(Some(Pause::Over));
     }
-    match task.settle() {
+    match task.stages.settle() {
         Next::Wants => Ok(Some(Pause::Wants)),
         Next::Done => {
             let _moment = clock.now();
@@ -62,7 +62,7 @@ fn take_step<D: Door, C: Clock>(
 /// Makes the events of the task, up to where it pauses.
 pub(crate) fn advance<D: Door, C: Clock>(
     alloc: Global,
-    task: &mut PutTask,
+    task: &mut Stepping<PutTask>,
     door: &mut D,
     clock: &mut C,
 ) -> Result<Pause, ServeFault>

@@ -1,5 +1,5 @@
 //! Tasks whose events are made one by one.
-ghost use Rattle.std.specs.Prelude.{◌≡◌, ◌<◌, ◌≤◌, ◌^◌, length, Some, None, IfErr, OnOk, OnErr};
+ghost use Rattle.std.specs.Prelude.{◌≡◌, ◌+◌, ◌<◌, ◌≤◌, ◌^◌, length, Some, None, IfErr, OnOk, OnErr};
 ghost use Rattle.turn_cell.specs.declared.machine.DoorFault.TheVariants.{Worn};
 
 use crate::{Door, Task};
@@ -26,6 +26,7 @@ pub trait EventTask: Task {
         ensures alone { OnOk result (D.tells → D.alone → IsOneMore (D.told door.old) (D.told door.new)) }
         ensures counts { OnOk result ((D.last door.old < D.last door.new) × (D.last door.new ≤ 2 ^ 62)) }
         ensures steps { OnOk result (steps self.old self.new) }
+        ensures given { OnOk result (Self.given self.new ≡ Self.given self.old + length (Self.piece self.new)) }
         ensures command { Self.command self.new ≡ Self.command self.old }
         ensures sound { OnOk result (Self.fault self.new ≡ None) }
 

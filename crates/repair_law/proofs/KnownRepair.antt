@@ -11,7 +11,7 @@ use Rattle.realm_model.specs.Owns.{own_events, NoneBy}
 use Rattle.realm_model.specs.KnownWords.{usual, box, k, tag, bucket, actor, one_entry, shows, hello}
 use Rattle.realm_model.specs.StoppedWriterIsRepaired.{history}
 use Rattle.realm_model.specs.declared.event.Reply.TheVariants.{Done}
-use Rattle.job_words.specs.declared.outcome.JobOutcome.TheVariants.{Repaired}
+use Rattle.task_words.specs.declared.job.JobOutcome.TheVariants.{Repaired}
 use Rattle.task_repair.specs.Repairs.{PageRead, IsPageRead, RepairedBy, IsRepairOutcome}
 use Rattle.repair_law.specs.Repaired.{tags_in, IsOverdue, IsDue, ComeFrom, IsLeftAlone}
 

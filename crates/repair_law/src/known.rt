@@ -4,7 +4,7 @@ ghost use Rattle.realm_model.specs.Owns.{own_events, NoneBy};
 ghost use Rattle.realm_model.specs.Histories.{state_of, account_of};
 ghost use Rattle.realm_model.specs.KnownWords as words;
 ghost use Rattle.realm_model.specs.StoppedWriterIsRepaired as stopped;
-ghost use Rattle.job_words.specs.declared.outcome.JobOutcome.TheVariants.{Repaired};
+ghost use Rattle.task_words.specs.declared.job.JobOutcome.TheVariants.{Repaired};
 ghost use Rattle.task_repair.specs.Repairs.{IsRepairOutcome};
 ghost use Rattle.repair_law.specs.Repaired.{IsDue, ComeFrom, IsLeftAlone};
 

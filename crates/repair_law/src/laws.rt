@@ -9,7 +9,7 @@ ghost use Rattle.realm_model.specs.Phases.{ActorId};
 ghost use Rattle.realm_model.specs.Owns.{own_events, NoneBy};
 ghost use Rattle.realm_model.specs.Histories.{world_of, state_of, account_of, Legal};
 ghost use Rattle.realm_model.specs.declared.event.Event.{Event as EventOf};
-ghost use Rattle.job_words.specs.declared.outcome.JobOutcome.TheVariants.{Repaired};
+ghost use Rattle.task_words.specs.declared.job.JobOutcome.TheVariants.{Repaired};
 ghost use Rattle.task_repair.specs.declared.request.RepairRequest.{RepairRequest as RequestOf};
 ghost use Rattle.task_repair.specs.Repairs.{IsRepairOutcome};
 ghost use Rattle.repair_law.specs.Repaired.{HasNoTags, IsDue, ComeFrom, IsLeftAlone};

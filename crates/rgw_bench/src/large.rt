@@ -3,7 +3,7 @@ use crate::bench::Bench;
 use crate::sample::Sample;
 use crate::tasks::Requested;
 use crate::timing::{Timed, clocked};
-use realm_door::{Door, Task, TaskTurn};
+use realm_door::{Door, Stepping, Task, TaskTurn};
 use realm_stage::RealmStage;
 use std::alloc::Global;
 use std::rt::Clock;
@@ -75,7 +75,7 @@ fn put_and_get<R: Clock>(
     size: u64,
 ) -> anyhow::Result<Both> {
     let piece = vec![in alloc; 7_u8; PIECE]?;
-    let mut task = PutTask::on(bench, alloc, 0)?;
+    let mut task = Stepping::<PutTask>::on(bench, alloc, 0)?;
     let put = clocked(
         rt,
         || send_all(alloc, &mut bench.stage, &mut task, piece.as_slice(), size),
@@ -97,7 +97,7 @@ fn get_large<R: Clock>(rt: &R, alloc: Global, bench: &mut Bench) -> anyhow::Resu
 fn send_all(
     alloc: Global,
     stage: &mut RealmStage,
-    task: &mut PutTask,
+    task: &mut Stepping<PutTask>,
     piece: &[u8],
     size: u64,
 ) -> anyhow::Result<u64> {
@@ -128,13 +128,13 @@ fn take_all(alloc: Global, stage: &mut RealmStage, task: &mut GetTask) -> anyhow
 }
 
 // Sends the next piece, and says how much is left. Where none is, the body ends.
-fn feed(task: &mut PutTask, piece: &[u8], left: u64) -> anyhow::Result<u64> {
+fn feed(task: &mut Stepping<PutTask>, piece: &[u8], left: u64) -> anyhow::Result<u64> {
     if left == 0 {
-        task.finish(BodyEnd::Whole);
+        task.stages.finish(BodyEnd::Whole);
         return Ok(0);
     }
     let room = usize::try_from(left).unwrap_or(usize::MAX);
     let count = piece.len().min(room);
-    let taken = task.feed(&piece[..count])?;
+    let taken = task.stages.feed(&piece[..count])?;
     Ok(left.saturating_sub(taken as u64))
 }

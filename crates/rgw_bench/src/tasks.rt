@@ -4,7 +4,7 @@ use crate::chance::one_of;
 use crate::ops::{asker, get_of, put_of};
 use crate::round::Round;
 use crate::timing::clocked;
-use realm_door::{Door, Task, TaskTurn};
+use realm_door::{Door, Stepping, Task, TaskTurn};
 use realm_stage::RealmStage;
 use std::alloc::Global;
 use std::rt::Clock;
@@ -24,17 +24,17 @@ pub trait Requested: Task + Drop {
     fn feed_small(&mut self) -> anyhow::Result<()>;
 }
 
-impl Requested for PutTask {
-    fn on(bench: &Bench, alloc: Global, name: u64) -> anyhow::Result<PutTask> {
+impl Requested for Stepping<PutTask> {
+    fn on(bench: &Bench, alloc: Global, name: u64) -> anyhow::Result<Stepping<PutTask>> {
         bench.settings.has_zone_one();
         let asker = asker(alloc)?;
         let put = put_of(alloc, name)?;
-        Ok(PutTask::new(alloc, &bench.settings, 1, asker, put)?)
+        Ok(Stepping::new(PutTask::new(alloc, &bench.settings, 1, asker, put)?))
     }
 
     fn feed_small(&mut self) -> anyhow::Result<()> {
-        self.feed(b"hello")?;
-        self.finish(BodyEnd::Whole);
+        self.stages.feed(b"hello")?;
+        self.stages.finish(BodyEnd::Whole);
         Ok(())
     }
 }

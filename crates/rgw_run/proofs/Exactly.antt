@@ -138,10 +138,8 @@ module _ (site : Site) (form : ReplyForm) where
   asked_grew (Asks.Refused why) plan found z y fault left = idle_grew z y left.1
   asked_grew (Asks.Put c) plan found z y fault (d, begun, left) =
       some_grew (side d z.intake z.ends) y (put_asks (Unit {0}) (Unit {0}) site form found (is_awaited plan) c (side d z.intake z.ends) y fault left)
-  asked_grew (Asks.Get c) plan found z y fault (d, begun, left) =
-      some_grew (side d z.intake z.ends) y (stopped_asks (Unit {0}) (Unit {0}) site form found (Asks.Get c) plan (side d z.intake z.ends) y fault left)
-  asked_grew (Asks.Listing c l) plan found z y fault (d, begun, left) =
-      some_grew (side d z.intake z.ends) y (stopped_asks (Unit {0}) (Unit {0}) site form found (Asks.Listing c l) plan (side d z.intake z.ends) y fault left)
+  asked_grew (Asks.Unfed u) plan found z y fault (d, begun, left) =
+      some_grew (side d z.intake z.ends) y (stopped_asks (Unit {0}) (Unit {0}) site form found (Asks.Unfed u) plan (side d z.intake z.ends) y fault left)
 
   request_grew : (asked : Asked) (plan : BodyUse) (found : List Event) (z y : Side) (fault : ServeFault) → LeavesRequest (Unit {0}) (Unit {0}) site form asked plan found z y fault → Grew z.ends.told y.ends.told
   unfolding Grew

@@ -6,7 +6,8 @@ use Rattle.realm_model.specs.Doors.{DoorView, actor_at}
 use Rattle.realm_model.specs.Histories.{Legal}
 use Rattle.realm_model.specs.declared.event.Event.{Event}
 use Rattle.swift_requests.specs.declared.asked.Asked.{Asked}
-use Rattle.swift_requests.specs.declared.asked.Asked.TheVariants.{BadHost, Refused, Put, Get, Listing}
+use Rattle.swift_requests.specs.declared.asked.Asked.TheVariants.{BadHost, Refused, Put, Unfed}
+use Rattle.swift_requests.specs.declared.asked.UnfedCommand.TheVariants.{Get, Listing}
 use Rattle.swift_requests.specs.declared.body.BodyUse.{BodyUse}
 use Rattle.swift_requests.specs.Bodies.{is_awaited}
 use Rattle.task_words.specs.declared.command.PutCommand.{PutCommand}
@@ -34,8 +35,8 @@ module _ (site : Site) (found : List Event) (read_at clock : ℕ) where
   asked_in_time BadHost form plan z y legal leaves = absurd leaves.0
   asked_in_time (Refused why) form plan z y legal leaves = absurd leaves.0
   asked_in_time (Put c) form plan z y legal leaves = put_in_time form (is_awaited plan) c (side leaves.0 z.intake z.ends) y leaves.2
-  asked_in_time (Listing c l) form plan z y legal leaves = absurd (leaves.2.0 tt)
-  asked_in_time (Get c) form plan z y legal leaves =
+  asked_in_time (Unfed (Listing c l)) form plan z y legal leaves = absurd (leaves.2.0 tt)
+  asked_in_time (Unfed (Get c)) form plan z y legal leaves =
       let missed = (leaves.2.0 tt).1 in
       misses_none site.settings y.door.seen (actor_at y.door) missed.front [] missed.last clock legal missed.stands missed.missed
 

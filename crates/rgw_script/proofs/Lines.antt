@@ -13,11 +13,11 @@ use Rattle.script_lines.specs.declared.reader.Next.{Next}
 use Rattle.rgw_script.specs.Faults.{line_fault}
 use Rattle.rgw_script.specs.Plays.{PlaysOne, PlaysAll}
 use Rattle.rgw_script.specs.Printing.{CountsWrite, Refuses}
-use Rattle.rgw_script.specs.Runs.{with_breaks, ReadsSome, LeavesText, LeavesTooLong, LeavesUnread, PlaysThrough, PlaysUpTo, HasScriptCause}
+use Rattle.rgw_script.specs.Runs.{with_breaks, LeavesText, LeavesTooLong, LeavesUnread, PlaysThrough, PlaysUpTo, HasScriptCause}
 use Rattle.rgw_script.specs.Scenes.{Scene}
 use Rattle.rgw_script.specs.declared.fault.ScriptFault.{ScriptFault}
 use Rattle.rgw_script.specs.declared.fault.ScriptFault.TheVariants.{OutOfMemory, ReadFault, WriteFault, Worn, BadLine}
-use Rattle.rgw_script.proofs.Reading.{Counts, read_on, nothing_read, all_read, line_read, line_next, last_read, last_next, longer_too, counts_line, counts_last}
+use Rattle.rgw_script.proofs.Reading.{Counts, ReadsSo, read_on, nothing_some, nothing_read, all_read, line_read, line_next, last_read, last_next, longer_too, counts_line, counts_last}
 
 -- ---- lines that were played
 
@@ -34,7 +34,7 @@ pub record SoFar (settings : SettingsView) (s : Scene) (start left begun taken :
   pub texts : List (List ℕ)
   pub printed : List ℕ
   pub played : PlaysAll settings s texts t printed
-  pub reads : ReadsSome start left texts reader.waits
+  pub reads : ReadsSo start left texts reader.waits reader.given
   pub written : Appends begun taken printed
   pub count : number ≡ length texts
   pub counts : Counts texts reader.given
@@ -57,8 +57,8 @@ finds_as all ended old new next is same finds = subst (λ n. FindsLine all ended
 
 module _ (settings : SettingsView) (s t : Scene) (start left left' begun taken : Option (List ℕ)) (old new : ReaderState) (number : ℕ)
     (so : SoFar settings s start left begun taken old number t) (more : List ℕ) (consumed : Consumes left left' more) where
-  reads_on : ReadsSome start left' so.texts (old.waits ++ more)
-  reads_on = read_on start left left' so.texts old.waits more so.reads consumed
+  reads_on : ReadsSo start left' so.texts (old.waits ++ more) old.given
+  reads_on = read_on start left left' so.texts old.waits more old.given so.counts.within so.reads consumed
 
   -- it was played too
   pub played_on : (taken' : Option (List ℕ)) (u : Scene) (printed : List ℕ) → (TakesLine (old.waits ++ more) old new ⊎ (TakesLast (old.waits ++ more) old new × IsAtEnd left'))
@@ -68,8 +68,8 @@ module _ (settings : SettingsView) (s t : Scene) (start left left' begun taken :
     printed = so.printed ++ printed;
     played = plays_more settings s t u so.texts new.line so.printed printed so.played one;
     reads = elim takes [
-      | inl line ↦ line_read start left' so.texts (old.waits ++ more) reads_on old new line
-      | inr last ↦ last_read start left' so.texts (old.waits ++ more) reads_on old new last.0 last.1
+      | inl line ↦ line_read start left' so.texts (old.waits ++ more) old new reads_on line
+      | inr last ↦ last_read start left' so.texts (old.waits ++ more) old new reads_on last.0 last.1
     ];
     written = Appends-trans begun taken taken' so.printed printed so.written written;
     count = ap (λ n. n + 1) so.count ∙ sym (length-append so.texts (new.line ∷ []));
@@ -86,7 +86,7 @@ module _ (settings : SettingsView) (s t : Scene) (start left left' begun taken :
     last = t;
     printed = so.printed;
     played = so.played;
-    reads = all_read start left' so.texts (old.waits ++ more) reads_on none ended;
+    reads = all_read start left' so.texts (old.waits ++ more) reads_on.some none ended;
     written = so.written;
     history_is = same;
   }
@@ -103,14 +103,14 @@ module _ (settings : SettingsView) (s t : Scene) (start left left' begun taken :
     printed = so.printed;
     played = so.played;
     rest = old.waits ++ more;
-    reads = reads_on;
+    reads = reads_on.some;
     between = taken;
     written = so.written;
     leaves = inl (
       new.line,
       elim takes [
-        | inl line ↦ line_next start left' so.texts (old.waits ++ more) reads_on old new line
-        | inr last ↦ last_next start left' so.texts (old.waits ++ more) reads_on old new last.0 last.1
+        | inl line ↦ line_next start left' so.texts (old.waits ++ more) old new reads_on line
+        | inr last ↦ last_next start left' so.texts (old.waits ++ more) old new reads_on last.0 last.1
       ],
       subst (λ n. LeavesText settings t n new.line taken taken' history fault) next_number leaves,
     );
@@ -125,7 +125,7 @@ module _ (settings : SettingsView) (s t : Scene) (start left left' begun taken :
     printed = so.printed;
     played = so.played;
     rest = old.waits ++ more;
-    reads = reads_on;
+    reads = reads_on.some;
     between = taken;
     written = so.written;
     leaves = inr (inl (
@@ -142,7 +142,7 @@ module _ (settings : SettingsView) (s t : Scene) (start left left' begun taken :
     printed = so.printed;
     played = so.played;
     rest = old.waits ++ more;
-    reads = reads_on;
+    reads = reads_on.some;
     between = taken;
     written = so.written;
     leaves = inr (inr leaves);
@@ -156,7 +156,7 @@ left_at_once settings s left taken history same = record {
   printed = [];
   played = (refl, refl);
   rest = [];
-  reads = nothing_read left;
+  reads = nothing_some left;
   between = taken;
   written = Appends-nil taken;
   leaves = inr (inr (same, Appends-nil taken));

@@ -8,11 +8,11 @@ use Rattle.script_lines.specs.Lines.{IsUnbroken, lines_of}
 use Rattle.script_lines.specs.Reading.{ReaderState, TakesLine, TakesLast, BeginsTooLong}
 use Rattle.script_lines.specs.declared.reader.TheConstants.{LINE_LIMIT, INPUT_LIMIT}
 use Rattle.script_lines.proofs.LineLemmas.{goes_first, is_last}
-use Rattle.rgw_script.specs.Runs.{with_breaks, ReadsAll, ReadsSome, IsNext}
+use Rattle.rgw_script.specs.Runs.{with_breaks, IsShort, IsWithin, ReadsAll, ReadsSome, IsNext}
 
 -- ---- lists
 
-pub texts_both : (xs ys : List (List ℕ)) → AllByRecursion IsUnbroken xs → AllByRecursion IsUnbroken ys → AllByRecursion IsUnbroken (xs ++ ys)
+texts_both : {Is : List ℕ → Type 0} (xs ys : List (List ℕ)) → AllByRecursion Is xs → AllByRecursion Is ys → AllByRecursion Is (xs ++ ys)
 texts_both [] ys p q = q
 texts_both (x ∷ xs) ys p q = (p.0, texts_both xs ys p.1 q)
 
@@ -38,45 +38,113 @@ lines_front (text ∷ texts) rest unbroken =
     ∙ goes_first text (with_breaks texts ++ rest) unbroken.0
     ∙ ap (λ l. text ∷ l) (lines_front texts rest unbroken.1)
 
+-- ---- sizes
+
+-- where the input tells what is left of it: what was read has as many bytes as the lines that were given, with what waits
+abbrev SizeIs : Option (List ℕ) → List ℕ → List ℕ → ℕ → Type 0
+SizeIs None read rest given = Unit {0}
+SizeIs (Some all) read rest given = length read ≡ given + length rest
+
+within_of : (first : Option (List ℕ)) (read rest : List ℕ) (given : ℕ) → SizeIs first read rest given → given ≤ INPUT_LIMIT → IsWithin first read rest
+within_of None read rest given size few = tt
+within_of (Some all) read rest given size few = omega (arith, size, few)
+
+size_line : (first : Option (List ℕ)) (read rest : List ℕ) (old new : ReaderState) → TakesLine rest old new → SizeIs first read rest old.given → SizeIs first read new.waits new.given
+size_line None read rest old new takes size = tt
+size_line (Some all) read rest old new takes size =
+    let long = ap length takes.bytes ∙ length-append new.line (10 ∷ new.waits) in omega (arith, size, long, takes.given)
+
+size_last : (first : Option (List ℕ)) (read rest : List ℕ) (old new : ReaderState) → TakesLast rest old new → SizeIs first read rest old.given → SizeIs first read new.waits new.given
+size_last None read rest old new takes size = tt
+size_last (Some all) read rest old new takes size =
+    let long = ap length takes.bytes in
+    let none : length new.waits ≡ 0 = ap length takes.none_waits in
+    omega (arith, size, long, none, takes.given)
+
+-- these lines were read, and they have so many bytes
+pub record ReadsSo (left left' : Option (List ℕ)) (texts : List (List ℕ)) (rest : List ℕ) (given : ℕ) : Type 0 where
+  pub some : ReadsSome left left' texts rest
+  pub size : SizeIs left some.read rest given
+
 -- ---- one read more
 
 -- Where the input tells what is left of it, nothing comes behind its end.
-pub read_on : (first left left' : Option (List ℕ)) (texts : List (List ℕ)) (waits more : List ℕ) → ReadsSome first left texts waits → Consumes left left' more → ReadsSome first left' texts (waits ++ more)
-read_on None left left' texts waits more reads consumed = record {
-  read = with_breaks texts ++ (waits ++ more);
-  consumed = tt;
-  unbroken = reads.unbroken;
-  fronts = inl refl;
+pub read_on : (first left left' : Option (List ℕ)) (texts : List (List ℕ)) (waits more : List ℕ) (given : ℕ) → given ≤ INPUT_LIMIT → ReadsSo first left texts waits given → Consumes left left' more
+    → ReadsSo first left' texts (waits ++ more) given
+read_on None left left' texts waits more given few reads consumed = record {
+  some = record {
+    read = with_breaks texts ++ (waits ++ more);
+    consumed = tt;
+    unbroken = reads.some.unbroken;
+    short = reads.some.short;
+    within = tt;
+    fronts = inl refl;
+  };
+  size = tt;
 }
-read_on (Some xs) left left' texts waits more reads consumed =
-    elim reads.fronts [
-      | inl front ↦ record {
-        read = reads.read ++ more;
-        consumed = Consumes-trans (Some xs) left left' reads.read more reads.consumed consumed;
-        unbroken = reads.unbroken;
-        fronts = inl (ap (λ l. l ++ more) front ∙ append_assoc (with_breaks texts) waits more);
-      }
-      | inr last ↦ record {
-        read = reads.read;
-        consumed = subst (Consumes (Some xs) left') (append-nil reads.read) (subst (λ m. Consumes (Some xs) left' (reads.read ++ m)) (ends left left' reads.consumed last.2 consumed).0
-            (Consumes-trans (Some xs) left left' reads.read more reads.consumed consumed));
-        unbroken = reads.unbroken;
-        fronts = inr (last.0, ap (λ l. l ++ more) last.1 ∙ (ends left left' reads.consumed last.2 consumed).0, (ends left left' reads.consumed last.2 consumed).1);
-      }
+read_on (Some xs) left left' texts waits more given few reads consumed =
+    elim reads.some.fronts [
+      | inl front ↦
+          let read = reads.some.read in
+          let one = length-append read more in
+          let two = length-append waits more in
+          let size = reads.size in
+          let size' : length (read ++ more) ≡ given + length (waits ++ more) = omega (arith, size, one, two) in
+          record {
+            some = record {
+              read = read ++ more;
+              consumed = Consumes-trans (Some xs) left left' read more reads.some.consumed consumed;
+              unbroken = reads.some.unbroken;
+              short = reads.some.short;
+              within = within_of (Some xs) (read ++ more) (waits ++ more) given size' few;
+              fronts = inl (ap (λ l. l ++ more) front ∙ append_assoc (with_breaks texts) waits more);
+            };
+            size = size';
+          }
+      | inr last ↦
+          let over = ends left left' reads.some.consumed last.2 consumed in
+          let read = reads.some.read in
+          let two = length-append waits more in
+          let none : length more ≡ 0 = ap length over.0 in
+          let size = reads.size in
+          let size' : length read ≡ given + length (waits ++ more) = omega (arith, size, two, none) in
+          record {
+            some = record {
+              read = read;
+              consumed = subst (Consumes (Some xs) left') (append-nil read) (subst (λ m. Consumes (Some xs) left' (read ++ m)) over.0
+                  (Consumes-trans (Some xs) left left' read more reads.some.consumed consumed));
+              unbroken = reads.some.unbroken;
+              short = reads.some.short;
+              within = within_of (Some xs) read (waits ++ more) given size' few;
+              fronts = inr (last.0, ap (λ l. l ++ more) last.1 ∙ over.0, over.1);
+            };
+            size = size';
+          }
     ] where
       none_more : (ys zs : List ℕ) → [] ≡ ys ++ zs → (ys ≡ []) × (zs ≡ [])
       none_more [] zs is = (refl, sym is)
       none_more (y ∷ ys) zs is = absurd (cc)
 
-      ends : (a b : Option (List ℕ)) → Consumes (Some xs) a reads.read → IsAtEnd a → Consumes a b more → (more ≡ []) × IsAtEnd b
+      ends : (a b : Option (List ℕ)) → Consumes (Some xs) a reads.some.read → IsAtEnd a → Consumes a b more → (more ≡ []) × IsAtEnd b
       ends None b all at_end consumed = absurd all
       ends (Some ys) None all at_end consumed = absurd consumed
       ends (Some ys) (Some zs) all at_end consumed = none_more more zs (sym at_end ∙ consumed)
 
 -- ---- what is found
 
-pub nothing_read : (left : Option (List ℕ)) → ReadsSome left left [] []
-nothing_read left = record { read = []; consumed = Consumes-nil left; unbroken = tt; fronts = inl refl }
+nothing_within : (left : Option (List ℕ)) → IsWithin left [] []
+nothing_within None = tt
+nothing_within (Some all) = omega arith
+
+pub nothing_some : (left : Option (List ℕ)) → ReadsSome left left [] []
+nothing_some left = record { read = []; consumed = Consumes-nil left; unbroken = tt; short = tt; within = nothing_within left; fronts = inl refl }
+
+nothing_sized : (left : Option (List ℕ)) → SizeIs left [] [] 0
+nothing_sized None = tt
+nothing_sized (Some all) = refl
+
+pub nothing_read : (left : Option (List ℕ)) → ReadsSo left left [] [] 0
+nothing_read left = record { some = nothing_some left; size = nothing_sized left }
 
 -- the input ended
 pub all_read : (first left : Option (List ℕ)) (texts : List (List ℕ)) (rest : List ℕ) → ReadsSome first left texts rest → rest ≡ [] → IsAtEnd left → ReadsAll first left texts
@@ -88,46 +156,62 @@ all_read first left texts rest reads none ended = record {
     | inl front ↦ sym (ap lines_of (front ∙ ap (λ l. with_breaks texts ++ l) none) ∙ lines_front texts [] reads.unbroken ∙ append-nil texts)
     | inr last ↦ last.0
   ];
+  short = reads.short;
+  within = subst (IsWithin first reads.read) none reads.within;
 }
 
-module _ (first left : Option (List ℕ)) (texts : List (List ℕ)) (rest : List ℕ) (reads : ReadsSome first left texts rest) (old new : ReaderState) where
+module _ (first left : Option (List ℕ)) (texts : List (List ℕ)) (rest : List ℕ) (old new : ReaderState) (reads : ReadsSo first left texts rest old.given) where
   -- a line with its line feed
-  pub line_read : TakesLine rest old new → ReadsSome first left (texts ++ new.line ∷ []) new.waits
-  line_read takes = record {
-    read = reads.read;
-    consumed = reads.consumed;
-    unbroken = texts_both texts (new.line ∷ []) reads.unbroken (takes.one, tt);
-    fronts = elim reads.fronts [
-      | inl front ↦ inl (front ∙ ap (λ l. with_breaks texts ++ l) takes.bytes ∙ breaks_more texts new.line new.waits)
-      | inr last ↦ absurd (not_empty new.line (sym last.1 ∙ takes.bytes))
-    ];
-  } where
-    not_empty : (line : List ℕ) → [] ≡ line ++ 10 ∷ new.waits → ⊥
-    not_empty [] is = cc
-    not_empty (b ∷ line) is = cc
+  pub line_read : TakesLine rest old new → ReadsSo first left (texts ++ new.line ∷ []) new.waits new.given
+  line_read takes =
+      let size = size_line first reads.some.read rest old new takes reads.size in
+      record {
+        some = record {
+          read = reads.some.read;
+          consumed = reads.some.consumed;
+          unbroken = texts_both texts (new.line ∷ []) reads.some.unbroken (takes.one, tt);
+          short = texts_both texts (new.line ∷ []) reads.some.short (takes.short, tt);
+          within = within_of first reads.some.read new.waits new.given size takes.within;
+          fronts = elim reads.some.fronts [
+            | inl front ↦ inl (front ∙ ap (λ l. with_breaks texts ++ l) takes.bytes ∙ breaks_more texts new.line new.waits)
+            | inr last ↦ absurd (not_empty new.line (sym last.1 ∙ takes.bytes))
+          ];
+        };
+        size = size;
+      } where
+        not_empty : (line : List ℕ) → [] ≡ line ++ 10 ∷ new.waits → ⊥
+        not_empty [] is = cc
+        not_empty (b ∷ line) is = cc
 
   pub line_next : TakesLine rest old new → IsNext left rest new.line
-  line_next takes = record { unbroken = takes.one; begins = inl (new.waits, takes.bytes) }
+  line_next takes = record { unbroken = takes.one; short = takes.short; begins = inl (new.waits, takes.bytes) }
 
   -- a last line without one
-  pub last_read : TakesLast rest old new → IsAtEnd left → ReadsSome first left (texts ++ new.line ∷ []) new.waits
-  last_read takes ended = record {
-    read = reads.read;
-    consumed = reads.consumed;
-    unbroken = texts_both texts (new.line ∷ []) reads.unbroken (takes.one, tt);
-    fronts = elim reads.fronts [
-      | inl front ↦ inr (
-        sym (ap lines_of (front ∙ ap (λ l. with_breaks texts ++ l) takes.bytes) ∙ lines_front texts new.line reads.unbroken
-            ∙ ap (λ l. texts ++ l) (is_last new.line takes.one takes.some)),
-        takes.none_waits,
-        ended,
-      )
-      | inr last ↦ absurd (takes.some (sym takes.bytes ∙ last.1))
-    ];
-  }
+  pub last_read : TakesLast rest old new → IsAtEnd left → ReadsSo first left (texts ++ new.line ∷ []) new.waits new.given
+  last_read takes ended =
+      let size = size_last first reads.some.read rest old new takes reads.size in
+      record {
+        some = record {
+          read = reads.some.read;
+          consumed = reads.some.consumed;
+          unbroken = texts_both texts (new.line ∷ []) reads.some.unbroken (takes.one, tt);
+          short = texts_both texts (new.line ∷ []) reads.some.short (takes.short, tt);
+          within = within_of first reads.some.read new.waits new.given size takes.within;
+          fronts = elim reads.some.fronts [
+            | inl front ↦ inr (
+              sym (ap lines_of (front ∙ ap (λ l. with_breaks texts ++ l) takes.bytes) ∙ lines_front texts new.line reads.some.unbroken
+                  ∙ ap (λ l. texts ++ l) (is_last new.line takes.one takes.some)),
+              takes.none_waits,
+              ended,
+            )
+            | inr last ↦ absurd (takes.some (sym takes.bytes ∙ last.1))
+          ];
+        };
+        size = size;
+      }
 
   pub last_next : TakesLast rest old new → IsAtEnd left → IsNext left rest new.line
-  last_next takes ended = record { unbroken = takes.one; begins = inr (takes.bytes, takes.some, ended) }
+  last_next takes ended = record { unbroken = takes.one; short = takes.short; begins = inr (takes.bytes, takes.some, ended) }
 
 -- more lines were given by then
 pub longer_too : (given other : ℕ) (rest : List ℕ) → given ≤ other → BeginsTooLong given rest → BeginsTooLong other rest

@@ -1,5 +1,5 @@
 -- What running a script comes to.
-use Rattle.std.specs.Prelude.{◌≡◌, ◌≢◌, ◌⊎◌, ℕ, ◌+◌, ◌^◌, false, List, [], ◌∷◌, ◌++◌, length, Option, Some, None, Result, Ok, Err}
+use Rattle.std.specs.Prelude.{◌≡◌, ◌≢◌, ◌⊎◌, ℕ, ◌+◌, ◌^◌, ◌≤◌, false, List, [], ◌∷◌, ◌++◌, length, Option, Some, None, Result, Ok, Err}
 use Rattle.std.specs.Io.KnownBytes.{Consumes, Appends, IsAtEnd}
 use Rattle.std.specs.List.{AllByRecursion}
 use Rattle.gw_io.specs.Outside.{Rose, AppendsProperPrefix}
@@ -10,6 +10,7 @@ use Rattle.realm_model.specs.declared.event.Event.{Event}
 use Rattle.swift_auth.specs.Users.{standard_user, account_of}
 use Rattle.script_lines.specs.Lines.{IsUnbroken, lines_of}
 use Rattle.script_lines.specs.Reading.{BeginsTooLong}
+use Rattle.script_lines.specs.declared.reader.TheConstants.{LINE_LIMIT, INPUT_LIMIT}
 use Rattle.script_words.specs.Lines.{IsLine}
 use Rattle.script_words.specs.Replies.{bad_line}
 use Rattle.script_words.specs.declared.line.Line.{Line}
@@ -46,23 +47,38 @@ abbrev pub with_breaks : List (List ℕ) → List ℕ
 with_breaks [] = []
 with_breaks (text ∷ texts) = text ++ 10 ∷ with_breaks texts
 
--- the input was read to its end, and has these lines
+-- a line that is not too long
+abbrev pub IsShort : List ℕ → Type 0
+IsShort text = length text ≤ LINE_LIMIT
+
+-- where the input tells what is left of it: what was read of it, but for what waits, is not more than an input may have
+abbrev pub IsWithin : Option (List ℕ) → List ℕ → List ℕ → Type 0
+IsWithin None read rest = Unit {0}
+IsWithin (Some all) read rest = length read ≤ INPUT_LIMIT + length rest
+
+-- the input was read to its end, and has these lines, none of them too long; nor is the input
 pub record ReadsAll (left left' : Option (List ℕ)) (texts : List (List ℕ)) : Type 0 where
   pub read : List ℕ
   pub consumed : Consumes left left' read
   pub ended : IsAtEnd left'
   pub lines : texts ≡ lines_of read
+  pub short : AllByRecursion IsShort texts
+  pub within : IsWithin left read []
 
--- These lines were read, and behind them these bytes; or the last of the lines had no line feed, and the input ended.
+-- These lines were read, and behind them these bytes; or the last of the lines had no line feed, and the input ended. No
+-- line is too long, nor is the input up to there.
 pub record ReadsSome (left left' : Option (List ℕ)) (texts : List (List ℕ)) (rest : List ℕ) : Type 0 where
   pub read : List ℕ
   pub consumed : Consumes left left' read
   pub unbroken : AllByRecursion IsUnbroken texts
+  pub short : AllByRecursion IsShort texts
+  pub within : IsWithin left read rest
   pub fronts : (read ≡ with_breaks texts ++ rest) ⊎ ((texts ≡ lines_of read) × (rest ≡ []) × IsAtEnd left')
 
--- the bytes begin with this line; the last line of the input may go without its line feed
+-- the bytes begin with this line, which is not too long; the last line of the input may go without its line feed
 pub record IsNext (left' : Option (List ℕ)) (rest text : List ℕ) : Type 0 where
   pub unbroken : IsUnbroken text
+  pub short : IsShort text
   pub begins : ((more : List ℕ) × (rest ≡ text ++ 10 ∷ more)) ⊎ ((rest ≡ text) × (text ≢ []) × IsAtEnd left')
 
 -- ---- a line at which the script ended

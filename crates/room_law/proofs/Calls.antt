@@ -16,6 +16,7 @@ use Rattle.realm_door.specs.Steps.{actor_of_pass}
 use Rattle.realm_door.proofs.Others.{own-append, same_after_others}
 use Rattle.swift_requests.specs.declared.asked.Asked.{Asked}
 use Rattle.swift_requests.specs.declared.asked.Asked.TheVariants as Asks
+use Rattle.swift_requests.specs.declared.asked.UnfedCommand.TheVariants.{Get, Listing}
 use Rattle.task_words.specs.declared.asker.Asker.{Asker}
 use Rattle.task_words.specs.declared.command.PutCommand.{PutCommand}
 use Rattle.task_words.specs.declared.command.GetCommand.{GetCommand}
@@ -113,12 +114,12 @@ module _ (settings : SettingsView) (good : IsSettings settings) (zone : ℕ) (as
     one_found (Asks.Put c) read_whole body outcome shown borne fits = put_found c body (body_at read_whole body) outcome borne.0 borne.4 fits
     one_found (Asks.Put c) (broken_off why) body outcome shown borne fits = tt
     one_found (Asks.Put c) unread body outcome shown borne fits = put_found c body (body_at unread body) outcome borne.0 borne.4 fits
-    one_found (Asks.Get c) fate body outcome shown borne fits =
+    one_found (Asks.Unfed (Get c)) fate body outcome shown borne fits =
         let same = gets_free settings actor w first (0 + length before) (clock_after 0 before) own (subst AreOfGet own_is borne.3) in
-        calm_found (Asks.Get c) body outcome refl same (got c fate outcome borne.0)
-    one_found (Asks.Listing c listing) fate body outcome shown borne fits =
+        calm_found (Asks.Unfed (Get c)) body outcome refl same (got c fate outcome borne.0)
+    one_found (Asks.Unfed (Listing c listing)) fate body outcome shown borne fits =
         let same = lists_free settings actor w first (0 + length before) (clock_after 0 before) own (subst AreOfListing own_is borne.3) in
-        calm_found (Asks.Listing c listing) body outcome refl same (listed (record { zone = zone; asker = asker; command = c }) fate outcome borne.0)
+        calm_found (Asks.Unfed (Listing c listing)) body outcome refl same (listed (record { zone = zone; asker = asker; command = c }) fate outcome borne.0)
 
   -- ---- calls
 
@@ -129,8 +130,7 @@ module _ (settings : SettingsView) (good : IsSettings settings) (zone : ℕ) (as
   unless (Asks.Put c) unread f x = f x
   unless Asks.BadHost fate f x = f x
   unless (Asks.Refused why) fate f x = f x
-  unless (Asks.Get c) fate f x = f x
-  unless (Asks.Listing c listing) fate f x = f x
+  unless (Asks.Unfed u) fate f x = f x
 
   always : {X : Type 0} (asked : Asked) (fate : Fate) → X → UnlessBroken asked fate X
   always (Asks.Put c) (broken_off why) x = tt
@@ -138,8 +138,7 @@ module _ (settings : SettingsView) (good : IsSettings settings) (zone : ℕ) (as
   always (Asks.Put c) unread x = x
   always Asks.BadHost fate x = x
   always (Asks.Refused why) fate x = x
-  always (Asks.Get c) fate x = x
-  always (Asks.Listing c listing) fate x = x
+  always (Asks.Unfed u) fate x = x
 
   found : (before more : List Event) (next : ℕ) (calls : List Call) (last : ℕ) (later : List Event) → Legal settings (before ++ more) → NoneFrom pass next before → AreRight settings zone asker pass (before ++ more) next calls last
       → AreMade pass calls more later → AreBy pass last later → frames_together settings.frame settings.stripe calls ≤ (state_of settings before).free zone

@@ -1,4 +1,3 @@
-use job_words::JobOutcome;
 use rgw_types::Text;
 use script_words::{
     ActorName, ActorOutcome, Line, ScriptBody, Verb, push_bad_line, push_count_line,
@@ -6,7 +5,7 @@ use script_words::{
 };
 use std::alloc::{AllocError, Global};
 use std::test::Fail;
-use task_words::{MapReply, Outcome, Refusal};
+use task_words::{JobOutcome, MapReply, Outcome, Refusal};
 
 /// Whether a realm of two zones takes the text as a line.
 fn is_line(alloc: Global, text: &str) -> Result<bool, AllocError> {

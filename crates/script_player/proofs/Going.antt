@@ -1,5 +1,5 @@
 -- An actor goes on, event by event.
-use Rattle.std.proofs.Common.{◌≡◌, ⊎_elim, ℕ, ◌+◌, ◌≤◌, List, [], ◌∷◌, ◌++◌, length, replicate, refl, sym, ap, ◌∙◌, subst, append_assoc, length-append, arith}
+use Rattle.std.proofs.Common.{◌≡◌, inl, ⊎_elim, Result, Ok, Err, OnOk, ℕ, ◌+◌, ◌≤◌, List, [], ◌∷◌, ◌++◌, length, replicate, refl, sym, ap, ◌∙◌, subst, append_assoc, length-append, arith}
 use Rattle.std.proofs.lemmas.List.{append-nil, nil_from_length, replicate-append-replicate}
 use Rattle.std.specs.List.{AllByRecursion}
 use Rattle.realm_model.specs.Settings.{SettingsView}
@@ -121,3 +121,9 @@ module _ (alone : Type 0) (settings : SettingsView) (moment : ℕ) where
       (λ one. one)
       (λ none. absurd (going none.0))
       s
+
+-- an event was made, if it was
+pub steps_if : {A E : Type 0} (tells alone : Type 0) (settings : SettingsView) (moment : ℕ) (Over : Type 0) (d e : DoorView) (result : Result A E) → OnOk result (tells → MakesEvent settings moment d e)
+    → OnOk result (tells → alone → IsOneMore d e) → OnOk result (tells → Steps alone settings moment Over d e)
+steps_if tells alone settings moment Over d e (Ok a) made few = λ is. inl (goes_once alone settings moment d e (made is) (few is))
+steps_if tells alone settings moment Over d e (Err f) made few = tt

@@ -2,8 +2,6 @@ pub mod Going
 pub mod Feeding
 pub mod Putting
 pub mod Getting
-pub mod Counting
-pub mod Listing
-pub mod Checking
+pub mod Unfed
 pub mod Staying
 pub mod Words

@@ -22,13 +22,15 @@ use Rattle.task_put.specs.Cuts.{CutBody}
 use Rattle.task_put.specs.Stages.{IsOver, IsReady, settled}
 use Rattle.task_put.specs.Stepped.{stepped}
 use Rattle.task_put.specs.Taking.{WantsBytes, room_at, fed_request, ended_request}
-use Rattle.task_put.specs.Tasks.{request_of, stage_of, fault_of, decided, body_ended, fits, IsPutEnd}
+use Rattle.task_put.specs.Runs.{request_of, stage_of, fault_of, decided, with_stages, fits}
+use Rattle.task_put.specs.Tasks.{decided as stages_decided, body_ended as stages_ended, request_of as stages_request, IsPutEnd}
 use Rattle.task_put.specs.declared.stage.Draft.{Draft}
 use Rattle.task_put.specs.declared.stage.PutRequest.{PutRequest}
 use Rattle.task_put.specs.declared.stage.Stage.{Stage}
-use Rattle.task_put.specs.declared.stage.Stage.TheVariants.{Looking, Feeding, LookingAgain, Preparing, Announcing, Writing, Cancelling, Completing, LookingForShard, Ended}
+use Rattle.task_put.specs.declared.stage.Stage.TheVariants.{Looking, Feeding, Changing, Ended}
+use Rattle.realm_door.specs.declared.stepping.Stepping.{Stepping}
 use Rattle.task_put.specs.declared.task.PutTask.{PutTask}
-use Rattle.task_put.proofs.Stepping.{settled_task}
+use Rattle.task_put.proofs.Running.{settled_run}
 use Rattle.put_service.specs.Standing.{IsSteady}
 use Rattle.put_service.proofs.Pausing.{wants_open, ready_open, steady_fed, steady_ended, steady_wanting, steady_ready, wants_room, wants_unended}
 use Rattle.put_service.proofs.Serving.{steady_new}
@@ -41,22 +43,26 @@ use Rattle.script_player.specs.Meanings.{MeansRequest}
 use Rattle.script_player.specs.Plays.{asked_put, EndsAt, IsPut, TakesNext, PutStands, unended, left_of, FitsPut}
 use Rattle.script_player.specs.declared.put.PutPlay.{PutPlay}
 
-abbrev pub play_of : PutTask → ScriptBody → ℕ → PutPlay
+abbrev pub play_of : Stepping PutTask → ScriptBody → ℕ → PutPlay
 play_of task body at = record { task = task; body = body; fed = at }
+
+-- the play with other stages of its task
+abbrev pub play_with : PutPlay → PutTask → ℕ → PutPlay
+play_with x stages at = play_of (with_stages x.task stages) x.body at
 
 -- ---- at first
 
-pub new_stands : (task : PutTask) (body : ScriptBody) (zone stripe : ℕ) (container name : List ℕ) → length (body_bytes body) ≤ most_bytes → request_of task ≡ put_request zone container name [] None
-    → (draft : Draft) × (stage_of task ≡ Looking draft) × (draft.body ≡ no_bytes stripe) → fault_of task ≡ None → PutStands (play_of task body 0)
-new_stands task body zone stripe container name few request looks sound = record {
+pub new_stands : (stages : PutTask) (body : ScriptBody) (zone stripe : ℕ) (container name : List ℕ) → length (body_bytes body) ≤ most_bytes → stages_request stages ≡ put_request zone container name [] None
+    → (draft : Draft) × (stages.stage ≡ Looking draft) × (draft.body ≡ no_bytes stripe) → PutStands (play_of (record { stages = stages; fault = None }) body 0)
+new_stands stages body zone stripe container name few request looks = record {
   is_put = record {
     plain = request ∙ ap (λ (r : PutRequest). put_request r.zone r.command.container r.command.name (take 0 (body_bytes body)) r.end) (sym request);
     fed = omega arith;
     few = few;
     ends = subst (λ e. EndsAt e 0 (length (body_bytes body))) (sym (ap (λ (r : PutRequest). r.end) request)) tt;
   };
-  steady = λ _. steady_new task (put_request zone container name [] None) stripe request refl refl looks;
-  sound = sound;
+  steady = λ _. steady_new stages (put_request zone container name [] None) stripe request refl refl looks;
+  sound = refl;
 }
 
 -- ---- bytes
@@ -73,7 +79,7 @@ with_bytes r s all at count more plain is next =
     is ∙ fed ∙ ap (λ (q : PutRequest). put_request q.zone q.command.container q.command.name (take (at + count) all) q.end) (sym is)
 
 -- a task that wants bytes goes on
-steady_now : (x : PutPlay) → PutStands x → WantsBytes (stage_of x.task) → IsSteady x.task
+steady_now : (x : PutPlay) → PutStands x → WantsBytes (stage_of x.task) → IsSteady x.task.stages
 steady_now x s wants = s.steady (wants_open (stage_of x.task) wants)
 
 -- the body did not end yet
@@ -86,26 +92,26 @@ has_room x s wants more =
     let few = s.is_put.few in
     wants_room (request_of x.task) (stage_of x.task) (steady_now x s wants) wants (omega (arith, bytes, few, more))
 
-module _ (x : PutPlay) (task : PutTask) (count : ℕ) (s : PutStands x) (wants : WantsBytes (stage_of x.task)) (takes : TakesNext (body_bytes x.body) x.fed x.task task count) where
-  request_now : request_of task ≡ fed_request (request_of x.task) takes.more
-  request_now = ap request_of takes.task
+module _ (x : PutPlay) (stages : PutTask) (count : ℕ) (s : PutStands x) (wants : WantsBytes (stage_of x.task)) (takes : TakesNext (body_bytes x.body) x.fed x.task.stages stages count) where
+  request_now : stages_request stages ≡ fed_request (request_of x.task) takes.more
+  request_now = ap stages_request takes.task
 
-  ended_as : (request_of task).end ≡ None
+  ended_as : (stages_request stages).end ≡ None
   ended_as = ap (λ (q : PutRequest). q.end) request_now ∙ unended_now x s wants
 
-  pub fed_stands : PutStands (play_of task x.body (x.fed + count))
+  pub fed_stands : PutStands (play_with x stages (x.fed + count))
   fed_stands = record {
     is_put = record {
-      plain = with_bytes (request_of x.task) (request_of task) (body_bytes x.body) x.fed count takes.more s.is_put.plain request_now takes.next;
+      plain = with_bytes (request_of x.task) (stages_request stages) (body_bytes x.body) x.fed count takes.more s.is_put.plain request_now takes.next;
       fed = takes.inside;
       few = s.is_put.few;
       ends = subst (λ e. EndsAt e (x.fed + count) (length (body_bytes x.body))) (sym ended_as) tt;
     };
-    steady = λ _. steady_fed x.task task takes.more takes.task (steady_now x s wants);
-    sound = ap fault_of takes.task ∙ s.sound;
+    steady = λ _. steady_fed x.task.stages stages takes.more takes.task (steady_now x s wants);
+    sound = s.sound;
   }
 
-  pub fed_less : x.fed < length (body_bytes x.body) → left_of (play_of task x.body (x.fed + count)) < left_of x
+  pub fed_less : x.fed < length (body_bytes x.body) → left_of (play_with x stages (x.fed + count)) < left_of x
   fed_less more =
       let some = takes.some (has_room x s wants more) in
       let inside = takes.inside in
@@ -113,14 +119,14 @@ module _ (x : PutPlay) (task : PutTask) (count : ℕ) (s : PutStands x) (wants :
       let then = ap unended (unended_now x s wants) in
       omega (arith, some, inside, now, then)
 
-  pub fed_asked : asked_put (play_of task x.body (x.fed + count)) ≡ asked_put x
-  fed_asked = ap (λ t. asked_put (play_of t x.body (x.fed + count))) takes.task
+  pub fed_asked : asked_put (play_with x stages (x.fed + count)) ≡ asked_put x
+  fed_asked = ap (λ t. asked_put (play_with x t (x.fed + count))) takes.task
 
-module _ (x : PutPlay) (task : PutTask) (s : PutStands x) (wants : WantsBytes (stage_of x.task)) (whole : length (body_bytes x.body) ≤ x.fed) (is : task ≡ body_ended x.task Whole) where
-  ends_whole : (request_of task).end ≡ Some Whole
-  ends_whole = ap (λ t. (request_of t).end) is ∙ ap (λ e. first_end e Whole) (unended_now x s wants)
+module _ (x : PutPlay) (stages : PutTask) (s : PutStands x) (wants : WantsBytes (stage_of x.task)) (whole : length (body_bytes x.body) ≤ x.fed) (is : stages ≡ stages_ended x.task.stages Whole) where
+  ends_whole : (stages_request stages).end ≡ Some Whole
+  ends_whole = ap (λ t. (stages_request t).end) is ∙ ap (λ e. first_end e Whole) (unended_now x s wants)
 
-  pub ended_stands : PutStands (play_of task x.body x.fed)
+  pub ended_stands : PutStands (play_with x stages x.fed)
   ended_stands =
       let inside = s.is_put.fed in
       let size : x.fed ≡ length (body_bytes x.body) = omega (arith, whole, inside) in
@@ -129,7 +135,7 @@ module _ (x : PutPlay) (task : PutTask) (s : PutStands x) (wants : WantsBytes (s
       let command = ap (λ (q : PutRequest). q.command) plain in
       let bytes = ap (λ (q : PutRequest). q.bytes) plain in
       let r = request_of x.task in
-      let request : request_of task ≡ ended_request r Whole = ap request_of is in
+      let request : stages_request stages ≡ ended_request r Whole = ap stages_request is in
       let now : ended_request r Whole ≡ put_request r.zone r.command.container r.command.name (take x.fed (body_bytes x.body)) (first_end r.end Whole) =
       λ i. record { zone = r.zone; asker = asker i; command = command i; bytes = bytes i; end = first_end r.end Whole } in
       record {
@@ -139,23 +145,23 @@ module _ (x : PutPlay) (task : PutTask) (s : PutStands x) (wants : WantsBytes (s
           few = s.is_put.few;
           ends = subst (λ e. EndsAt e x.fed (length (body_bytes x.body))) (sym ends_whole) size;
         };
-        steady = λ _. steady_ended x.task task Whole is (steady_now x s wants);
-        sound = ap fault_of is ∙ s.sound;
+        steady = λ _. steady_ended x.task.stages stages Whole is (steady_now x s wants);
+        sound = s.sound;
       }
 
-  pub ended_less : left_of (play_of task x.body x.fed) < left_of x
+  pub ended_less : left_of (play_with x stages x.fed) < left_of x
   ended_less =
       let now = ap unended ends_whole in
       let then = ap unended (unended_now x s wants) in
       omega (arith, now, then)
 
-  pub ended_asked : asked_put (play_of task x.body x.fed) ≡ asked_put x
-  ended_asked = ap (λ t. asked_put (play_of t x.body x.fed)) is
+  pub ended_asked : asked_put (play_with x stages x.fed) ≡ asked_put x
+  ended_asked = ap (λ t. asked_put (play_with x t x.fed)) is
 
 -- ---- a step
 
 -- the task stands where another stands of which the same is asked
-pub put_as : (x : PutPlay) (task : PutTask) → IsPut x → request_of task ≡ request_of x.task → IsPut (play_of task x.body x.fed)
+pub put_as : (x : PutPlay) (task : Stepping PutTask) → IsPut x → request_of task ≡ request_of x.task → IsPut (play_of task x.body x.fed)
 put_as x task s same = record {
   plain = same ∙ s.plain ∙ ap (λ (q : PutRequest). put_request q.zone q.command.container q.command.name (take x.fed (body_bytes x.body)) q.end) (sym same);
   fed = s.fed;
@@ -163,7 +169,7 @@ put_as x task s same = record {
   ends = subst (λ (q : PutRequest). EndsAt q.end x.fed (length (body_bytes x.body))) (sym same) s.ends;
 }
 
-pub asked_as : (x : PutPlay) (task : PutTask) → request_of task ≡ request_of x.task → asked_put (play_of task x.body x.fed) ≡ asked_put x
+pub asked_as : (x : PutPlay) (task : Stepping PutTask) → request_of task ≡ request_of x.task → asked_put (play_of task x.body x.fed) ≡ asked_put x
 asked_as x task same = ap (λ (q : PutRequest). record { zone = q.zone; verb = Put q.command.container q.command.name x.body }) same
 
 -- the end of the body changes nothing at an outcome
@@ -171,51 +177,45 @@ over_settled : (stage : Stage) → IsOver stage → IsOver (settled stage)
 over_settled (Ended outcome) over = over
 over_settled (Looking draft) over = absurd over
 over_settled (Feeding write key draft) over = absurd over
-over_settled (LookingAgain c) over = absurd over
-over_settled (Preparing key c) over = absurd over
-over_settled (Announcing key guard c) over = absurd over
-over_settled (Writing key guard c) over = absurd over
-over_settled (Cancelling key tag a) over = absurd over
-over_settled (Completing key change) over = absurd over
-over_settled (LookingForShard change) over = absurd over
+over_settled (Changing etag u) over = absurd over
 
-over_decided : (t u : PutTask) → u ≡ decided t → IsOver (stage_of t) → IsOver (stage_of u)
+over_decided : (t u : PutTask) → u ≡ stages_decided t → IsOver t.stage → IsOver u.stage
 over_decided t u is over = subst (λ (x : PutTask). IsOver x.stage) (sym is) (over_settled t.stage over)
 
-module _ (x : PutPlay) (task : PutTask) (is : task ≡ decided x.task) (s : PutStands x) where
-  decided_as : ((IsOver (stage_of task) → ⊥) → IsSteady task) → PutStands (play_of task x.body x.fed)
+module _ (x : PutPlay) (stages : PutTask) (is : stages ≡ stages_decided x.task.stages) (s : PutStands x) where
+  decided_as : ((IsOver stages.stage → ⊥) → IsSteady stages) → PutStands (play_with x stages x.fed)
   decided_as steady = record {
-    is_put = put_as x task s.is_put (ap request_of is);
+    is_put = put_as x (with_stages x.task stages) s.is_put (ap stages_request is);
     steady = steady;
-    sound = ap fault_of is ∙ s.sound;
+    sound = s.sound;
   }
 
   -- more bytes are wanted, an event comes next, or the outcome is there
-  pub wanting_stands : WantsBytes (stage_of task) → PutStands (play_of task x.body x.fed)
+  pub wanting_stands : WantsBytes stages.stage → PutStands (play_with x stages x.fed)
   wanting_stands wants =
-      decided_as (λ _. steady_wanting x.task task is (s.steady (λ over. wants_open (stage_of task) wants (over_decided x.task task is over))) wants)
+      decided_as (λ _. steady_wanting x.task.stages stages is (s.steady (λ over. wants_open stages.stage wants (over_decided x.task.stages stages is over))) wants)
 
-  pub ready_stands : IsReady (stage_of task) → PutStands (play_of task x.body x.fed)
+  pub ready_stands : IsReady stages.stage → PutStands (play_with x stages x.fed)
   ready_stands ready =
-      decided_as (λ _. steady_ready x.task task is (s.steady (λ over. ready_open (stage_of task) ready (over_decided x.task task is over))) ready)
+      decided_as (λ _. steady_ready x.task.stages stages is (s.steady (λ over. ready_open stages.stage ready (over_decided x.task.stages stages is over))) ready)
 
-  pub over_stands : IsOver (stage_of task) → PutStands (play_of task x.body x.fed)
+  pub over_stands : IsOver stages.stage → PutStands (play_with x stages x.fed)
   over_stands over = decided_as (λ going. absurd (going over))
 
-  pub decided_asked : asked_put (play_of task x.body x.fed) ≡ asked_put x
-  decided_asked = asked_as x task (ap request_of is)
+  pub decided_asked : asked_put (play_with x stages x.fed) ≡ asked_put x
+  decided_asked = asked_as x (with_stages x.task stages) (ap stages_request is)
 
 -- an event was made
-pub next_stands : (x : PutPlay) (task : PutTask) → PutStands x → IsReady (stage_of x.task) → request_of task ≡ request_of x.task → fault_of task ≡ None
-    → (number : ℕ) × (reply : Reply) × (task ≡ stepped x.task number reply) → PutStands (play_of task x.body x.fed)
+pub next_stands : (x : PutPlay) (task : Stepping PutTask) → PutStands x → IsReady (stage_of x.task) → request_of task ≡ request_of x.task → fault_of task ≡ None
+    → (number : ℕ) × (reply : Reply) × (task.stages ≡ stepped x.task.stages number reply) → PutStands (play_of task x.body x.fed)
 next_stands x task s ready request sound steps = record {
   is_put = put_as x task s.is_put request;
-  steady = λ _. steady_after x.task task ready (s.steady (ready_open (stage_of x.task) ready)) steps;
+  steady = λ _. steady_after x.task.stages task.stages ready (s.steady (ready_open (stage_of x.task) ready)) steps;
   sound = sound;
 }
 
-pub decided_fits : (settings : SettingsView) (d : DoorView) (t u : PutTask) → u ≡ decided t → fits t settings d → fits u settings d
-decided_fits settings d t u is f = subst (λ (x : PutTask). fits x settings d) (sym is) (settled_task settings d t f)
+pub decided_fits : (settings : SettingsView) (d : DoorView) (t : Stepping PutTask) (stages : PutTask) → stages ≡ stages_decided t.stages → fits t settings d → fits (with_stages t stages) settings d
+decided_fits settings d t stages is f = subst (λ (x : PutTask). fits (with_stages t x) settings d) (sym is) (settled_run settings d t f)
 
 -- ---- the end
 

@@ -6,19 +6,20 @@ use Rattle.realm_model.specs.Doors.{DoorView, IsSeen, actor_at}
 use Rattle.realm_model.specs.Histories.{Doings, Legal, account_of, phase_of, world_of}
 use Rattle.realm_model.specs.Owns.{OwnEvent, own_events}
 use Rattle.realm_door.specs.Steps.{IsSame}
-use Rattle.stripe_law.proofs.Staying.{still_made}
 use Rattle.task_words.specs.declared.command.BodyEnd.TheVariants.{Whole}
-use Rattle.job_words.specs.declared.job.Job.TheVariants.{Check}
-use Rattle.job_words.specs.declared.outcome.JobOutcome.{JobOutcome}
+use Rattle.task_words.specs.declared.job.Job.TheVariants.{Check}
+use Rattle.task_words.specs.declared.job.JobOutcome.{JobOutcome}
 use Rattle.task_words.specs.declared.outcome.Outcome.{Outcome}
 use Rattle.task_words.specs.Outcomes.{IsPutOutcome}
 use Rattle.task_put.specs.Cuts.{CutBody}
-use Rattle.task_put.specs.Orders.{path_of, IsOrdered}
-use Rattle.task_put.specs.Fits.{body_of, known_at, known_later, Fits as PutFits}
-use Rattle.task_put.specs.Tasks as put
+use Rattle.task_put.specs.Orders.{path_of, IsFinished}
+use Rattle.task_put.specs.Fits.{body_of}
+use Rattle.task_put.specs.Runs as put
+use Rattle.task_put.specs.Tasks.{fits as stages_fit}
 use Rattle.task_put.specs.declared.task.PutTask.{PutTask}
-use Rattle.task_put.proofs.Knowing.{fits_later}
-use Rattle.task_put.proofs.Tasking.{lifted}
+use Rattle.task_put.proofs.Running.{lifted}
+use Rattle.task_put.proofs.Staging.{waits as put_waits}
+use Rattle.realm_door.specs.declared.stepping.Stepping.{Stepping}
 use Rattle.task_get.specs.Gets.{Means as GetMeans, FitsStage, LastBrings}
 use Rattle.task_get.specs.Pieces.{brought}
 use Rattle.task_get.specs.Tasks as get
@@ -70,7 +71,7 @@ module _ (settings : SettingsView) (d e : DoorView) (pass : e.pass ≡ d.pass) (
   request_stays : (zone : ℕ) (verb : Verb) (outcome : Outcome) (shown : List ℕ) → MeansRequest zone verb outcome shown settings d → MeansRequest zone verb outcome shown settings e
   request_stays zone (Put container name body) outcome shown m =
       let r = put_request zone container name (body_bytes body) (Some Whole) in
-      (at_both (λ y es. IsPutOutcome r.zone r.asker r.command (body_of r) outcome y es × IsOrdered (path_of es) × CutBody r.zone settings.stripe r.bytes r.end es) m.0, m.1)
+      (at_both (λ y es. IsPutOutcome r.zone r.asker r.command (body_of r) outcome y es × IsFinished (path_of es) × CutBody r.zone settings.stripe r.bytes r.end es) m.0, m.1)
   request_stays zone (Get container name) outcome shown m =
       let r = get_request zone container name in
       (at_both (GetMeans r outcome) m.0, subst (AreBytesOf r outcome shown) (sym account_same) m.1)
@@ -93,32 +94,11 @@ module _ (settings : SettingsView) (d e : DoorView) (pass : e.pass ≡ d.pass) (
     longer : length d.seen ≤ length e.seen
     longer = omega (arith, ap length front.is_front, length-append d.seen front.later)
 
-    made_now : (zone write part : ℕ) (bytes : List ℕ) → (world_of settings d.seen).stripes.made zone write part ≡ Some bytes → (world_of settings e.seen).stripes.made zone write part ≡ Some bytes
-    made_now zone write part bytes is =
-        subst (λ s. (world_of settings s).stripes.made zone write part ≡ Some bytes) (sym front.is_front)
-        (still_made settings d.seen front.later (subst (Legal settings) front.is_front legal) zone write part bytes is)
-
-    known_now : known_at settings e ≡ known_later (known_at settings d) (length e.seen) (world_of settings e.seen).stripes.made
-    known_now i = record {
-      phase = phase_same i;
-      account = account_same i;
-      events = events_same i;
-      last = length e.seen;
-      made = (world_of settings e.seen).stripes.made;
-    }
-
-    put_stays : (t : PutTask) → put.fits t settings d → put.fits t settings e
+    put_stays : (t : Stepping PutTask) → put.fits t settings d → put.fits t settings e
     put_stays t =
-        lifted t.fault (put.Stands t settings d) (put.Stands t settings e) (λ s. record {
-          target = s.target;
-          known = subst (PutFits settings (put.request_of t) t.tried t.stage) (sym known_now) (record {
-            low = s.known.low;
-            high = s.known.high;
-            order = s.known.order;
-            stands = fits_later settings (put.request_of t) t.tried (known_at settings d) (length e.seen) (world_of settings e.seen).stripes.made longer made_now t.stage s.known.stands;
-            sliced = s.known.sliced;
-          });
-        })
+        lifted t.fault (stages_fit t.stages settings d) (stages_fit t.stages settings e)
+        (put_waits t.stages settings d (record { pass = e.pass; count = e.count; used = d.used; seen = e.seen })
+        (record { pass = pass; count = count; used = refl; front = front; same = same }) legal)
 
     get_stays : (t : GetTask) → get.Fits t settings d → get.Fits t settings e
     get_stays t fits = record {

@@ -1,7 +1,7 @@
 -- What an end says of the actor's own events.
 use Rattle.std.specs.Prelude.{◌≡◌, ℕ, List, [], Option, Some}
-use Rattle.job_words.specs.declared.job.Job.TheVariants.{Check}
-use Rattle.job_words.specs.declared.outcome.JobOutcome.{JobOutcome}
+use Rattle.task_words.specs.declared.job.Job.TheVariants.{Check}
+use Rattle.task_words.specs.declared.job.JobOutcome.{JobOutcome}
 use Rattle.realm_model.specs.Settings.{SettingsView}
 use Rattle.realm_model.specs.Accounts.{Decided, Account}
 use Rattle.realm_model.specs.Doors.{DoorView, actor_at}
@@ -15,7 +15,7 @@ use Rattle.task_put.specs.Tasks.{IsPutEnd}
 use Rattle.task_get.specs.declared.request.GetRequest.{GetRequest}
 use Rattle.task_get.specs.Gets.{IsFront, shown_at}
 use Rattle.task_get.specs.Tasks.{account_at, means}
-use Rattle.task_container.specs.Counts.{IsContainerOutcome}
+use Rattle.task_container.specs.Counts.{IsContainerEnd}
 use Rattle.task_list.specs.Listed.{IsListOutcome}
 use Rattle.task_repair.specs.Repairs.{IsRepairOutcome}
 use Rattle.script_words.specs.Bodies.{body_bytes}
@@ -46,7 +46,7 @@ MeansRequest zone (Get container name) outcome shown settings d =
     means (get_request zone container name) outcome settings d
     × AreBytesOf (get_request zone container name) outcome shown (account_at settings d)
 MeansRequest zone (Stat container) outcome shown settings d =
-    IsContainerOutcome (stat_request zone container) outcome (account_of settings d.seen (actor_at d)) (own_events d.seen (actor_at d))
+    IsContainerEnd (stat_request zone container) outcome (account_of settings d.seen (actor_at d)) (own_events d.seen (actor_at d))
     × (shown ≡ [])
 MeansRequest zone (verbs.List container) outcome shown settings d =
     IsListOutcome (list_request zone container) outcome (account_of settings d.seen (actor_at d)) (own_events d.seen (actor_at d))

@@ -1,6 +1,6 @@
 -- Where an actor of a script stands.
 use Rattle.std.specs.Prelude.{◌≡◌, ℕ, ◌+◌, ◌-◌, ◌≤◌, List, [], ◌++◌, take, length, Option, Some, None}
-use Rattle.job_words.specs.declared.job.Job.TheVariants.{Check}
+use Rattle.task_words.specs.declared.job.Job.TheVariants.{Check}
 use Rattle.realm_model.specs.Settings.{SettingsView}
 use Rattle.realm_model.specs.Doors.{DoorView}
 use Rattle.task_words.specs.declared.command.BodyEnd.{BodyEnd}
@@ -8,18 +8,24 @@ use Rattle.task_words.specs.declared.command.BodyEnd.TheVariants.{Whole, Failed}
 use Rattle.task_put.specs.Bodies.{most_bytes}
 use Rattle.task_put.specs.Stages as put_stages
 use Rattle.task_put.specs.Taking.{room_at}
-use Rattle.task_put.specs.Tasks as put
+use Rattle.task_put.specs.Runs as put
+use Rattle.task_put.specs.Tasks.{fed as stages_fed, stage_of as stages_stand}
 use Rattle.task_put.specs.declared.task.PutTask.{PutTask}
 use Rattle.task_get.specs.Pieces.{brought}
 use Rattle.task_get.specs.Stages as get_stages
 use Rattle.task_get.specs.Tasks as get
+use Rattle.realm_door.specs.Waiting.{UnlessFaulted}
+use Rattle.realm_door.specs.declared.stepping.Stepping.{Stepping}
 use Rattle.task_container.specs.Counts.{name_of}
 use Rattle.task_container.specs.Stages as stat
+use Rattle.task_container.specs.declared.request.ContainerRequest.{ContainerRequest}
 use Rattle.task_container.specs.declared.task.ContainerTask.{ContainerTask}
 use Rattle.task_list.specs.Tasks as list
+use Rattle.task_list.specs.declared.request.ListRequest.{ListRequest}
 use Rattle.task_list.specs.declared.task.ListTask.{ListTask}
 use Rattle.task_repair.specs.Stages as repair_stages
 use Rattle.task_repair.specs.Tasks as repair
+use Rattle.task_repair.specs.declared.request.RepairRequest.{RepairRequest}
 use Rattle.task_repair.specs.declared.task.RepairTask.{RepairTask}
 use Rattle.call_service.specs.Serving.{IsNew}
 use Rattle.put_service.specs.Standing.{IsSteady}
@@ -54,14 +60,23 @@ asked_get x = record {
   verb = verbs.Get (get.request_of x.task).get.container (get.request_of x.task).get.name;
 }
 
-abbrev pub asked_stat : ContainerTask → Asked
-asked_stat t = record { zone = (stat.request_of t).zone; verb = verbs.Stat (name_of (stat.request_of t).command) }
+abbrev pub stat_of : ContainerRequest → Asked
+stat_of r = record { zone = r.zone; verb = verbs.Stat (name_of r.command) }
 
-abbrev pub asked_list : ListTask → Asked
-asked_list t = record { zone = (list.request_of t).zone; verb = verbs.List ((list.request_of t).command).container }
+abbrev pub asked_stat : Stepping ContainerTask → Asked
+asked_stat t = stat_of (stat.request_of t.stages)
 
-abbrev pub asked_check : RepairTask → Asked
-asked_check t = record { zone = (repair.request_of t).zone; verb = verbs.Job (Check (repair.request_of t).bucket) }
+abbrev pub list_of : ListRequest → Asked
+list_of r = record { zone = r.zone; verb = verbs.List (r.command).container }
+
+abbrev pub asked_list : Stepping ListTask → Asked
+asked_list t = list_of (list.request_of t.stages)
+
+abbrev pub check_of : RepairRequest → Asked
+check_of r = record { zone = r.zone; verb = verbs.Job (Check r.bucket) }
+
+abbrev pub asked_check : Stepping RepairTask → Asked
+asked_check t = check_of (repair.request_of t.stages)
 
 abbrev pub asked_by : Acting → Asked
 asked_by (actings.Put x) = asked_put x
@@ -102,32 +117,34 @@ pub record IsPut (x : PutPlay) : Type 0 where
 abbrev pub IsGet : GetPlay → Type 0
 IsGet x = get.request_of x.task ≡ get_request (asked_get x).zone (get.request_of x.task).get.container (get.request_of x.task).get.name
 
-abbrev pub IsStat : ContainerTask → Type 0
-IsStat t = stat.request_of t ≡ stat_request (asked_stat t).zone (name_of (stat.request_of t).command)
+abbrev pub IsStat : ContainerRequest → Type 0
+IsStat r = r ≡ stat_request r.zone (name_of r.command)
 
-abbrev pub IsList : ListTask → Type 0
-IsList t = list.request_of t ≡ list_request (asked_list t).zone ((list.request_of t).command).container
+abbrev pub IsList : ListRequest → Type 0
+IsList r = r ≡ list_request r.zone (r.command).container
+
+-- there is one check of a container
+abbrev pub IsCheck : RepairRequest → Type 0
+IsCheck r = Unit {0}
 
 -- no step stopped with a fault; a PUT is at the body that it was fed, as long as it goes on
 pub record PutStands (x : PutPlay) : Type 0 where
   pub is_put : IsPut x
-  pub steady : (put_stages.IsOver (put.stage_of x.task) → ⊥) → IsSteady x.task
+  pub steady : (put_stages.IsOver (put.stage_of x.task) → ⊥) → IsSteady x.task.stages
   pub sound : put.fault_of x.task ≡ None
 
 pub record GetStands (x : GetPlay) : Type 0 where
   pub is_get : IsGet x
   pub sound : get.fault_of x.task ≡ None
 
-pub record StatStands (t : ContainerTask) : Type 0 where
-  pub is_stat : IsStat t
-  pub sound : stat.fault_of t ≡ None
+abbrev pub StatStands : Stepping ContainerTask → Type 0
+StatStands t = IsStat (stat.request_of t.stages) × (t.fault ≡ None)
 
-pub record ListStands (t : ListTask) : Type 0 where
-  pub is_list : IsList t
-  pub sound : list.fault_of t ≡ None
+abbrev pub ListStands : Stepping ListTask → Type 0
+ListStands t = IsList (list.request_of t.stages) × (t.fault ≡ None)
 
-abbrev pub CheckStands : RepairTask → Type 0
-CheckStands t = repair.fault_of t ≡ None
+abbrev pub CheckStands : Stepping RepairTask → Type 0
+CheckStands t = IsCheck (repair.request_of t.stages) × (t.fault ≡ None)
 
 abbrev pub StandsBy : Acting → Type 0
 StandsBy (actings.Put x) = PutStands x
@@ -139,10 +156,10 @@ StandsBy (actings.Check t) = CheckStands t
 -- so many bytes behind the first were taken: some, if there was room
 pub record TakesNext (bytes : List ℕ) (at : ℕ) (old new : PutTask) (count : ℕ) : Type 0 where
   pub more : List ℕ
-  pub task : new ≡ put.fed old more
+  pub task : new ≡ stages_fed old more
   pub next : take at bytes ++ more ≡ take (at + count) bytes
   pub inside : at + count ≤ length bytes
-  pub some : 1 ≤ room_at (put.stage_of old) → 1 ≤ count
+  pub some : 1 ≤ room_at (stages_stand old) → 1 ≤ count
 
 -- how many turns may still feed the task: one a piece, and one for the end
 abbrev pub unended : Option BodyEnd → ℕ
@@ -160,14 +177,14 @@ PutEnded x = put_stages.IsOver (put.stage_of x.task) × (put.fault_of x.task ≡
 abbrev pub GetEnded : GetPlay → Type 0
 GetEnded x = get_stages.IsOver (get.stage_of x.task) × (get.fault_of x.task ≡ None)
 
-abbrev pub StatEnded : ContainerTask → Type 0
-StatEnded t = stat.IsOver (stat.stage_of t) × (stat.fault_of t ≡ None)
+abbrev pub StatEnded : Stepping ContainerTask → Type 0
+StatEnded t = stat.IsOver (stat.stage_of t.stages) × (t.fault ≡ None)
 
-abbrev pub ListEnded : ListTask → Type 0
-ListEnded t = list.IsOver (list.stage_of t) × (list.fault_of t ≡ None)
+abbrev pub ListEnded : Stepping ListTask → Type 0
+ListEnded t = list.IsOver (list.stage_of t.stages) × (t.fault ≡ None)
 
-abbrev pub CheckEnded : RepairTask → Type 0
-CheckEnded t = repair_stages.IsOver (repair.stage_of t) × (repair.fault_of t ≡ None)
+abbrev pub CheckEnded : Stepping RepairTask → Type 0
+CheckEnded t = repair_stages.IsOver (repair.stage_of t.stages) × (t.fault ≡ None)
 
 abbrev pub EndedBy : Acting → Type 0
 EndedBy (actings.Put x) = PutEnded x
@@ -214,16 +231,14 @@ pub record FitsGet (x : GetPlay) (settings : SettingsView) (d : DoorView) : Type
   pub task : get.Fits x.task settings d
   pub shown : x.shown.items ≡ brought (get.request_of x.task).get (get.events_at d)
 
-pub record FitsStat (t : ContainerTask) (settings : SettingsView) (d : DoorView) : Type 0 where
-  pub is_stat : IsStat t
-  pub task : stat.fits t settings d
+abbrev pub FitsStat : Stepping ContainerTask → SettingsView → DoorView → Type 0
+FitsStat t settings d = IsStat (stat.request_of t.stages) × UnlessFaulted t.fault (stat.fits t.stages settings d)
 
-pub record FitsList (t : ListTask) (settings : SettingsView) (d : DoorView) : Type 0 where
-  pub is_list : IsList t
-  pub task : list.fits t settings d
+abbrev pub FitsList : Stepping ListTask → SettingsView → DoorView → Type 0
+FitsList t settings d = IsList (list.request_of t.stages) × UnlessFaulted t.fault (list.fits t.stages settings d)
 
-abbrev pub FitsCheck : RepairTask → SettingsView → DoorView → Type 0
-FitsCheck t settings d = repair.fits t settings d
+abbrev pub FitsCheck : Stepping RepairTask → SettingsView → DoorView → Type 0
+FitsCheck t settings d = IsCheck (repair.request_of t.stages) × UnlessFaulted t.fault (repair.fits t.stages settings d)
 
 abbrev pub FitsBy : Acting → SettingsView → DoorView → Type 0
 FitsBy (actings.Put x) settings d = FitsPut x settings d

@@ -1,50 +1,31 @@
 //! The check of a container.
-ghost use Rattle.job_words.specs.declared.job.Job.TheVariants.{Check};
+ghost use Rattle.task_words.specs.declared.job.Job.TheVariants.{Check};
 ghost use Rattle.script_words.specs.declared.line.Verb.TheVariants as verbs;
 ghost use Rattle.script_player.specs.Plays.{IsBegun, asked_check, CheckStands, CheckEnded, FitsCheck};
 
-use crate::play::{EndingPlay, Play};
-use job_words::JobOutcome;
+use crate::unfed::Unfed;
 use object_words::BucketName;
-use realm_door::{Door, EventTask, Task};
-use std::alloc::Global;
+use realm_door::Stepping;
 use task_repair::RepairTask;
-use turn_cell::DoorFault;
 
 /// A check of the container that made no event.
-pub(crate) fn new_check(zone: u8, container: BucketName) -> RepairTask
+pub(crate) fn new_check(zone: u8, container: BucketName) -> Stepping<RepairTask>
     ensures { IsBegun (asked_check result) (record { zone = zone; verb = verbs.Job (Check container) }) (CheckStands result) (CheckEnded result) (FitsCheck result) }
 {
-    RepairTask::new(zone, container)
+    Stepping::new(RepairTask::new(zone, container))
 }
 
-impl Play for RepairTask {
-    ghost use Rattle.script_player.specs.Plays.{asked_check, CheckStands, CheckEnded, FitsCheck};
-
-    ghost asked = { asked_check };
-
-    ghost stands = { CheckStands };
-
-    ghost is_ended = { CheckEnded };
-
-    ghost fits = { FitsCheck };
-
-    fn act<D: Door>(&mut self, alloc: Global, door: &mut D, moment: u64) -> Result<(), DoorFault> {
-        self.event(alloc, door, moment)
-    }
-}
-
-impl EndingPlay for RepairTask {
-    ghost use Rattle.std.specs.Prelude.{[]};
+impl Unfed for RepairTask {
     ghost use Rattle.script_player.specs.Meanings.{MeansJob};
+    ghost use Rattle.script_player.specs.Plays.{check_of, IsCheck};
 
-    type Outcome = JobOutcome;
+    ghost asked = { check_of };
 
-    ghost shown = { λ t. [] };
+    ghost is_plain = { IsCheck };
 
-    ghost means = { MeansJob };
+    ghost says = { MeansJob };
 
-    fn end(&self) -> Option<&JobOutcome> {
-        self.outcome()
-    }
+    fn goes_on() {}
+
+    fn tells() {}
 }

@@ -4,15 +4,13 @@ ghost use Rattle.script_words.specs.declared.line.Verb.TheVariants as verbs;
 ghost use Rattle.script_player.specs.Plays.{IsBegun, asked_list, ListStands, ListEnded, FitsList};
 
 use crate::asker::standard_asker;
-use crate::play::{EndingPlay, Play};
+use crate::unfed::Unfed;
 use list_words::ListCommand;
 use object_words::BucketName;
-use realm_door::{Door, EventTask, Task};
+use realm_door::Stepping;
 use rgw_types::Text;
 use std::alloc::{AllocError, Global};
 use task_list::{ListRequest, ListTask};
-use task_words::Outcome;
-use turn_cell::DoorFault;
 
 /// The most rows of a listing.
 const MOST_ROWS: u32 = 10000;
@@ -22,10 +20,10 @@ pub(crate) fn new_list(
     alloc: Global,
     zone: u8,
     container: BucketName,
-) -> Result<ListTask, AllocError>
+) -> Result<Stepping<ListTask>, AllocError>
     ensures { IfOk result (λ t. IsBegun (asked_list t) (record { zone = zone; verb = verbs.List container }) (ListStands t) (ListEnded t) (FitsList t)) }
 {
-    Ok(ListTask::new(ListRequest {
+    Ok(Stepping::new(ListTask::new(ListRequest {
         zone,
         asker: standard_asker(alloc)?,
         command: ListCommand {
@@ -36,36 +34,20 @@ pub(crate) fn new_list(
             prefix: Text::new(alloc),
             delimiter: Text::new(alloc),
         },
-    }))
+    })))
 }
 
-impl Play for ListTask {
-    ghost use Rattle.script_player.specs.Plays.{asked_list, ListStands, ListEnded, FitsList};
-
-    ghost asked = { asked_list };
-
-    ghost stands = { ListStands };
-
-    ghost is_ended = { ListEnded };
-
-    ghost fits = { FitsList };
-
-    fn act<D: Door>(&mut self, alloc: Global, door: &mut D, moment: u64) -> Result<(), DoorFault> {
-        self.event(alloc, door, moment)
-    }
-}
-
-impl EndingPlay for ListTask {
-    ghost use Rattle.std.specs.Prelude.{[]};
+impl Unfed for ListTask {
     ghost use Rattle.script_player.specs.Meanings.{MeansRequest};
+    ghost use Rattle.script_player.specs.Plays.{list_of, IsList};
 
-    type Outcome = Outcome;
+    ghost asked = { list_of };
 
-    ghost shown = { λ t. [] };
+    ghost is_plain = { IsList };
 
-    ghost means = { MeansRequest };
+    ghost says = { MeansRequest };
 
-    fn end(&self) -> Option<&Outcome> {
-        self.outcome()
-    }
+    fn goes_on() {}
+
+    fn tells() {}
 }

@@ -16,14 +16,14 @@ use crate::list::new_list;
 use crate::play::{EndingPlay, Play};
 use crate::put::PutPlay;
 use crate::stat::new_stat;
-use job_words::Job;
-use realm_door::Door;
+use realm_door::{Door, Stepping};
 use realm_model::Settings;
 use script_words::{ActorOutcome, Verb};
 use std::alloc::{AllocError, Global};
 use task_container::ContainerTask;
 use task_list::ListTask;
 use task_repair::RepairTask;
+use task_words::Job;
 use turn_cell::DoorFault;
 
 /// How far an actor went.
@@ -40,9 +40,9 @@ pub enum Gone {
 pub(crate) enum Acting {
     Put(PutPlay),
     Get(GetPlay),
-    Stat(ContainerTask),
-    List(ListTask),
-    Check(RepairTask),
+    Stat(Stepping<ContainerTask>),
+    List(Stepping<ListTask>),
+    Check(Stepping<RepairTask>),
 }
 
 /// One actor of a script: a request of the one user, or a job of an administrator, in one zone, which goes on

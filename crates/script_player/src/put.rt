@@ -5,7 +5,8 @@ ghost use Rattle.realm_model.specs.Doors.{DoorView};
 ghost use Rattle.call_service.specs.Serving.{IsNew};
 ghost use Rattle.task_put.specs.Bodies.{most_bytes};
 ghost use Rattle.task_put.specs.Stages.{IsOver, IsReady};
-ghost use Rattle.task_put.specs.Tasks.{stage_of, fits};
+ghost use Rattle.task_put.specs.Runs.{stage_of, fits};
+ghost use Rattle.task_put.specs.Tasks.{fits as stages_fit};
 ghost use Rattle.task_put.specs.Taking.{WantsBytes};
 ghost use Rattle.script_words.specs.Bodies.{body_bytes};
 ghost use Rattle.script_words.specs.declared.line.Verb.TheVariants.{Put};
@@ -14,12 +15,12 @@ ghost use Rattle.script_player.specs.Plays.{asked_put, TakesNext, PutStands, Put
 use crate::asker::standard_asker;
 use crate::play::{EndingPlay, Play};
 use object_words::{BucketName, Conditions, ObjectName};
-use realm_door::{Door, EventTask, Task};
+use realm_door::{Door, EventTask, Next, Staged, Stepping, Task};
 use realm_model::Settings;
 use rgw_types::Pairs;
 use script_words::ScriptBody;
 use std::alloc::{AllocError, Global};
-use task_put::{Next, PutTask};
+use task_put::PutTask;
 use task_words::{BodyEnd, Outcome, PutCommand};
 use turn_cell::DoorFault;
 
@@ -29,7 +30,7 @@ const PIECE: usize = 65536;
 /// A PUT, and how far its body was fed to it.
 #[derive(Drop)]
 pub(crate) struct PutPlay {
-    task: PutTask,
+    task: Stepping<PutTask>,
     body: ScriptBody,
     /// So many bytes of the body were taken.
     fed: u64,
@@ -50,7 +51,7 @@ fn feed_piece(task: &mut PutTask, body: &ScriptBody, at: u64) -> Result<usize, A
     requires more { at < length (body_bytes body.now) }
     ensures taken { IfOk result (TakesNext (body_bytes body.now) at task.old task.new) }
     ensures fits { OnOk result ((settings : SettingsView) (d : DoorView)
-        → fits task.old settings d → fits task.new settings d) }
+        → stages_fit task.old settings d → stages_fit task.new settings d) }
     ensures err { OnErr result (task.new ≡ task.old) }
 {
     match body {
@@ -94,7 +95,7 @@ impl PutPlay {
         };
         let asker = standard_asker(alloc)?;
         Ok(PutPlay {
-            task: PutTask::new(alloc, settings, zone, asker, put)?,
+            task: Stepping::new(PutTask::new(alloc, settings, zone, asker, put)?),
             body,
             fed: 0,
         })
@@ -112,10 +113,10 @@ impl PutPlay {
         ensures asked { asked_put self.new ≡ asked_put self.old }
     {
         if self.fed >= size_of(&self.body) {
-            self.task.finish(BodyEnd::Whole);
+            self.task.stages.finish(BodyEnd::Whole);
             return Ok(());
         }
-        let taken = feed_piece(&mut self.task, &self.body, self.fed)?;
+        let taken = feed_piece(&mut self.task.stages, &self.body, self.fed)?;
         self.fed += taken as u64;
         Ok(())
     }
@@ -131,7 +132,7 @@ impl PutPlay {
         ensures asked { asked_put self.new ≡ asked_put self.old }
     {
         'pieces: loop {
-            match self.task.settle() {
+            match self.task.stages.settle() {
                 Next::Event => return Ok(true),
                 Next::Done => return Ok(false),
                 Next::Wants => self.feed()?,

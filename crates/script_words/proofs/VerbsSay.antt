@@ -4,7 +4,7 @@ use Rattle.std.specs.Prelude.{bytes_eq, nat_le}
 use Rattle.std.specs.Option.{option_map, option_and_then}
 use Rattle.std.proofs.lemmas.Bool.{eqb-true, le-leb, leb-true, false_from_ne_true}
 use Rattle.std.proofs.lemmas.Option.{none-some, same_Some, cond_some}
-use Rattle.job_words.specs.declared.job.Job.TheVariants.{Check}
+use Rattle.task_words.specs.declared.job.Job.TheVariants.{Check}
 use Rattle.script_words.specs.Lines.{is_container, most_letters, IsPlain, IsBody, IsVerb}
 use Rattle.script_words.specs.Reading.{number_in, container_in, path_in, times_in, body_in, put_in, get_in, stat_in, list_in, check_in, verb_in}
 use Rattle.script_words.specs.declared.line.ScriptBody.{ScriptBody}

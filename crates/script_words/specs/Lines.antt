@@ -5,8 +5,8 @@ use Rattle.std.specs.List.{list_all, slice_split}
 use Rattle.std.specs.Char.{is_ascii_digit}
 use Rattle.std.specs.Str.{is_utf8}
 use Rattle.std.specs.Str.Parse.{digits_value}
-use Rattle.job_words.specs.declared.job.Job.{Job}
-use Rattle.job_words.specs.declared.job.Job.TheVariants.{Check}
+use Rattle.task_words.specs.declared.job.Job.{Job}
+use Rattle.task_words.specs.declared.job.Job.TheVariants.{Check}
 use Rattle.object_words.specs.Limits.{is_name}
 use Rattle.script_words.specs.Names.{is_actor_name}
 use Rattle.script_words.specs.declared.line.Line.{Line}

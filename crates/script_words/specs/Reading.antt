@@ -3,7 +3,7 @@ use Rattle.std.specs.Prelude.{◌≡◌, ℕ, ◌+◌, ◌-◌, ◌==◌, ◌&&�
 use Rattle.std.specs.Option.{option_map, option_and_then}
 use Rattle.std.specs.List.{position}
 use Rattle.std.specs.Str.Parse.{digits_value}
-use Rattle.job_words.specs.declared.job.Job.TheVariants.{Check}
+use Rattle.task_words.specs.declared.job.Job.TheVariants.{Check}
 use Rattle.script_words.specs.Lines.{is_number, is_text, is_slash, is_container, most_letters}
 use Rattle.script_words.specs.Names.{is_actor_name}
 use Rattle.script_words.specs.declared.line.Line.{Line}

@@ -2,8 +2,8 @@
 use Rattle.std.specs.Prelude.{ℕ, List, [], ◌∷◌, ◌++◌, flat_map, Option, Some, None, codes, decimal}
 use Rattle.hex.specs.Hex.{encode_lower}
 use Rattle.call_words.specs.Texts.{refusal_in, refusal_by}
-use Rattle.job_words.specs.declared.outcome.JobOutcome.{JobOutcome}
-use Rattle.job_words.specs.declared.outcome.JobOutcome.TheVariants.{Repaired, NoBucket}
+use Rattle.task_words.specs.declared.job.JobOutcome.{JobOutcome}
+use Rattle.task_words.specs.declared.job.JobOutcome.TheVariants.{Repaired, NoBucket}
 use Rattle.list_words.specs.declared.row.ListedRow.{ListedRow}
 use Rattle.list_words.specs.Listings.{row_key}
 use Rattle.swift_reply.specs.declared.reply.SwiftRefusal.{SwiftRefusal}

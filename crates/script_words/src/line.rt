@@ -1,5 +1,5 @@
 use crate::ActorName;
-use job_words::Job;
+use task_words::Job;
 use object_words::{BucketName, ObjectName};
 use rgw_types::Bytes;
 

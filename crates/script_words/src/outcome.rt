@@ -1,5 +1,4 @@
-use job_words::JobOutcome;
-use task_words::Outcome;
+use task_words::{JobOutcome, Outcome};
 
 /// How an actor ended, lent.
 #[derive(Clone, Copy, Debug)]

@@ -5,12 +5,11 @@ ghost use Rattle.task_words.specs.declared.reply.Refusal.TheVariants.{Denied};
 ghost use Rattle.script_words.specs.Replies.{refusal_text, behind_blank, listed_text, keys_text, map_text, request_text, job_text, outcome_text, reply_line, named_line, count_line, bad_line};
 
 use crate::{ActorName, ActorOutcome};
-use job_words::JobOutcome;
 use list_words::ListedRow;
 use object_words::etag_digits;
 use std::alloc::AllocError;
 use swift_auth::Rule;
-use task_words::{MapReply, Outcome, Refusal};
+use task_words::{JobOutcome, MapReply, Outcome, Refusal};
 
 fn push_number(out: &mut Vec<u8>, n: u64) -> Result<(), AllocError>
     ensures { OnOk result (out.new.items ≡ out.old.items ++ decimal n) }

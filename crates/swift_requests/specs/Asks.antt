@@ -22,7 +22,8 @@ use Rattle.http_model.specs.declared.head.Head.{Head}
 use Rattle.http_model.specs.Framings.{value_of}
 use Rattle.http_model.specs.Forms.{is_get, is_put, is_bodiless, has_host}
 use Rattle.swift_requests.specs.declared.asked.Asked.{Asked}
-use Rattle.swift_requests.specs.declared.asked.Asked.TheVariants.{BadHost, Refused, Put, Get, Listing}
+use Rattle.swift_requests.specs.declared.asked.Asked.TheVariants.{BadHost, Refused, Put, Unfed}
+use Rattle.swift_requests.specs.declared.asked.UnfedCommand.TheVariants.{Get, Listing}
 use Rattle.swift_requests.specs.Commands.{put_command, get_command, list_command, listing_form}
 use Rattle.swift_requests.specs.Metadata.{meta_of, are_texts, are_within}
 
@@ -149,7 +150,7 @@ abbrev pub put_asked : ℕ → List ℕ → List ℕ → Head → Asked
 put_asked largest container name head = asked_unless (put_refusal largest head) (Put (put_command container name head))
 
 abbrev pub get_asked : ℕ → List ℕ → List ℕ → Head → Asked
-get_asked largest container name head = asked_unless (get_refusal largest head) (Get (get_command container name head))
+get_asked largest container name head = asked_unless (get_refusal largest head) (Unfed (Get (get_command container name head)))
 
 abbrev pub object_asked : ℕ → List ℕ → List ℕ → Head → Asked
 object_asked largest container name head =
@@ -158,7 +159,7 @@ object_asked largest container name head =
 -- of a container: its listing
 abbrev pub list_asked : ℕ → List ℕ → Query → Head → Asked
 list_asked largest container query head =
-    asked_unless (list_refusal largest head) (Listing (list_command container query) (listing_form query))
+    asked_unless (list_refusal largest head) (Unfed (Listing (list_command container query) (listing_form query)))
 
 -- at what a target names: 404 for no path of the API, 501 for what is not served yet
 abbrev pub asked_at : ℕ → Head → Query → Target → Asked

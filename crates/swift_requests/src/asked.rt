@@ -32,8 +32,16 @@ pub enum Asked {
     /// An HTTP/1.1 head has not just one Host field.
     BadHost,
     Refused(SwiftRefusal),
+    /// A request that is fed its body.
     Put(PutCommand),
-    /// A GET or a HEAD.
+    /// A request that wants no body.
+    Unfed(UnfedCommand),
+}
+
+/// What a request asks that wants no body.
+#[derive(Debug, Drop)]
+pub enum UnfedCommand {
+    /// A GET or a HEAD of an object.
     Get(GetCommand),
     /// A GET of a container, and how its rows are written.
     Listing(ListCommand, ListingForm),
@@ -169,13 +177,13 @@ fn get_asked(
     if let Some(refusal) = get_refusal(largest, head) {
         return Ok(Asked::Refused(refusal));
     }
-    Ok(Asked::Get(GetCommand {
+    Ok(Asked::Unfed(UnfedCommand::Get(GetCommand {
         container,
         name,
         when: conditions(alloc, head)?,
         span: span(head),
         body: head.is_get(),
-    }))
+    })))
 }
 
 /// How the rows of a listing are written.
@@ -205,7 +213,7 @@ fn list_asked(largest: u64, container: BucketName, query: Query, head: &Head) ->
         prefix: query.prefix,
         delimiter: query.delimiter,
     };
-    Asked::Listing(command, form)
+    Asked::Unfed(UnfedCommand::Listing(command, form))
 }
 
 /// What is asked at what the target names, by the query behind it.

@@ -68,9 +68,7 @@ pub fn body_use(largest: u64, head: &Head, asked: &Asked) -> BodyUse
         Asked::Put(_) if waits(head) => BodyUse::Awaited,
         Asked::Put(_) => BodyUse::Fed,
         Asked::Refused(SwiftRefusal::NotBuilt | SwiftRefusal::TooLarge) => BodyUse::Unread,
-        Asked::BadHost | Asked::Refused(_) | Asked::Get(_) | Asked::Listing(_, _) => {
-            unwanted(largest, head)
-        }
+        Asked::BadHost | Asked::Refused(_) | Asked::Unfed(_) => unwanted(largest, head),
     }
 }
 

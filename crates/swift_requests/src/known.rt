@@ -6,7 +6,8 @@ ghost use Rattle.task_words.specs.declared.span.Span.TheVariants.{Between, From,
 ghost use Rattle.swift_reply.specs.declared.reply.SwiftRefusal.TheVariants.{NotBuilt, Unauthorized, Invalid, NoPath, NoLength, TooLarge};
 ghost use Rattle.swift_reply.specs.declared.reply.Invalid.TheVariants.{Target, Escape, Utf8, Name, Limit, Format, Value, Meta};
 ghost use Rattle.http_model.specs.declared.head.Framing.TheVariants.{Empty, Length, Chunked};
-ghost use Rattle.swift_requests.specs.declared.asked.Asked.TheVariants.{BadHost, Refused, Put, Get, Listing};
+ghost use Rattle.swift_requests.specs.declared.asked.Asked.TheVariants.{BadHost, Refused, Put, Unfed};
+ghost use Rattle.swift_requests.specs.declared.asked.UnfedCommand.TheVariants.{Get, Listing};
 ghost use Rattle.swift_reply.specs.declared.reply.ListingForm.TheVariants.{Plain, Json};
 ghost use Rattle.swift_requests.specs.declared.body.BodyUse.TheVariants.{Fed, Awaited, Dropped, Unread};
 ghost use Rattle.swift_requests.specs.Etags.{rule_in, sent_etag};
@@ -102,8 +103,8 @@ pub fn puts_ask_so()
 
 /// What GETs and HEADs ask.
 pub fn gets_ask_so()
-    ensures plain { asked_of known.largest (known.get_with []) ≡ Get known.plain_get }
-    ensures with_body { asked_of known.largest (known.request (codes "GET") [] (Length 5)) ≡ Get known.plain_get }
+    ensures plain { asked_of known.largest (known.get_with []) ≡ Unfed (Get known.plain_get) }
+    ensures with_body { asked_of known.largest (known.request (codes "GET") [] (Length 5)) ≡ Unfed (Get known.plain_get) }
     ensures fields { asked_of known.largest (known.get_with
         (record { name = codes "RANGE"; value = codes "bytes=0-0" }
         ∷ record { name = codes "Range"; value = codes "bytes=2-3" }
@@ -111,15 +112,15 @@ pub fn gets_ask_so()
         ∷ record { name = codes "If-Modified-Since"; value = codes "Sun, 06 Nov 1994 08:49:37 GMT" }
         ∷ record { name = codes "If-Unmodified-Since"; value = codes "yesterday" }
         ∷ record { name = codes "ETag"; value = 255 ∷ [] } ∷ []))
-        ≡ Get (record known.plain_get {
+        ≡ Unfed (Get (record known.plain_get {
           when = record known.always { matches = known.one_of []; modified = Some 784111777 };
           span = Some (Between 2 3);
-        }) }
+        })) }
     ensures range_condition { asked_of known.largest (known.get_with
         (record { name = codes "Range"; value = codes "bytes=2-3" }
-        ∷ record { name = codes "If-Range"; value = [] } ∷ [])) ≡ Get known.plain_get }
+        ∷ record { name = codes "If-Range"; value = [] } ∷ [])) ≡ Unfed (Get known.plain_get) }
     ensures head { asked_of known.largest (known.head_with (record { name = codes "Range"; value = codes "bytes=2-3" } ∷ []))
-        ≡ Get (record known.plain_get { body = false }) }
+        ≡ Unfed (Get (record known.plain_get { body = false })) }
     ensures too_large { asked_of known.largest (known.request (codes "GET") [] (Length 5368709121)) ≡ Refused TooLarge }
 {}
 
@@ -148,24 +149,24 @@ pub fn heads_are_refused_so()
     ensures kind_text { asked_of known.largest (known.put_of 0 (record { name = codes "Content-Type"; value = 255 ∷ [] } ∷ [])) ≡ Refused (Invalid Value) }
     ensures last_text { asked_of known.largest (known.get_with
         (record { name = codes "If-Match"; value = 255 ∷ [] } ∷ record { name = codes "If-Match"; value = codes "*" } ∷ []))
-        ≡ Get (record known.plain_get { when = record known.always { matches = Some Any } }) }
+        ≡ Unfed (Get (record known.plain_get { when = record known.always { matches = Some Any } })) }
 {}
 
 /// Targets of objects, and the version of the protocol.
 pub fn objects_are_named_so()
-    ensures slashes { asked_of known.largest (known.to (codes "/swift/v1/AUTH_acme/box/a//b/")) ≡ Get (known.get_of (codes "box") (codes "a//b/")) }
-    ensures escaped { asked_of known.largest (known.to (codes "/swift/v1/AUTH_acme/c%20d/a%2Fb%25")) ≡ Get (known.get_of (codes "c d") (codes "a/b%")) }
-    ensures plus { asked_of known.largest (known.to (codes "/swift/v1/AUTH_acme/box/a+b?limit=1&x=%20")) ≡ Get (known.get_of (codes "box") (codes "a+b")) }
-    ensures older { asked_of known.largest (record (known.bare (codes "GET") (known.token ∷ []) Empty) { minor = 0 }) ≡ Get known.plain_get }
-    ensures copies_nothing { asked_of known.largest (known.get_with (record { name = codes "X-Copy-From"; value = codes "box/k" } ∷ [])) ≡ Get known.plain_get }
+    ensures slashes { asked_of known.largest (known.to (codes "/swift/v1/AUTH_acme/box/a//b/")) ≡ Unfed (Get (known.get_of (codes "box") (codes "a//b/"))) }
+    ensures escaped { asked_of known.largest (known.to (codes "/swift/v1/AUTH_acme/c%20d/a%2Fb%25")) ≡ Unfed (Get (known.get_of (codes "c d") (codes "a/b%"))) }
+    ensures plus { asked_of known.largest (known.to (codes "/swift/v1/AUTH_acme/box/a+b?limit=1&x=%20")) ≡ Unfed (Get (known.get_of (codes "box") (codes "a+b"))) }
+    ensures older { asked_of known.largest (record (known.bare (codes "GET") (known.token ∷ []) Empty) { minor = 0 }) ≡ Unfed (Get known.plain_get) }
+    ensures copies_nothing { asked_of known.largest (known.get_with (record { name = codes "X-Copy-From"; value = codes "box/k" } ∷ [])) ≡ Unfed (Get known.plain_get) }
 {}
 
 /// Listings of containers.
 pub fn listings_ask_so()
-    ensures all { asked_of known.largest (known.to (codes "/swift/v1/AUTH_acme/box")) ≡ Listing (known.all_of (codes "box")) Plain }
-    ensures slash { asked_of known.largest (known.to (codes "/swift/v1/AUTH_acme/box/")) ≡ Listing (known.all_of (codes "box")) Plain }
+    ensures all { asked_of known.largest (known.to (codes "/swift/v1/AUTH_acme/box")) ≡ Unfed (Listing (known.all_of (codes "box")) Plain) }
+    ensures slash { asked_of known.largest (known.to (codes "/swift/v1/AUTH_acme/box/")) ≡ Unfed (Listing (known.all_of (codes "box")) Plain) }
     ensures some { asked_of known.largest (known.to (codes "/swift/v1/AUTH_acme/c%20d?limit=2&marker=a%2F1&end_marker=z&prefix=a&delimiter=%2F&format=json&x=1"))
-        ≡ Listing (record (known.all_of (codes "c d")) { limit = 2; marker = codes "a/1"; end_marker = codes "z"; prefix = codes "a"; delimiter = codes "/" }) Json }
+        ≡ Unfed (Listing (record (known.all_of (codes "c d")) { limit = 2; marker = codes "a/1"; end_marker = codes "z"; prefix = codes "a"; delimiter = codes "/" }) Json) }
     ensures nobody { asked_of known.largest (known.bare_to (codes "/swift/v1/AUTH_acme/box")) ≡ Refused Unauthorized }
     ensures other { asked_of known.largest (known.to (codes "/swift/v1/AUTH_other/box")) ≡ Refused NotBuilt }
 {}
@@ -178,7 +179,7 @@ pub fn metadata_is_read_so()
         ∷ record { name = codes "X-OBJECT-META-COLOR"; value = [] }
         ∷ record { name = codes "X-Object-Met"; value = codes "x" } ∷ []))
         ≡ Put (record known.plain_put { meta = (codes "a", codes "1") ∷ (codes "color", []) ∷ [] }) }
-    ensures of_get { asked_of known.largest (known.get_with (record { name = codes "X-Object-Meta-"; value = 255 ∷ [] } ∷ [])) ≡ Get known.plain_get }
+    ensures of_get { asked_of known.largest (known.get_with (record { name = codes "X-Object-Meta-"; value = 255 ∷ [] } ∷ [])) ≡ Unfed (Get known.plain_get) }
     ensures text { asked_of known.largest (known.put_of 5 (record { name = codes "X-Object-Meta-"; value = 255 ∷ [] } ∷ [])) ≡ Refused (Invalid Value) }
     ensures last_text { asked_of known.largest (known.put_of 5
         (record { name = codes "X-Object-Meta-A"; value = 255 ∷ [] } ∷ record { name = codes "X-Object-Meta-a"; value = codes "1" } ∷ []))
@@ -196,10 +197,10 @@ pub fn bodies_are_used_so()
     ensures fed { body_use known.largest (known.put_of 5 []) (Put known.plain_put) ≡ Fed }
     ensures awaited { body_use known.largest (known.put_of 5 (record { name = codes "Expect"; value = codes "100-Continue" } ∷ [])) (Put known.plain_put) ≡ Awaited }
     ensures other { body_use known.largest (known.put_of 5 (record { name = codes "Expect"; value = codes "200-ok" } ∷ [])) (Put known.plain_put) ≡ Fed }
-    ensures of_get_waiting { body_use known.largest (known.get_with (record { name = codes "Expect"; value = codes "100-continue" } ∷ [])) (Get known.plain_get) ≡ Unread }
+    ensures of_get_waiting { body_use known.largest (known.get_with (record { name = codes "Expect"; value = codes "100-continue" } ∷ [])) (Unfed (Get known.plain_get)) ≡ Unread }
     ensures dropped { body_use known.largest (known.put_of 5 []) (Refused Unauthorized) ≡ Dropped }
-    ensures none { body_use known.largest (known.get_with []) (Get known.plain_get) ≡ Dropped }
-    ensures of_get { body_use known.largest (known.request (codes "GET") [] (Length 5)) (Get known.plain_get) ≡ Dropped }
+    ensures none { body_use known.largest (known.get_with []) (Unfed (Get known.plain_get)) ≡ Dropped }
+    ensures of_get { body_use known.largest (known.request (codes "GET") [] (Length 5)) (Unfed (Get known.plain_get)) ≡ Dropped }
     ensures no_length { body_use known.largest (known.request (codes "PUT") [] Empty) (Refused NoLength) ≡ Dropped }
     ensures not_built { body_use known.largest (known.put_of 5 []) (Refused NotBuilt) ≡ Unread }
     ensures too_large { body_use known.largest (known.put_of 5368709121 []) (Refused TooLarge) ≡ Unread }

@@ -12,7 +12,7 @@ mod laws;
 mod metadata;
 mod range;
 
-pub use asked::{Asked, read_asked};
+pub use asked::{Asked, UnfedCommand, read_asked};
 pub use body::{BodyUse, body_use, closes};
 pub use known::{
     bodies_are_used_so, dates_are_read_so, etags_are_read_so, gets_ask_so, heads_are_refused_so,

@@ -8,7 +8,7 @@ use Rattle.realm_model.specs.Allowed.{allowed}
 use Rattle.realm_model.specs.Doors.{DoorView, actor_at}
 use Rattle.realm_model.specs.Histories.{Doings, account_of, world_of}
 use Rattle.realm_model.specs.Maps.{heads}
-use Rattle.realm_model.specs.Owns.{own_events}
+use Rattle.realm_model.specs.Owns.{OwnEvent, own_events}
 use Rattle.realm_model.specs.Phases.{ActorId, Phase}
 use Rattle.realm_model.specs.Suits.{Suits}
 use Rattle.realm_model.specs.declared.op.Op.{Op}
@@ -16,13 +16,23 @@ use Rattle.realm_model.specs.declared.event.Event.{Event}
 use Rattle.realm_door.specs.declared.door.Answered.{Answered}
 use Rattle.realm_door.specs.Steps.{Extends, event_at, own_event}
 use Rattle.std.proofs.lemmas.List.{length-append}
-use Rattle.task_words.specs.declared.outcome.Outcome.{Outcome}
 use Rattle.task_container.specs.declared.request.ContainerRequest.{ContainerRequest}
 use Rattle.task_container.specs.declared.task.ContainerTask.{ContainerTask}
 use Rattle.task_container.specs.declared.task.Stage.{Stage}
 use Rattle.task_container.specs.declared.task.Stage.TheVariants.{Look, Count, Ended}
-use Rattle.task_container.specs.Stages.{IsOver, IsOpen, op_of, step_of, FitsAt, fits}
+use Rattle.task_container.specs.Counts.{IsOfCount, AreOfCount}
+use Rattle.task_container.specs.Stages.{IsOpen, op_of, step_of, FitsAt, fits}
 use Rattle.task_container.proofs.Steps.{one_step}
+
+-- each operation of the task is one of its request
+of_count : (r : ContainerRequest) (stage : Stage) → IsOfCount r (op_of r stage)
+of_count r Look = (refl, refl)
+of_count r (Count c) = refl
+of_count r (Ended outcome) = (refl, refl)
+
+one_more : (r : ContainerRequest) (events : List OwnEvent) (own : OwnEvent) → AreOfCount r events → IsOfCount r own.op → AreOfCount r (events ++ own ∷ [])
+one_more r [] own are is = (is, tt)
+one_more r (e ∷ es) own are is = (are.0, one_more r es own are.1 is)
 
 pub fits_next : (settings : SettingsView) (d e : DoorView) (t u : ContainerTask) (op : Op) (moment : ℕ) (a : Answered) → IsOpen t.stage → op ≡ op_of t.request t.stage → Suits (op_of t.request t.stage) a.reply
     → u.request ≡ t.request → u.stage ≡ (step_of t.request.asker t.stage t.moved a.reply).0 → u.moved ≡ (step_of t.request.asker t.stage t.moved a.reply).1
@@ -51,6 +61,8 @@ fits_next settings d e t u op moment a is_open op_is suits request stage moved f
       subst (λ (r : ContainerRequest). 1 ≤ r.zone) (sym request) f.0,
       subst (λ (r : ContainerRequest). r.zone ≤ settings.zones) (sym request) f.1,
       subst (λ r. FitsAt r u.stage u.moved (account_of settings e.seen (actor_at e)) (own_events e.seen (actor_at e)) (length e.seen)) (sym request) by_moved,
+      subst (λ r. AreOfCount r (own_events e.seen (actor_at e))) (sym request)
+          (subst (AreOfCount t.request) (sym events) (one_more t.request (own_events d.seen actor) (own_event (op_of t.request t.stage) a) f.3 (of_count t.request t.stage))),
     )
 
 between : (low high n : ℕ) → low ≤ n → n ≤ high → is_between low high n ≡ true
@@ -64,12 +76,3 @@ pub may_step : (settings : SettingsView) (p : Phase) (r : ContainerRequest) (sta
 may_step settings p r Look op is low high = subst (λ o. allowed settings p o ≡ true) (sym is) (rw (between 1 settings.zones r.zone low high) refl)
 may_step settings p r (Count c) op is low high = subst (λ o. allowed settings p o ≡ true) (sym is) (rw (between 1 settings.zones r.zone low high) refl)
 may_step settings p r (Ended outcome) op is low high = subst (λ o. allowed settings p o ≡ true) (sym is) (rw (between 1 settings.zones r.zone low high) refl)
-
-pub not_over : (stage : Stage) → IsOpen stage → IsOver stage → ⊥
-not_over (Ended outcome) going ended = going
-not_over stage going ended = ended
-
-pub is_open_of : (stage : Stage) → ((outcome : Outcome) → stage ≡ Ended outcome → ⊥) → IsOpen stage
-is_open_of Look other = tt
-is_open_of (Count c) other = tt
-is_open_of (Ended outcome) other = other outcome refl

@@ -1,23 +1,16 @@
-ghost use Rattle.std.specs.Prelude.{◌≡◌, ◌≤◌, None};
-ghost use Rattle.realm_model.specs.Settings.{SettingsView};
-ghost use Rattle.realm_model.specs.Doors.{DoorView, actor_at};
-ghost use Rattle.task_container.specs.Stages.{IsOpen, step_of, header_step, after_look, after_header, after_left, stage_of, request_of, fault_of, fits};
-ghost use Rattle.realm_model.specs.Accounts.{blank};
-ghost use Rattle.realm_model.specs.Histories.{account_of};
+ghost use Rattle.std.specs.Prelude.{◌≡◌};
+ghost use Rattle.realm_door.specs.Turns.{FitsAtFirst};
+ghost use Rattle.task_container.specs.Stages.{IsOpen, step_of, header_step, after_look, after_header, after_left, stage_of, request_of, fits};
 
 use crate::counting::Counting;
 use crate::request::ContainerRequest;
 use object_words::{Bucket, ShardStats};
-use realm_door::{Door, EventTask, NextOp, Task, TaskTurn};
+use realm_door::{Answered, Next, Staged, Taken};
 use realm_model::{Op, Reply};
 use std::alloc::{AllocError, Global};
 use std::mem::replace;
 use swift_auth::Deed;
-use task_words::{Asker, MapReply, Outcome};
-use turn_cell::DoorFault;
-
-/// So many answers Moved or Closed end a task.
-const MOST_MOVED: u32 = 16;
+use task_words::{Asker, MOST_MOVED, MapReply, Outcome};
 
 /// Where a task stands.
 #[derive(Debug, Drop)]
@@ -37,30 +30,26 @@ pub struct ContainerTask {
     stage: Stage,
     /// How many answers were Moved or Closed.
     moved: u32,
-    fault: Option<DoorFault>,
 }
 
 impl ContainerTask {
-    /// A task that made no event.
+    /// Stages of a task that made no event.
     pub fn new(request: ContainerRequest) -> ContainerTask
         ensures request { request_of result ≡ request }
-        ensures fits { (settings : SettingsView) (d : DoorView) → 1 ≤ request.zone → request.zone ≤ settings.zones
-            → account_of settings d.seen (actor_at d) ≡ blank → fits result settings d }
-        ensures sound { fault_of result ≡ None }
+        ensures fits { FitsAtFirst request.zone (fits result) }
         ensures open { IsOpen (stage_of result) }
     {
         ContainerTask {
             request,
             stage: Stage::Look,
             moved: 0,
-            fault: None,
         }
     }
 
     /// Goes on by the answer to the operation that came next.
-    fn take(&mut self, reply: Reply)
+    fn go_on(&mut self, reply: Reply)
+        requires open { IsOpen self.old.stage }
         ensures request { self.new.request ≡ self.old.request }
-        ensures fault { self.new.fault ≡ self.old.fault }
         ensures stage { self.new.stage ≡ (step_of self.old.request.asker self.old.stage self.old.moved reply).0 }
         ensures moved { self.new.moved ≡ (step_of self.old.request.asker self.old.stage self.old.moved reply).1 }
     {
@@ -73,15 +62,13 @@ impl ContainerTask {
 
 /// The stage after an answer, and how many were Moved or Closed.
 fn next_stage(asker: &Asker, stage: Stage, moved: u32, reply: Reply) -> (Stage, u32)
+    requires open { IsOpen stage }
     ensures { result ≡ step_of asker.now stage moved reply }
 {
     match stage {
         Stage::Look => (stage_by_row(asker, reply.into_row()), moved),
         Stage::Count(counting) => stage_by_header(counting, moved, reply.into_stats()),
-        Stage::Ended(outcome) => {
-            drop(reply);
-            (Stage::Ended(outcome), moved)
-        }
+        Stage::Ended(_) => unreachable!(),
     }
 }
 
@@ -148,32 +135,10 @@ fn stage_when_moved(moved: u32) -> Stage
     }
 }
 
-impl NextOp for ContainerTask {
-    ghost use Rattle.task_container.specs.Stages.{IsOpen, op_of, request_of, stage_of};
-
-    ghost is_open = { λ t. IsOpen (stage_of t) };
-
-    ghost op = { λ t. op_of (request_of t) (stage_of t) };
-
-    fn next_op(&self) -> Result<Op, AllocError> {
-        let zone = self.request.zone;
-        match &self.stage {
-            Stage::Count(counting) => Ok(Op::Stats {
-                zone,
-                key: counting.key(),
-            }),
-            _ => Ok(Op::BucketRead {
-                zone,
-                name: self.request.command.name().clone()?,
-            }),
-        }
-    }
-}
-
-impl Task for ContainerTask {
-    ghost use Rattle.std.specs.Prelude.{[], None};
-    ghost use Rattle.task_container.specs.Stages.{IsOver, stage_of, request_of, fault_of, fits};
-    ghost use Rattle.task_container.specs.Counts.{IsContainerOutcome};
+impl Staged for ContainerTask {
+    ghost use Rattle.std.specs.Prelude.{◌≡◌};
+    ghost use Rattle.task_container.specs.Stages.{IsOver, IsOpen, op_of, stage_of, request_of, fits};
+    ghost use Rattle.task_container.specs.Counts.{IsContainerEnd};
     ghost use Rattle.realm_model.specs.Histories.{account_of};
     ghost use Rattle.realm_model.specs.Owns.{own_events};
     ghost use Rattle.realm_model.specs.Doors.{actor_at};
@@ -182,76 +147,62 @@ impl Task for ContainerTask {
 
     type Outcome = Outcome;
 
+    type Rest = ();
+
     ghost command = { request_of };
 
     ghost fits = { fits };
 
-    ghost means = { λ request outcome settings d. IsContainerOutcome request outcome
+    ghost means = { λ request outcome settings d. IsContainerEnd request outcome
         (account_of settings d.seen (actor_at d)) (own_events d.seen (actor_at d)) };
 
-    ghost is_ended = { λ t. IsOver (stage_of t) × (fault_of t ≡ None) };
-
-    ghost fault = { fault_of };
-
-    ghost piece = { λ t. [] };
-
-    ghost given = { λ t. 0 };
-
-    ghost wants = { λ t. ⊥ };
-
-    #[tactic(auto, using(crate::proofs::Turning::is_open_of, crate::proofs::Turning::not_over))]
-    fn turn<D: Door>(
-        &mut self,
-        alloc: Global,
-        door: &mut D,
-        moment: u64,
-    ) -> Result<TaskTurn, DoorFault> {
-        if let Some(fault) = self.fault {
-            return Err(fault);
-        }
-        if let Stage::Ended(_) = &self.stage {
-            return Ok(TaskTurn::Done);
-        }
-        self.event(alloc, door, moment)?;
-        Ok(TaskTurn::More)
-    }
-
-    fn outcome(&self) -> Option<&Outcome> {
-        match (&self.stage, self.fault) {
-            (Stage::Ended(outcome), None) => Some(outcome),
-            _ => None,
-        }
-    }
-}
-
-impl EventTask for ContainerTask {
-    ghost use Rattle.task_container.specs.Stages.{IsOpen, stage_of};
+    ghost is_over = { λ t. IsOver (stage_of t) };
 
     ghost is_ready = { λ t. IsOpen (stage_of t) };
 
-    #[tactic(auto, using(crate::proofs::Turning::fits_next, crate::proofs::Turning::may_step))]
-    fn event<D: Door>(
-        &mut self,
-        alloc: Global,
-        door: &mut D,
-        moment: u64,
-    ) -> Result<(), DoorFault> {
-        let Ok(op) = self.next_op() else {
-            self.fault = Some(DoorFault::OutOfMemory);
-            return Err(DoorFault::OutOfMemory);
-        };
-        match door.step(alloc, op, moment) {
-            Ok(answered) => {
-                drop(answered.back);
-                self.take(answered.reply);
-                Ok(())
-            }
-            Err(stopped) => {
-                let fault = stopped.fault;
-                drop(stopped);
-                self.fault = Some(fault);
-                Err(fault)
-            }
+    ghost op = { λ t. op_of (request_of t) (stage_of t) };
+
+    ghost is_taken = { λ t u rest. (u ≡ t) × IsOpen (stage_of t) };
+
+    fn settle(&mut self) -> Next {
+        match &self.stage {
+            Stage::Ended(_) => Next::Done,
+            _ => Next::Event,
         }
     }
+
+    fn end(&self) -> Option<&Outcome> {
+        match &self.stage {
+            Stage::Ended(outcome) => Some(outcome),
+            _ => None,
+        }
+    }
+
+    fn piece(&self) -> &[u8] {
+        &[]
+    }
+
+    #[tactic(auto, using(crate::proofs::Turning::may_step))]
+    fn split(&mut self, _alloc: Global) -> Result<Taken<()>, AllocError> {
+        let zone = self.request.zone;
+        let op = match &self.stage {
+            Stage::Look => Op::BucketRead {
+                zone,
+                name: self.request.command.name().clone()?,
+            },
+            Stage::Count(counting) => Op::Stats {
+                zone,
+                key: counting.key(),
+            },
+            Stage::Ended(_) => unreachable!(),
+        };
+        Ok(Taken { op, rest: () })
+    }
+
+    fn take(&mut self, _alloc: Global, _rest: (), answered: Answered) {
+        drop(answered.back);
+        self.go_on(answered.reply);
+    }
+
+    fn waits() {}
 }

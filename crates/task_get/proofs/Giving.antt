@@ -1,5 +1,5 @@
 -- What callers of a GET know: the pieces, one after another, are the bytes that its reply shows.
-use Rattle.std.proofs.Common.{◌≡◌, ℕ, ◌+◌, ◌*◌, nat_lt, ◌⊎◌, inl, inr, ⊎_elim, Bool, true, false, cond, List, [], ◌∷◌, ◌++◌, length, take, drop, Option, Some, None, refl, sym, ap, ◌∙◌, subst, arith, length-append, length-take, length-drop}
+use Rattle.std.proofs.Common.{◌≡◌, ℕ, ◌⊎◌, inl, inr, ⊎_elim, Bool, true, false, cond, List, [], ◌∷◌, ◌++◌, length, drop, Option, Some, None, refl, sym, ap, ◌∙◌, subst, arith, length-append, length-take, length-drop}
 use Rattle.std.specs.Prelude.{IfSome}
 use Rattle.std.proofs.lemmas.Grind.{flat_map-append}
 use Rattle.std.proofs.lemmas.List.{append-nil, nil_from_length}
@@ -12,15 +12,13 @@ use Rattle.object_words.specs.declared.head.SeenSlot.TheVariants.{Live}
 use Rattle.realm_model.specs.Settings.{SettingsView}
 use Rattle.realm_model.specs.Accounts.{Decided, Account}
 use Rattle.realm_model.specs.Phases.{Phase}
-use Rattle.realm_model.specs.Histories.{Doings}
+use Rattle.realm_model.specs.Histories.{Doings, doings_of}
 use Rattle.realm_model.specs.Doors.{DoorView, actor_at}
-use Rattle.realm_model.specs.Owns.{OwnEvent, own_events, NoneBy}
-use Rattle.realm_model.specs.declared.event.Event.{Event}
-use Rattle.realm_model.specs.declared.event.Reply.{Reply}
+use Rattle.realm_model.specs.Owns.{OwnEvent, own_events}
 use Rattle.realm_model.specs.declared.op.Op.TheVariants.{BucketRead}
 use Rattle.realm_door.specs.Steps.{own_event}
 use Rattle.realm_door.specs.Turns.{MakesEvent}
-use Rattle.realm_door.proofs.Others.{same_after_others}
+use Rattle.realm_door.specs.Waiting.{Waited}
 use Rattle.task_words.specs.declared.command.GetCommand.{GetCommand}
 use Rattle.task_words.specs.declared.span.ByteRange.{ByteRange}
 use Rattle.task_words.specs.declared.outcome.Outcome.{Outcome}
@@ -34,16 +32,12 @@ use Rattle.task_words.specs.Outcomes.{ByMap, IsShown, IsGetOutcome}
 use Rattle.task_get.specs.declared.request.GetRequest.{GetRequest}
 use Rattle.task_get.specs.declared.stage.Stage.{Stage}
 use Rattle.task_get.specs.declared.stage.Stage.TheVariants.{Look, Open, Tails, Ended, Late}
-use Rattle.task_get.specs.declared.stage.TailShown.{TailShown}
-use Rattle.task_get.specs.declared.stage.TailShown.TheVariants.{Bytes, Gone}
 use Rattle.task_get.specs.declared.task.GetTask.{GetTask}
 use Rattle.task_get.specs.Shown.{HasParts, content_with}
-use Rattle.task_get.specs.Readings.{ReadingView, next_piece}
 use Rattle.task_get.specs.Replies.{reply_of}
-use Rattle.task_get.specs.Stages.{IsOpen, tail_shown, gone_on, after_tail, step_of}
 use Rattle.task_get.specs.Pieces.{brought_by, brought}
 use Rattle.task_get.specs.Gets.{ReadsRow, ReadsAll, BringsAll, BringsFront, Means, LastBrings, FitsStage}
-use Rattle.task_get.specs.Tasks.{account_at, phase_at, events_at, bytes_of, given_of, where_shown, shown_by, shown_of, Fits}
+use Rattle.task_get.specs.Tasks.{account_at, phase_at, events_at, bytes_of, given_of, where_shown, shown_by, Fits}
 use Rattle.task_get.proofs.Replies.{answer_by, Lies, taken_lies, live_is}
 use Rattle.task_get.proofs.Ends.{by_map, decided_slot, front_shown, shows_bytes}
 
@@ -82,7 +76,7 @@ mapped_reply r reply y event by is =
     let same : by.event ≡ event = cc in
     by.answers ∙ ap (λ (d : Decided). (get_answer r.get d.before).reply) same
 
-shown_is : (reply : MapReply) → IsShown reply → Some reply ≡ where_shown reply
+pub shown_is : (reply : MapReply) → IsShown reply → Some reply ≡ where_shown reply
 shown_is (Shown kind meta etag stamp size start count) is = refl
 shown_is reply is = absurd is
 
@@ -169,27 +163,6 @@ shown_rests r (Late x outcome) y p events reply fits is =
     let same : x.reply ≡ reply = cc in
     let unchanged = unchanged_meant r outcome y events fits.0 in
     (subst (λ x. IsGetOutcome r.zone r.asker r.get (Done x) y) same (map_rests r x.reply y fits.1.is_shown fits.1.by_map unchanged), subst IsShown same fits.1.is_shown)
-
--- a turn leaves the reply that is shown
-going_shows : (x : ReadingView) (count : ℕ) → IsShown x.reply → shown_by (gone_on x count) ≡ Some x.reply
-going_shows x count is =
-    elim (nat_lt ((x.part + 1) * x.manifest.stripe) (x.range.start + x.range.count)) as (λ b. shown_by (cond b (Tails (record x { part = x.part + 1; given = x.given + count })) (Ended (Done x.reply) (x.given + count))) ≡ Some x.reply) [ true ↦ refl | false ↦ sym (shown_is x.reply is) ]
-
-tail_shows : (x : ReadingView) (tail : TailShown) → IsShown x.reply → shown_by (after_tail x tail).0 ≡ Some x.reply
-tail_shows x (Bytes bytes) is = going_shows x (length (take (next_piece x).count bytes)) is
-tail_shows x (Gone clock) is = refl
-
-step_shows : (r : GetRequest) (stage : Stage) (y : Account) (p : Phase) (events : List OwnEvent) (answer : Reply) (clock : ℕ) (reply : MapReply) → IsOpen stage → FitsStage r stage y p events → shown_by stage ≡ Some reply → shown_by (step_of r stage answer clock).0 ≡ Some reply
-step_shows r Look y p events answer clock reply going fits is = cc
-step_shows r (Open container) y p events answer clock reply going fits is = cc
-step_shows r (Tails x) y p events answer clock reply going fits is =
-    tail_shows x (tail_shown answer) (subst IsShown (sym fits.reply) (shows_bytes r.get.body (reply_of r.get fits.new fits.stamp) x.range fits.range)) ∙ is
-step_shows r (Ended outcome given) y p events answer clock reply going fits is = absurd going
-step_shows r (Late x outcome) y p events answer clock reply going fits is = absurd going
-
-pub still_shown : (settings : SettingsView) (d : DoorView) (t u : GetTask) (answer : Reply) (clock : ℕ) (reply : MapReply) → IsOpen t.stage → u.stage ≡ (step_of t.request t.stage answer clock).0 → Fits t settings d → shown_of t ≡ Some reply → shown_of u ≡ Some reply
-still_shown settings d t u answer clock reply going stage fits is =
-    ap shown_by stage ∙ step_shows t.request t.stage (account_at settings d) (phase_at settings d) (events_at d) answer clock reply going fits.stage is
 
 -- ---- the bytes
 
@@ -320,17 +293,18 @@ no_piece settings t u d e moment request before fits made same =
 
 -- ---- others
 
-pub still_fits : (settings : SettingsView) (t : GetTask) (d : DoorView) (between : List Event) → NoneBy (actor_at d) between → Fits t settings d → Fits t settings (record d { seen = d.seen ++ between })
-still_fits settings t d between none fits =
-    let same = same_after_others settings d.seen between (actor_at d) none in
-    let account = ap (λ (x : Doings). x.account) same.doings in
-    let phase = ap (λ (x : Doings). x.phase) same.doings in
-    let events = same.events in
+pub stays_while_waiting : (t : GetTask) (settings : SettingsView) (d e : DoorView) → Waited settings d e → Fits t settings d → Fits t settings e
+stays_while_waiting t settings d e waited fits =
+    let who : actor_at e ≡ actor_at d = (λ i. record { pass = waited.pass i; count = waited.count i }) in
+    let doings : doings_of settings e.seen (actor_at e) ≡ doings_of settings d.seen (actor_at d) = ap (doings_of settings e.seen) who ∙ waited.same.doings in
+    let account = ap (λ (x : Doings). x.account) doings in
+    let phase = ap (λ (x : Doings). x.phase) doings in
+    let events : events_at e ≡ events_at d = ap (own_events e.seen) who ∙ waited.same.events in
     record {
       first_zone = fits.first_zone;
       last_zone = fits.last_zone;
-      stage = subst (λ y. FitsStage t.request t.stage y (phase_at settings (record d { seen = d.seen ++ between })) (events_at (record d { seen = d.seen ++ between }))) (sym account)
-          (subst (λ p. FitsStage t.request t.stage (account_at settings d) p (events_at (record d { seen = d.seen ++ between }))) (sym phase)
+      stage = subst (λ y. FitsStage t.request t.stage y (phase_at settings e) (events_at e)) (sym account)
+          (subst (λ p. FitsStage t.request t.stage (account_at settings d) p (events_at e)) (sym phase)
           (subst (λ es. FitsStage t.request t.stage (account_at settings d) (phase_at settings d) es) (sym events) fits.stage));
       given = subst (λ es. given_of t ≡ length (brought t.request.get es)) (sym events) fits.given;
       piece = subst (λ es. LastBrings t.request (bytes_of t) es) (sym events) fits.piece;

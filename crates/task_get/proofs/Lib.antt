@@ -7,3 +7,4 @@ pub mod HeadSteps
 pub mod TailSteps
 pub mod Turning
 pub mod Giving
+pub mod Sound

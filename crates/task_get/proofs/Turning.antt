@@ -1,6 +1,5 @@
 -- A step through a door brings a GET on.
-use Rattle.std.proofs.Common.{◌≡◌, ℕ, ◌+◌, ◌*◌, ◌<◌, ◌≤◌, true, false, nat_lt, cond, List, [], ◌∷◌, ◌++◌, length, take, drop, max, nat_le, ◌/◌, Option, Some, None, refl, sym, ap, ◌∙◌, subst, arith, length-append}
-use Rattle.std.proofs.lemmas.Bool.Decides.{nat_tests}
+use Rattle.std.proofs.Common.{◌≡◌, ℕ, ◌+◌, ◌*◌, ◌<◌, ◌≤◌, true, false, nat_lt, cond, List, [], ◌∷◌, ◌++◌, length, take, drop, max, ◌/◌, Option, Some, None, refl, sym, ap, ◌∙◌, subst, arith, length-append}
 use Rattle.std.proofs.lemmas.Grind.{flat_map-append}
 use Rattle.std.proofs.lemmas.List.{append-nil, take_all}
 use Rattle.rgw_types.specs.declared.stamp.Stamp.{Stamp}
@@ -36,21 +35,15 @@ use Rattle.realm_model.specs.declared.event.Reply.TheVariants.{No, Row, Head as 
 use Rattle.realm_model.proofs.Runs.{legal_front, state-next, touched-clock}
 use Rattle.realm_door.specs.declared.door.Answered.{Answered}
 use Rattle.realm_door.specs.Steps.{event_at, own_event, Shows, Extends}
-use Rattle.realm_door.specs.Turns.{Given}
-use Rattle.realm_door.specs.declared.task.TaskTurn.{TaskTurn}
-use Rattle.realm_door.specs.declared.task.TaskTurn.TheVariants.{More, Gives}
 use Rattle.stripe_law.proofs.Getting.{read_bytes, read_length}
 use Rattle.stripe_law.proofs.Storing.{made_bytes}
 use Rattle.swift_auth.specs.declared.policy.Deed.TheVariants.{ReadThing}
-use Rattle.swift_auth.specs.declared.policy.Verdict.{Verdict}
-use Rattle.swift_auth.specs.declared.policy.Verdict.TheVariants.{Granted, Unknown, Denied as PolicyDenied}
-use Rattle.swift_auth.specs.Policies.{found_under, verdict_of}
 use Rattle.task_words.specs.declared.command.GetCommand.{GetCommand}
 use Rattle.task_words.specs.declared.span.ByteRange.{ByteRange}
 use Rattle.task_words.specs.declared.reply.MapReply.{MapReply}
 use Rattle.task_words.specs.declared.reply.Refusal.{Refusal}
 use Rattle.task_words.specs.declared.outcome.Outcome.TheVariants.{Done}
-use Rattle.task_words.specs.Rows.{refusal_by, row_refusal}
+use Rattle.task_words.specs.Rows.{row_refusal}
 use Rattle.task_get.specs.declared.request.GetRequest.{GetRequest}
 use Rattle.task_get.specs.declared.stage.Stage.{Stage}
 use Rattle.task_get.specs.declared.stage.Stage.TheVariants.{Look, Open, Tails, Ended, Late}
@@ -61,7 +54,7 @@ use Rattle.task_get.specs.Shown.{content_with}
 use Rattle.task_get.specs.Readings.{ReadingView, next_piece}
 use Rattle.task_get.specs.Replies.{reply_of, range_of}
 use Rattle.task_get.specs.Pieces.{first_bytes, bytes_of_slot, brought_by, brought, read_of}
-use Rattle.task_get.specs.Stages.{IsOver, IsOpen, op_of, given_by, after_refusal, slot_shown, from_part, after_live, after_head, tail_shown, gone_on, after_tail, step_of, IsBehindRow}
+use Rattle.task_get.specs.Stages.{IsOver, IsOpen, op_of, given_by, after_refusal, slot_shown, from_part, after_live, after_head, tail_shown, gone_on, after_tail, step_of}
 use Rattle.realm_model.specs.Shown.{row_shown}
 use Rattle.task_get.specs.Gets.{decision, HasBegun, HasLooked, HasOpened, FitsStage, LastBrings}
 use Rattle.task_get.specs.Tasks.{account_at, phase_at, events_at, bytes_of, given_of, Fits}
@@ -367,27 +360,3 @@ pub not_over : (stage : Stage) → IsOpen stage → IsOver stage → ⊥
 not_over (Ended outcome given) going over = going
 not_over (Late x outcome) going over = going
 not_over stage going over = over
-
--- the turn gives where there are bytes
-pub given_so : (turn : TaskTurn) (piece : List ℕ) (before after : ℕ) → (1 ≤ length piece → turn ≡ Gives) → (length piece ≡ 0 → turn ≡ More) → after ≡ before + length piece → Given turn before piece after
-given_so turn piece before after gives goes sum =
-    elim (nat_le 1 (length piece)) as (λ b. nat_le 1 (length piece) ≡ b → Given turn before piece after) [
-      | true ↦ λ test. let some : 1 ≤ length piece = grind (arith, nat_tests) in subst (λ t. Given t before piece after) (sym (gives some)) (some, sum)
-      | false ↦ λ test. let none : length piece ≡ 0 = grind (arith, nat_tests) in subst (λ t. Given t before piece after) (sym (goes none)) (omega (arith, sum, none))
-    ] refl
-
--- ---- behind the first event
-
-refused_so : (v : Verdict) (found row : Option Bucket) → IsBehindRow (after_refusal (refusal_by v found) row)
-refused_so Unknown found row = tt
-refused_so Granted None row = tt
-refused_so (PolicyDenied rule) None row = tt
-refused_so Granted (Some r) None = tt
-refused_so Granted (Some r) (Some row) = tt
-refused_so (PolicyDenied rule) (Some r) row = tt
-
--- the row alone was read
-pub behind_row : (r : GetRequest) (stage : Stage) (reply : Reply) (clock : ℕ) → stage ≡ Look → IsBehindRow (step_of r stage reply clock).0
-behind_row r stage reply clock is =
-    subst (λ s. IsBehindRow (step_of r s reply clock).0) (sym is)
-    (refused_so (verdict_of r.asker.user r.asker.account (row_shown reply) ReadThing) (found_under r.asker.account (row_shown reply)) (row_shown reply))

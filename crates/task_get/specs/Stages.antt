@@ -15,11 +15,12 @@ use Rattle.task_words.specs.declared.asker.Asker.{Asker}
 use Rattle.task_words.specs.declared.command.GetCommand.{GetCommand}
 use Rattle.task_words.specs.declared.span.ByteRange.{ByteRange}
 use Rattle.task_words.specs.declared.reply.MapReply.{MapReply}
-use Rattle.task_words.specs.declared.reply.MapReply.TheVariants.{Refused}
+use Rattle.task_words.specs.declared.reply.MapReply.TheVariants.{Shown, Same, Refused}
 use Rattle.task_words.specs.declared.reply.Refusal.{Refusal}
-use Rattle.task_words.specs.declared.reply.Refusal.TheVariants.{Unauthorized, Denied, NoContainer, NoObject}
+use Rattle.task_words.specs.declared.reply.Refusal.TheVariants.{Unauthorized, Denied, NoContainer, NoObject, OtherEtag}
 use Rattle.task_words.specs.declared.outcome.Outcome.{Outcome}
 use Rattle.task_words.specs.declared.outcome.Outcome.TheVariants.{Done, LateRead}
+use Rattle.task_words.specs.Outcomes.{IsShown}
 use Rattle.task_words.specs.Rows.{row_refusal}
 use Rattle.task_get.specs.declared.request.GetRequest.{GetRequest}
 use Rattle.task_get.specs.declared.stage.Stage.{Stage}
@@ -50,10 +51,28 @@ IsBehindRow (Ended (Done (Refused (Denied rule))) given) = Unit {0}
 IsBehindRow (Ended (Done (Refused NoContainer)) given) = Unit {0}
 IsBehindRow stage = ⊥
 
--- the outcome, where the task ended in time
+-- the outcome, once it is there
 abbrev pub ended_in : Stage → Option Outcome
 ended_in (Ended outcome given) = Some outcome
+ended_in (Late x outcome) = Some outcome
 ended_in stage = None
+
+-- a GET may reply so
+abbrev pub IsGetReply : MapReply → Type 0
+IsGetReply (Shown kind meta etag stamp size start count) = Unit {0}
+IsGetReply (Same etag stamp) = Unit {0}
+IsGetReply (Refused OtherEtag) = ⊥
+IsGetReply (Refused refusal) = Unit {0}
+IsGetReply reply = ⊥
+
+-- a stage of a GET, whatever a door answered: the reply whose bytes come shows bytes, and a GET may end so
+abbrev pub IsSound : Stage → Type 0
+IsSound (Tails x) = IsShown x.reply
+IsSound (Ended (Done reply) given) = IsGetReply reply
+IsSound (Ended outcome given) = ⊥
+IsSound (Late x (LateRead read_at clock)) = IsShown x.reply
+IsSound (Late x outcome) = ⊥
+IsSound stage = Unit {0}
 
 -- how many bytes were given
 abbrev pub given_by : Stage → ℕ

@@ -1,6 +1,5 @@
 -- What a task of a GET shows to its callers.
-use Rattle.std.specs.Prelude.{◌≡◌, ℕ, ◌≤◌, List, length, Option, Some, None}
-use Rattle.turn_cell.specs.declared.machine.DoorFault.{DoorFault}
+use Rattle.std.specs.Prelude.{◌≡◌, ℕ, ◌≤◌, List, [], length, Option, Some, None, IsSome}
 use Rattle.realm_model.specs.Settings.{SettingsView}
 use Rattle.realm_model.specs.Phases.{Phase}
 use Rattle.realm_model.specs.Accounts.{Account}
@@ -13,10 +12,10 @@ use Rattle.task_words.specs.declared.reply.MapReply.{MapReply}
 use Rattle.task_words.specs.declared.reply.MapReply.TheVariants.{Shown}
 use Rattle.task_get.specs.declared.request.GetRequest.{GetRequest}
 use Rattle.task_get.specs.declared.stage.Stage.{Stage}
-use Rattle.task_get.specs.declared.stage.Stage.TheVariants.{Tails, Ended, Late}
+use Rattle.task_get.specs.declared.stage.Stage.TheVariants.{Look, Tails, Ended, Late}
 use Rattle.task_get.specs.declared.task.GetTask.{GetTask}
 use Rattle.task_get.specs.Pieces.{piece_bytes, brought}
-use Rattle.task_get.specs.Stages.{given_by}
+use Rattle.task_get.specs.Stages.{IsSound, IsBehindRow, given_by}
 use Rattle.task_get.specs.Gets.{Means, FitsStage, LastBrings}
 
 -- what a door tells of its present actor
@@ -36,10 +35,6 @@ request_of t = t.request
 -- where it stands
 abbrev pub stage_of : GetTask → Stage
 stage_of t = t.stage
-
--- the fault with which a step stopped
-abbrev pub fault_of : GetTask → Option DoorFault
-fault_of t = t.fault
 
 -- the bytes of its last piece
 abbrev pub bytes_of : GetTask → List ℕ
@@ -67,6 +62,14 @@ shown_by stage = None
 -- the reply whose bytes the pieces are
 abbrev pub shown_of : GetTask → Option MapReply
 shown_of t = shown_by t.stage
+
+-- how an answer brings the task on, also where nothing is told: behind the first the row alone was read; and a sound stage stays
+-- sound, keeps the reply that it shows, and shows one where bytes come
+pub record Steps (t u : GetTask) : Type 0 where
+  pub looked : t.stage ≡ Look → IsBehindRow u.stage × (bytes_of u ≡ [])
+  pub sound : IsSound t.stage → IsSound u.stage
+  pub shown : IsSound t.stage → (reply : MapReply) → shown_of t ≡ Some reply → shown_of u ≡ Some reply
+  pub brings : IsSound t.stage → 1 ≤ length (bytes_of u) → IsSome (shown_of u)
 
 -- the zone is one of the realm's, and the task stands where the actor's own events bring it
 pub record Fits (t : GetTask) (settings : SettingsView) (d : DoorView) : Type 0 where

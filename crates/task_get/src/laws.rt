@@ -3,9 +3,8 @@ ghost use Rattle.std.specs.Prelude.{◌≡◌, ℕ, ◌++◌, ◌∷◌, List, [
 ghost use Rattle.rgw_types.specs.declared.stamp.Stamp.{Stamp as StampOf};
 ghost use Rattle.realm_model.specs.Settings.{SettingsView};
 ghost use Rattle.realm_model.specs.Accounts.{Decided};
-ghost use Rattle.realm_model.specs.Doors.{DoorView, actor_at};
-ghost use Rattle.realm_model.specs.Owns.{NoneBy, OwnEvent as OwnEventOf};
-ghost use Rattle.realm_model.specs.declared.event.Event.{Event as EventOf};
+ghost use Rattle.realm_model.specs.Doors.{DoorView};
+ghost use Rattle.realm_model.specs.Owns.{OwnEvent as OwnEventOf};
 ghost use Rattle.realm_door.specs.Turns.{MakesEvent};
 ghost use Rattle.task_words.specs.declared.outcome.Outcome.TheVariants.{Done};
 ghost use Rattle.task_words.specs.declared.reply.MapReply.{MapReply as MapReplyOf};
@@ -64,11 +63,4 @@ pub fn the_reply_is_shown_from_the_head_on()
         → Fits t settings d → events_at d ≡ own ∷ [] → brought (request_of t).get (events_at d) ≡ [] }
     ensures nothing { (settings : SettingsView) (t : GetTaskOf) (d : DoorView)
         → Fits t settings d → shown_of t ≡ None → brought (request_of t).get (events_at d) ≡ [] }
-{}
-
-/// A task stands where it did while others make events.
-pub fn others_leave_a_task_where_it_stands()
-    ensures { (settings : SettingsView) (t : GetTaskOf) (d : DoorView) (between : List EventOf)
-        → NoneBy (actor_at d) between → Fits t settings d
-        → Fits t settings (record d { seen = d.seen ++ between }) }
 {}

@@ -10,8 +10,7 @@ mod stage;
 mod task;
 
 pub use laws::{
-    others_leave_a_task_where_it_stands, pieces_are_the_bytes_shown, pieces_follow_one_another,
-    the_reply_is_shown_from_the_head_on,
+    pieces_are_the_bytes_shown, pieces_follow_one_another, the_reply_is_shown_from_the_head_on,
 };
 pub use request::GetRequest;
 pub use task::GetTask;

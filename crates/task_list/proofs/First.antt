@@ -6,15 +6,13 @@ use Rattle.realm_model.specs.Owns.{OwnEvent}
 use Rattle.realm_model.specs.declared.event.Reply.{Reply}
 use Rattle.realm_model.specs.declared.event.Reply.TheVariants.{Row}
 use Rattle.swift_auth.specs.declared.policy.Deed.TheVariants.{ListContainer}
-use Rattle.swift_auth.specs.declared.policy.Verdict.{Verdict}
-use Rattle.swift_auth.specs.declared.policy.Verdict.TheVariants.{Granted, Unknown, Denied as Denies}
 use Rattle.swift_auth.specs.Policies.{verdict_of, found_under}
 use Rattle.task_words.specs.declared.asker.Asker.{Asker}
 use Rattle.task_words.specs.declared.outcome.Outcome.TheVariants.{Done}
 use Rattle.task_words.specs.declared.reply.MapReply.TheVariants.{Listed}
 use Rattle.task_words.specs.declared.reply.Refusal.{Refusal}
-use Rattle.task_words.specs.declared.reply.Refusal.TheVariants.{Unauthorized, NoContainer, Denied}
-use Rattle.task_words.specs.Rows.{refusal_by, row_refusal}
+use Rattle.task_words.specs.Rows.{row_refusal}
+use Rattle.task_words.proofs.Refusals.{by_three}
 use Rattle.list_words.specs.declared.command.ListCommand.{ListCommand}
 use Rattle.task_list.specs.declared.request.ListRequest.{ListRequest}
 use Rattle.task_list.specs.declared.stage.Stage.{Stage}
@@ -24,14 +22,6 @@ use Rattle.task_list.specs.Listed.{asks_row, IsRefusal}
 use Rattle.task_list.specs.Stages.{IsRowShown}
 use Rattle.realm_model.specs.Shown.{row_shown}
 use Rattle.task_list.specs.Tasks.{IsPast, WentOn, AfterRow, Takes, stage_of}
-
--- a row refuses in three ways
-refusal_only : (v : Verdict) (found : Option Bucket) (refusal : Refusal) → refusal_by v found ≡ Some refusal → IsRefusal refusal
-refusal_only Unknown found refusal is = let e : Unauthorized ≡ refusal = cc in subst IsRefusal e tt
-refusal_only Granted None refusal is = let e : NoContainer ≡ refusal = cc in subst IsRefusal e tt
-refusal_only (Denies rule) None refusal is = let e : NoContainer ≡ refusal = cc in subst IsRefusal e tt
-refusal_only Granted (Some row) refusal is = let e : None ≡ Some refusal = is in absurd (cc)
-refusal_only (Denies rule) (Some row) refusal is = let e : Denied rule ≡ refusal = cc in subst IsRefusal e tt
 
 -- a listing that went on by a row is past it
 past_by : (c : ListCommand) (row : Bucket) (events : List OwnEvent) (stage : Stage) → WentOn 1 c row stage events → IsPast stage
@@ -44,7 +34,7 @@ past_by c row events stage on = absurd on
 module _ (c : ListCommand) (asker : Asker) where
   past_row : (refusal : Option Refusal) (row : Option Bucket) (stage : Stage) → row_refusal asker row ListContainer ≡ refusal → AfterRow c None refusal row stage → IsPast stage
   past_row (Some refusal) row stage is after =
-      subst IsPast (sym after) (refusal_only (verdict_of asker.user asker.account row ListContainer) (found_under asker.account row) refusal is)
+      subst IsPast (sym after) (by_three IsRefusal (verdict_of asker.user asker.account row ListContainer) (found_under asker.account row) refusal is tt (λ rule. tt) tt)
   past_row None None stage is after = absurd after
   past_row None (Some row) stage is after =
       let own : OwnEvent = record { op = asks_row 1 c; reply = Row row; number = 1; clock = 0 } in

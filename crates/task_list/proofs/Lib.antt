@@ -12,3 +12,4 @@ pub mod Staging
 pub mod Steps
 pub mod Telling
 pub mod Turning
+pub mod Waiting

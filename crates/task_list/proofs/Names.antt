@@ -15,9 +15,10 @@ use Rattle.object_words.specs.Shards.{Shard}
 use Rattle.object_words.specs.ShardCalls.{entries_after, page_of}
 use Rattle.object_words.proofs.KeyLemmas.{same_text}
 use Rattle.object_words.proofs.NameLemmas.{name_itself}
+use Rattle.realm_model.specs.Allowed.{page_limit}
 use Rattle.list_words.specs.Listings.{is_before}
 use Rattle.list_words.proofs.Texts.{before_itself, before_trans, before_upto, not_after}
-use Rattle.task_list.specs.Listed.{last_name, reaches, page_limit}
+use Rattle.task_list.specs.Listed.{last_name, reaches}
 use Rattle.task_list.specs.Stages.{IsPageAbove}
 
 pub truth : (b : Bool) → T b → b ≡ true

@@ -14,6 +14,7 @@ use Rattle.object_words.specs.Shards.{Shard}
 use Rattle.object_words.specs.ShardCalls.{page_of}
 use Rattle.object_words.proofs.KeyLemmas.{number_itself}
 use Rattle.rgw_types.specs.declared.pool_key.Key.{Key}
+use Rattle.realm_model.specs.Allowed.{page_limit}
 use Rattle.realm_model.specs.Settings.{SettingsView}
 use Rattle.realm_model.specs.Accounts.{Looked, MovedCount, Account, has_shard, looked_since, accounted}
 use Rattle.realm_model.specs.Tests.{is_so}
@@ -28,12 +29,11 @@ use Rattle.realm_model.specs.declared.op.Op.TheVariants.{Page as page_op}
 use Rattle.realm_model.specs.declared.event.Reply.{Reply}
 use Rattle.realm_model.specs.declared.event.Reply.TheVariants.{No, Row, Entries, Head as head_reply}
 use Rattle.swift_auth.specs.declared.policy.Deed.TheVariants.{ListContainer}
-use Rattle.swift_auth.specs.declared.policy.Verdict.{Verdict}
-use Rattle.swift_auth.specs.declared.policy.Verdict.TheVariants.{Granted, Unknown, Denied}
 use Rattle.swift_auth.specs.Policies.{found_under, verdict_of}
 use Rattle.task_words.specs.declared.reply.Refusal.{Refusal}
 use Rattle.task_words.specs.Outcomes.{most_moved}
-use Rattle.task_words.specs.Rows.{refusal_by, row_refusal}
+use Rattle.task_words.specs.Rows.{row_refusal}
+use Rattle.task_words.proofs.Refusals.{by_three}
 use Rattle.list_words.specs.declared.command.ListCommand.{ListCommand}
 use Rattle.task_words.specs.declared.outcome.Outcome.TheVariants.{Done, BodyFailed, Busy, MovedOften, RacedOften, LateTag, LateRead, NoSpace}
 use Rattle.task_words.specs.declared.reply.MapReply.TheVariants.{Stored, Shown, Same, Counted, Listed, Refused}
@@ -45,25 +45,12 @@ use Rattle.task_list.specs.declared.stage.Suggestion.{Suggestion}
 use Rattle.task_list.specs.declared.stage.Stage.{Stage}
 use Rattle.task_list.specs.declared.stage.Stage.TheVariants.{Look, Page, Head, Suggest, Broken, Ended}
 use Rattle.task_list.specs.Progresses.{settled_of, rows_in}
-use Rattle.task_list.specs.Listed.{page_limit, asks_row, asks_page, asks_head, is_of_listing, AreOfListing, AreInZone, IsUnsettled, AreUnsettled, IsRefusal}
+use Rattle.task_list.specs.Listed.{asks_row, asks_page, asks_head, is_of_listing, AreOfListing, AreInZone, IsUnsettled, AreUnsettled, IsRefusal}
 use Rattle.task_list.specs.Stages.{MergingFits, HeadFits, IsLater, IsPageAbove, IsPageEvent, IsHeadEvent}
 use Rattle.task_list.specs.Sightings.{asks_suggestion}
 use Rattle.task_list.specs.Tasks.{IsGoing, op_of, one_moved, after_left, KnownFits, WentOn, AfterRow, AfterSuggestion, Takes, Going, Heard, Looking, FitsAt}
 use Rattle.task_list.proofs.Growing.{grow_settled, grow_merging, grow_unsettled}
 use Rattle.task_list.proofs.Names.{page_is_above}
-
-some_is : {X : Type 0} {x y : X} → Some x ≡ Some y → x ≡ y
-some_is same = cc
-
--- ---- refusals by a row
-
--- a row refuses by one of three
-is_refusal : (v : Verdict) (found : Option Bucket) (refusal : Refusal) → refusal_by v found ≡ Some refusal → IsRefusal refusal
-is_refusal Unknown found refusal is = subst IsRefusal (some_is is) tt
-is_refusal Granted None refusal is = subst IsRefusal (some_is is) tt
-is_refusal (Denied rule) None refusal is = subst IsRefusal (some_is is) tt
-is_refusal Granted (Some row) refusal is = cc
-is_refusal (Denied rule) (Some row) refusal is = subst IsRefusal (some_is is) tt
 
 -- ---- pages as the step answers
 
@@ -195,7 +182,7 @@ module _ (r : ListRequest) (moved : ℕ) (y : Account) (events : List OwnEvent) 
     refused : (refusal : Refusal) → row_refusal r.asker row ListContainer ≡ Some refusal → Heard r (Ended (Done (Refused refusal))) (more row_op reply) → FitsAt r (Ended (Done (Refused refusal))) moved (after row_op reply) (more row_op reply) number
     refused refusal is heard = (
       (
-        is_refusal (verdict_of r.asker.user r.asker.account row ListContainer) (found_under r.asker.account row) refusal is,
+        by_three IsRefusal (verdict_of r.asker.user r.asker.account row ListContainer) (found_under r.asker.account row) refusal is tt (λ rule. tt) tt,
         record { look = record { zone = r.zone; name = (r.command).container; row = row; number = number }; is_last = looked; in_zone = refl; under_name = refl; refuses = is },
       ),
       record { untried = going.untried; unchanged = going.unchanged; heads = going.heads; reads = going.reads; inside = going.inside; repairs = heard.repairs },

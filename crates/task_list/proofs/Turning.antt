@@ -10,7 +10,7 @@ use Rattle.realm_model.specs.Settings.{SettingsView}
 use Rattle.realm_model.specs.States.{at_moment}
 use Rattle.realm_model.specs.Accounts.{Account, blank, accounted}
 use Rattle.realm_model.specs.Needs.{is_between}
-use Rattle.realm_model.specs.Allowed.{allowed, meets_need}
+use Rattle.realm_model.specs.Allowed.{allowed, meets_need, page_limit}
 use Rattle.realm_model.specs.Doors.{DoorView, actor_at}
 use Rattle.realm_model.specs.Histories.{Doings, phase_of, account_of, world_of, state_of, answer_after}
 use Rattle.realm_model.specs.Maps.{heads}
@@ -30,7 +30,6 @@ use Rattle.task_list.specs.declared.request.ListRequest.{ListRequest}
 use Rattle.task_list.specs.declared.task.ListTask.{ListTask}
 use Rattle.task_list.specs.declared.stage.Stage.{Stage}
 use Rattle.task_list.specs.declared.stage.Stage.TheVariants.{Look, Page, Head, Suggest, Broken, Ended}
-use Rattle.task_list.specs.Listed.{page_limit}
 use Rattle.task_list.specs.Repairs.{untold}
 use Rattle.task_list.specs.Sightings.{asks_suggestion}
 use Rattle.task_list.specs.Stages.{IsPageAbove}

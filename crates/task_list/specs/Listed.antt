@@ -13,6 +13,7 @@ use Rattle.object_words.specs.Keys.{is_shard_key, shard_key}
 use Rattle.object_words.specs.Names.{name_cmp}
 use Rattle.object_words.specs.Rows.{RowView}
 use Rattle.realm_model.specs.Accounts.{Looked, Account}
+use Rattle.realm_model.specs.Allowed.{page_limit}
 use Rattle.realm_model.specs.Ops.{zone_of}
 use Rattle.realm_model.specs.Owns.{OwnEvent}
 use Rattle.realm_model.specs.declared.op.Op.{Op}
@@ -34,10 +35,6 @@ use Rattle.task_list.specs.declared.request.ListRequest.{ListRequest}
 use Rattle.task_list.specs.Repairs.{IsRepaired}
 
 -- ---- operations
-
--- the most entries of a page
-abbrev pub page_limit : ℕ
-page_limit = 1000
 
 -- to read the row of the container
 abbrev pub asks_row : ℕ → ListCommand → Op

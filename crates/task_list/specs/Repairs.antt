@@ -18,7 +18,7 @@ use Rattle.realm_model.specs.Owns.{OwnEvent}
 use Rattle.realm_model.specs.declared.op.Op.{Op}
 use Rattle.realm_model.specs.declared.op.Op.TheVariants.{BucketRead, Page, Suggest, HeadRead}
 use Rattle.realm_model.specs.declared.event.Reply.{Reply}
-use Rattle.realm_model.specs.declared.event.Reply.TheVariants.{Entries, Head as head_reply}
+use Rattle.realm_model.specs.declared.event.Reply.TheVariants.{Head as head_reply}
 use Rattle.realm_model.specs.Shown.{row_shown, page_shown}
 
 -- ---- what answers show

@@ -1,7 +1,6 @@
 -- Where a task of a listing stands, and how an answer brings it on.
 use Rattle.std.specs.Prelude.{◌≡◌, ◌++◌, ℕ, ◌+◌, ◌-◌, ◌^◌, ◌<◌, ◌≤◌, nat_lt, min, Bool, true, false, List, [], ◌∷◌, length, Option, Some, None, if◌then◌else◌}
 use Rattle.std.specs.List.{All}
-use Rattle.turn_cell.specs.declared.machine.DoorFault.{DoorFault}
 use Rattle.object_words.specs.declared.bucket.Bucket.{Bucket}
 use Rattle.object_words.specs.declared.entry.EntryPage.{EntryPage}
 use Rattle.object_words.specs.declared.head.HeadSeen.{HeadSeen}
@@ -204,10 +203,6 @@ abbrev pub fits : ListTask → SettingsView → DoorView → Type 0
 fits t settings d =
     (1 ≤ t.request.zone) × (t.request.zone ≤ settings.zones)
     × FitsAt t.request t.stage t.moved (account_of settings d.seen (actor_at d)) (own_events d.seen (actor_at d)) (length d.seen)
-
--- the fault with which a step stopped
-abbrev pub fault_of : ListTask → Option DoorFault
-fault_of t = t.fault
 
 -- where the task stands
 abbrev pub stage_of : ListTask → Stage

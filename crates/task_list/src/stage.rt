@@ -4,7 +4,7 @@ ghost use Rattle.realm_model.specs.Owns.{OwnEvent};
 ghost use Rattle.task_words.specs.Rows.{row_refusal};
 ghost use Rattle.task_list.specs.Progresses.{settled_of, rows_in};
 ghost use Rattle.task_list.specs.Stages.{IsSettledTo, MergingFits};
-ghost use Rattle.task_list.specs.Tasks.{KnownFits, WentOn, AfterRow, AfterPage, AfterHead, AfterSuggestion, Takes, TakesTold, head_shown, after_left};
+ghost use Rattle.task_list.specs.Tasks.{IsGoing, KnownFits, WentOn, AfterRow, AfterPage, AfterHead, AfterSuggestion, Takes, TakesTold, head_shown, after_left};
 ghost use Rattle.task_list.specs.Repairs.{may_stand};
 ghost use Rattle.task_list.specs.Sightings.{RowTold, PageTold, HeadTold, OnTold, suggestion_due, asks_suggestion};
 ghost use Rattle.object_words.specs.Heads.{row_of};
@@ -18,10 +18,7 @@ use object_words::{Bucket, EntryPage, EntryRow, HeadSeen, ObjectName, SeenSlot, 
 use realm_model::{Op, Reply};
 use std::alloc::{AllocError, Global};
 use swift_auth::Deed;
-use task_words::{MapReply, Outcome};
-
-/// So many answers Moved or Closed end a task.
-const MOST_MOVED: u32 = 16;
+use task_words::{MOST_MOVED, MapReply, Outcome};
 
 /// A realm has at most so many zones.
 const MOST_ZONES: u8 = 8;
@@ -96,6 +93,7 @@ pub fn next_stage(
     moved: u32,
     reply: Reply,
 ) -> Result<(Stage, u32), AllocError>
+    requires going { IsGoing stage }
     ensures fits { IfOk result (λ s. Takes request.now stage moved reply s.0 s.1) }
     ensures told { IfOk result (λ s. TakesTold stage reply s.0) }
 {
@@ -124,10 +122,7 @@ pub fn next_stage(
             let stage = went_on(alloc, &request.command, merging)?;
             Ok((stage, moved))
         }
-        stage => {
-            drop(reply);
-            Ok((stage, moved))
-        }
+        Stage::Broken | Stage::Ended(_) => unreachable!(),
     }
 }
 

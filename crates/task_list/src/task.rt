@@ -1,41 +1,35 @@
-ghost use Rattle.std.specs.Prelude.{◌≡◌, ◌⊎◌, IfOk, OnOk, None, option_copied};
+ghost use Rattle.std.specs.Prelude.{◌≡◌, ◌⊎◌, None, option_copied};
 ghost use Rattle.realm_door.specs.Turns.{FitsAtFirst};
 ghost use Rattle.task_list.specs.declared.stage.Stage.TheVariants.{Broken as broken, Look as looking};
-ghost use Rattle.task_list.specs.Tasks.{IsOver, is_broken, refused_in, IsGoing, Takes, TakesTold, op_of, request_of, stage_of, fault_of, fits};
+ghost use Rattle.task_list.specs.Tasks.{IsOver, is_broken, refused_in, IsGoing, Takes, TakesTold, request_of, stage_of, fits};
 
 use crate::request::ListRequest;
 use crate::stage::{Stage, next_stage};
 use object_words::ShardKey;
-use realm_door::{Door, EventTask, Task, TaskTurn};
+use realm_door::{Answered, Next, Staged, Taken};
 use realm_model::{Op, Reply};
 use rgw_types::Text;
 use std::alloc::{AllocError, Global};
 use std::mem::replace;
-use task_words::{MapReply, Outcome};
-use turn_cell::DoorFault;
-
-/// The most entries of a page.
-const PAGE_LIMIT: u32 = 1000;
+use task_words::{MapReply, Outcome, PAGE_LIMIT};
 
 /// A request for a listing: the row is read, then a page of each shard by its number, and then, by rising
 /// name, the head of each name that a change is under way of, behind it a suggestion where the entry had a
-/// tag due at its page, and the next page of each shard whose page is used up. Where a shard no longer serves, the row is read again, and the pages of all shards above
-/// the last name that was settled.
+/// tag due at its page, and the next page of each shard whose page is used up. Where a shard no longer serves, the row
+/// is read again, and the pages of all shards above the last name that was settled.
 #[derive(Drop)]
 pub struct ListTask {
     request: ListRequest,
     stage: Stage,
     /// How many answers were Moved or Closed.
     moved: u32,
-    fault: Option<DoorFault>,
 }
 
 impl ListTask {
-    /// A task that made no event.
+    /// Stages of a task that made no event.
     pub fn new(request: ListRequest) -> ListTask
         ensures request { request_of result ≡ request }
         ensures fits { FitsAtFirst request.zone (fits result) }
-        ensures sound { fault_of result ≡ None }
         ensures open { IsOver (stage_of result) → ⊥ }
         ensures looks { stage_of result ≡ looking None }
     {
@@ -43,7 +37,6 @@ impl ListTask {
             request,
             stage: Stage::Look(None),
             moved: 0,
-            fault: None,
         }
     }
 
@@ -67,43 +60,10 @@ impl ListTask {
         }
     }
 
-    /// The operation that comes next; none where there was no memory to go on.
-    fn next_op(&self) -> Result<Op, AllocError>
-        requires { IsOver self.now.stage → ⊥ }
-        ensures op { IfOk result (λ op. op ≡ op_of self.now.request self.now.stage) }
-        ensures going { OnOk result (IsGoing self.now.stage) }
-    {
-        let zone = self.request.zone;
-        match &self.stage {
-            Stage::Page(merging, next) => Ok(Op::Page {
-                zone,
-                key: ShardKey {
-                    container: merging.row.id,
-                    instance: merging.row.instance,
-                    shard: next.shard,
-                },
-                after: next.after.clone()?,
-                limit: PAGE_LIMIT,
-            }),
-            Stage::Head(merging, wanted) => Ok(Op::HeadRead {
-                zone,
-                container: merging.row.id,
-                name: wanted.name.clone()?,
-            }),
-            Stage::Suggest(merging, suggestion) => suggestion.op(zone, &merging.row),
-            Stage::Look(_) => Ok(Op::BucketRead {
-                zone,
-                name: self.request.command.container.clone()?,
-            }),
-            Stage::Broken => Err(AllocError),
-            Stage::Ended(_) => unreachable!(),
-        }
-    }
-
-    /// Goes on by the answer to that operation.
-    fn take(&mut self, alloc: Global, reply: Reply)
+    /// Goes on by the answer to the operation that came next.
+    fn go_on(&mut self, alloc: Global, reply: Reply)
+        requires going { IsGoing self.old.stage }
         ensures request { self.new.request ≡ self.old.request }
-        ensures fault { self.new.fault ≡ self.old.fault }
         ensures taken { (self.new.stage ≡ broken)
             ⊎ Takes self.old.request self.old.stage self.old.moved reply self.new.stage self.new.moved }
         ensures told { (self.new.stage ≡ broken) ⊎ TakesTold self.old.stage reply self.new.stage }
@@ -116,9 +76,10 @@ impl ListTask {
     }
 }
 
-impl Task for ListTask {
-    ghost use Rattle.std.specs.Prelude.{[], None};
-    ghost use Rattle.task_list.specs.Tasks.{IsOver, stage_of, request_of, fault_of, fits};
+impl Staged for ListTask {
+    ghost use Rattle.std.specs.Prelude.{◌≡◌, None};
+    ghost use Rattle.task_list.specs.declared.stage.Stage.TheVariants.{Look};
+    ghost use Rattle.task_list.specs.Tasks.{IsOver, IsPast, IsGoing, op_of, stage_of, request_of, fits};
     ghost use Rattle.task_list.specs.Listed.{IsListOutcome};
     ghost use Rattle.realm_model.specs.Histories.{account_of};
     ghost use Rattle.realm_model.specs.Owns.{own_events};
@@ -128,6 +89,8 @@ impl Task for ListTask {
 
     type Outcome = Outcome;
 
+    type Rest = ();
+
     ghost command = { request_of };
 
     ghost fits = { fits };
@@ -135,73 +98,69 @@ impl Task for ListTask {
     ghost means = { λ request outcome settings d. IsListOutcome request outcome
         (account_of settings d.seen (actor_at d)) (own_events d.seen (actor_at d)) };
 
-    ghost is_ended = { λ t. IsOver (stage_of t) × (fault_of t ≡ None) };
-
-    ghost fault = { fault_of };
-
-    ghost piece = { λ t. [] };
-
-    ghost given = { λ t. 0 };
-
-    ghost wants = { λ t. ⊥ };
-
-    #[tactic(auto, using(crate::proofs::Turning::is_open))]
-    fn turn<D: Door>(
-        &mut self,
-        alloc: Global,
-        door: &mut D,
-        moment: u64,
-    ) -> Result<TaskTurn, DoorFault> {
-        if let Some(fault) = self.fault {
-            return Err(fault);
-        }
-        if let Stage::Ended(_) = &self.stage {
-            return Ok(TaskTurn::Done);
-        }
-        self.event(alloc, door, moment)?;
-        Ok(TaskTurn::More)
-    }
-
-    fn outcome(&self) -> Option<&Outcome> {
-        match (&self.stage, self.fault) {
-            (Stage::Ended(outcome), None) => Some(outcome),
-            _ => None,
-        }
-    }
-}
-
-impl EventTask for ListTask {
-    ghost use Rattle.std.specs.Prelude.{◌≡◌, None};
-    ghost use Rattle.task_list.specs.declared.stage.Stage.TheVariants.{Look};
-    ghost use Rattle.task_list.specs.Tasks.{IsOver, IsPast, stage_of};
+    ghost is_over = { λ t. IsOver (stage_of t) };
 
     ghost is_ready = { λ t. IsOver (stage_of t) → ⊥ };
 
+    ghost op = { λ t. op_of (request_of t) (stage_of t) };
+
+    ghost is_taken = { λ t u rest. (u ≡ t) × IsGoing (stage_of t) };
+
     ghost steps = { λ t u. stage_of t ≡ Look None → IsPast (stage_of u) };
 
-    #[tactic(auto, using(crate::proofs::Turning::fits_next, crate::proofs::Turning::may_step))]
-    fn event<D: Door>(
-        &mut self,
-        alloc: Global,
-        door: &mut D,
-        moment: u64,
-    ) -> Result<(), DoorFault> {
-        let Ok(op) = self.next_op() else {
-            self.fault = Some(DoorFault::OutOfMemory);
-            return Err(DoorFault::OutOfMemory);
-        };
-        match door.step(alloc, op, moment) {
-            Ok(answered) => {
-                drop(answered.back);
-                self.take(alloc, answered.reply);
-                Ok(())
-            }
-            Err(stopped) => {
-                let fault = stopped.fault;
-                drop(stopped);
-                self.fault = Some(fault);
-                Err(fault)
-            }
+    #[tactic(auto, using(crate::proofs::Turning::is_open))]
+    fn settle(&mut self) -> Next {
+        match &self.stage {
+            Stage::Ended(_) => Next::Done,
+            _ => Next::Event,
         }
     }
+
+    fn end(&self) -> Option<&Outcome> {
+        match &self.stage {
+            Stage::Ended(outcome) => Some(outcome),
+            _ => None,
+        }
+    }
+
+    fn piece(&self) -> &[u8] {
+        &[]
+    }
+
+    #[tactic(auto, using(crate::proofs::Turning::may_step))]
+    fn split(&mut self, _alloc: Global) -> Result<Taken<()>, AllocError> {
+        let zone = self.request.zone;
+        let op = match &self.stage {
+            Stage::Look(_) => Op::BucketRead {
+                zone,
+                name: self.request.command.container.clone()?,
+            },
+            Stage::Page(merging, next) => Op::Page {
+                zone,
+                key: ShardKey {
+                    container: merging.row.id,
+                    instance: merging.row.instance,
+                    shard: next.shard,
+                },
+                after: next.after.clone()?,
+                limit: PAGE_LIMIT,
+            },
+            Stage::Head(merging, wanted) => Op::HeadRead {
+                zone,
+                container: merging.row.id,
+                name: wanted.name.clone()?,
+            },
+            Stage::Suggest(merging, suggestion) => suggestion.op(zone, &merging.row)?,
+            Stage::Broken => return Err(AllocError),
+            Stage::Ended(_) => unreachable!(),
+        };
+        Ok(Taken { op, rest: () })
+    }
+
+    fn take(&mut self, alloc: Global, _rest: (), answered: Answered) {
+        drop(answered.back);
+        self.go_on(alloc, answered.reply);
+    }
+
+    fn waits() {}
 }

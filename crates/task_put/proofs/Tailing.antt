@@ -1,5 +1,5 @@
 -- A PUT after its tails, and at the end of its body.
-use Rattle.std.proofs.Common.{◌≡◌, ℕ, zero, suc, ◌+◌, ◌*◌, ◌==◌, ◌<◌, ◌≤◌, inr, ◌&&◌, ◌||◌, not, Bool, true, false, cond, List, [], ◌∷◌, map, length, Option, Some, None, refl, sym, ◌∙◌, ap, subst, arith, nat_le}
+use Rattle.std.proofs.Common.{◌≡◌, ℕ, zero, suc, ◌+◌, ◌*◌, ◌==◌, ◌<◌, ◌≤◌, ◌⊎◌, inl, inr, ◌&&◌, ◌||◌, not, Bool, true, false, cond, List, [], ◌∷◌, map, length, Option, Some, None, refl, sym, ◌∙◌, ap, subst, arith, nat_le}
 use Rattle.std.specs.List.{range_with_len}
 use Rattle.std.proofs.lemmas.Bool.Decides.{nat_tests}
 use Rattle.std.proofs.lemmas.List.{length-take, length-drop, length-map, map-append}
@@ -19,8 +19,8 @@ use Rattle.object_words.proofs.KeyLemmas.{number_itself}
 use Rattle.realm_model.specs.Settings.{SettingsView}
 use Rattle.realm_model.specs.Learnt.{first_after, put_bundle, with_part}
 use Rattle.realm_model.specs.Maps.{Maps}
-use Rattle.realm_model.specs.Needs.{is_between, is_first, is_own_write, is_next_part}
-use Rattle.realm_model.specs.Phases.{unused, opened, Phase}
+use Rattle.realm_model.specs.Needs.{is_between, is_first, is_own_write, is_next_part, has_parts}
+use Rattle.realm_model.specs.Phases.{Bundle, unused, opened, Phase}
 use Rattle.realm_model.specs.Tests.{is_so}
 use Rattle.realm_model.specs.declared.op.Op.{Op}
 use Rattle.realm_model.specs.declared.op.Op.TheVariants.{TailMake}
@@ -28,18 +28,27 @@ use Rattle.realm_model.specs.declared.event.Reply.{Reply}
 use Rattle.realm_model.specs.declared.event.Reply.TheVariants.{Done, No}
 use Rattle.task_words.specs.Outcomes.{Granted}
 use Rattle.swift_auth.specs.declared.policy.Deed.TheVariants.{ChangeThing}
-use Rattle.task_put.specs.Bodies.{hand_of, has_tail, without_tail, is_whole}
+use Rattle.task_put.specs.Bodies.{hand_of, has_tail, is_whole}
 use Rattle.task_words.specs.Cuts.{first_bytes, tail_bytes}
 use Rattle.task_put.specs.declared.stage.PutRequest.{PutRequest}
 use Rattle.task_put.specs.declared.stage.Draft.{Draft}
-use Rattle.task_put.specs.declared.stage.Tried.{Tried}
-use Rattle.task_put.specs.declared.stage.Stage.{Stage}
-use Rattle.task_put.specs.declared.stage.Stage.TheVariants.{Looking, Feeding, LookingAgain, Preparing, Announcing, Writing, Cancelling, Completing, LookingForShard, Ended}
-use Rattle.task_put.specs.Stages.{step_of, content_of, taken, closed, settled}
-use Rattle.task_put.specs.Fits.{target_of, Known, known_next, Trying, AtRow, bundle_of, InTails, IsDraft, IsContent, IsTagFree, FitsAt, MayCome, IsKept}
-use Rattle.task_put.proofs.Counting.{left_same}
+use Rattle.task_put.specs.declared.stage.Stage.TheVariants.{Feeding, Changing, Ended}
+use Rattle.index_update.specs.Fits.{Known, known_next, Start, AtRow, IsTagFree}
+use Rattle.task_put.specs.Taking.{at_target}
+use Rattle.task_put.specs.Stages.{step_of, head_of, update_of, draft_rest, taken, closed}
+use Rattle.task_put.specs.Fits.{target_of, Untried, bundle_of, InTails, IsDraft, IsContent, FitsAt, MayCome, IsKept}
+use Rattle.index_update.proofs.Counting.{left_same}
 use Rattle.task_put.proofs.Cutting.{tails_counted, taken_out}
-use Rattle.task_put.proofs.Looking.{in_realm}
+use Rattle.task_put.proofs.Showing.{parts_allowed}
+use Rattle.task_put.specs.Orders.{Path, begun, feeding, updating, finished, astray, path_of}
+use Rattle.task_put.specs.Fits.{IsAt, IsInOrder}
+use Rattle.object_words.specs.declared.head.Conditions.{Conditions}
+use Rattle.object_words.specs.declared.head.NewHead.{NewHead}
+use Rattle.index_update.specs.declared.head_change.HeadChange.{HeadChange}
+use Rattle.index_update.specs.declared.head_change.HeadChange.TheVariants.{Write}
+use Rattle.index_update.specs.Paths.{ready}
+use Rattle.index_update.proofs.Beginning.{preparing_begins}
+use Rattle.index_update.proofs.Looking.{in_realm}
 
 -- ---- the tail that waits
 
@@ -127,22 +136,25 @@ both a b one two = rw (one, two) refl
 left : (a b : Bool) → a ≡ true → (a || b) ≡ true
 left a b one = rw one refl
 
-module _ (settings : SettingsView) (r : PutRequest) (x : Tried) (write : ℕ) (key : Key) (draft : Draft) (k : Known) (f : FitsAt settings r x (Feeding write key draft) k) (waits : has_tail draft.body ≡ true) where
+module _ (settings : SettingsView) (r : PutRequest) (write : ℕ) (key : Key) (given : Draft) (k : Known) (f : FitsAt settings r (Feeding write key (at_target r given)) k) (waits : has_tail given.body ≡ true) where
+  abbrev filled : Draft
+  filled = at_target r given
+
   abbrev stripe : ℕ
-  stripe = draft.body.stripe
+  stripe = filled.body.stripe
 
   abbrev tails : ℕ
-  tails = draft.body.tails
+  tails = filled.body.tails
 
   abbrev tail : List ℕ
-  tail = tail_bytes stripe draft.body.bytes (tails + 1)
+  tail = tail_bytes stripe filled.body.bytes (tails + 1)
 
-  hand_some : 1 ≤ length (hand_of draft.body)
-  hand_some = some_bytes (length (hand_of draft.body)) stripe (is_whole draft.body.end) f.0.low waits
+  hand_some : 1 ≤ length (hand_of filled.body)
+  hand_some = some_bytes (length (hand_of filled.body)) stripe (is_whole filled.body.end) f.0.low waits
 
   tail_fits : is_between 1 settings.stripe (length tail) ≡ true
   tail_fits =
-      let taken = length-take stripe (hand_of draft.body) in
+      let taken = length-take stripe (hand_of filled.body) in
       let some = hand_some in
       let low = f.0.low in
       let is : stripe ≡ settings.stripe = f.0.stripe in
@@ -152,7 +164,7 @@ module _ (settings : SettingsView) (r : PutRequest) (x : Tried) (write : ℕ) (k
       let b : nat_le (length tail) settings.stripe ≡ true = grind (arith, nat_tests, most) in
       both (nat_le 1 (length tail)) (nat_le (length tail) settings.stripe) a b
 
-  pub feeding_may : 1 ≤ r.zone → r.zone ≤ settings.zones → MayCome settings r (Feeding write key draft) k
+  pub feeding_may : 1 ≤ r.zone → r.zone ≤ settings.zones → MayCome settings (Feeding write key filled) k
   feeding_may low high =
       let t = f.4 in
       let p : Phase = k.phase in
@@ -173,16 +185,16 @@ module _ (settings : SettingsView) (r : PutRequest) (x : Tried) (write : ℕ) (k
     now reply = known_next k maps made_op reply number clock
 
     abbrev rest : Draft
-    rest = record { body = without_tail draft.body; kind = draft.kind; meta = draft.meta; etag = draft.etag; when = draft.when }
+    rest = draft_rest filled
 
-    behind : stripe * (tails + 1) < length draft.body.bytes
-    behind = let dropped = length-drop (stripe * (tails + 1)) draft.body.bytes in let some = hand_some in omega (arith, dropped, some)
+    behind : stripe * (tails + 1) < length filled.body.bytes
+    behind = let dropped = length-drop (stripe * (tails + 1)) filled.body.bytes in let some = hand_some in omega (arith, dropped, some)
 
-    full : draft.body.end ≡ None → stripe * (tails + 1 + 1) ≤ length draft.body.bytes
+    full : filled.body.end ≡ None → stripe * (tails + 1 + 1) ≤ length filled.body.bytes
     full unended =
-        let here : (length (hand_of draft.body) == stripe || (false && not (length (hand_of draft.body) == 0))) ≡ true = subst (λ e. (length (hand_of draft.body) == stripe || (is_whole e && not (length (hand_of draft.body) == 0))) ≡ true) unended waits in
-        let whole = full_bytes (length (hand_of draft.body)) stripe here in
-        let dropped = length-drop (stripe * (tails + 1)) draft.body.bytes in
+        let here : (length (hand_of filled.body) == stripe || (false && not (length (hand_of filled.body) == 0))) ≡ true = subst (λ e. (length (hand_of filled.body) == stripe || (is_whole e && not (length (hand_of filled.body) == 0))) ≡ true) unended waits in
+        let whole = full_bytes (length (hand_of filled.body)) stripe here in
+        let dropped = length-drop (stripe * (tails + 1)) filled.body.bytes in
         let further : stripe * (tails + 1 + 1) ≡ stripe * (tails + 1) + stripe = omega arith in
         let low = f.0.low in
         omega (arith, whole, dropped, further, low)
@@ -192,6 +204,7 @@ module _ (settings : SettingsView) (r : PutRequest) (x : Tried) (write : ℕ) (k
         let d = f.0 in
         record {
           cut = record { needed = inr behind; paced = λ unended. inr (full unended) };
+          target = refl;
           bytes = d.bytes;
           end = d.end;
           low = d.low;
@@ -202,21 +215,19 @@ module _ (settings : SettingsView) (r : PutRequest) (x : Tried) (write : ℕ) (k
           when = d.when;
         }
 
-    trying_on : Trying x (now Done)
-    trying_on =
+    untried_on : Untried (now Done)
+    untried_on =
         let t = f.1 in
         record {
           moved = t.moved;
-          left = left_same k.events (record { op = made_op; reply = Done; number = number; clock = clock }) x.moved t.left refl;
-          few = t.few;
+          left = left_same k.events (record { op = made_op; reply = Done; number = number; clock = clock }) 0 t.left refl;
           moved_before = (let was = t.moved_before in omega (arith, was, before));
           expired = t.expired;
-          few_expired = t.few_expired;
           undecided = t.undecided;
           unchanged = t.unchanged;
         }
 
-    at_row_still : AtRow r key (now Done)
+    at_row_still : AtRow (target_of r) key (now Done)
     at_row_still =
         let a = f.2 in
         record {
@@ -257,10 +268,10 @@ module _ (settings : SettingsView) (r : PutRequest) (x : Tried) (write : ℕ) (k
           made = made_here;
         }
 
-    tail_made : FitsAt settings r x (Feeding write key rest) (now Done)
-    tail_made = (rest_drafted, trying_on, at_row_still, f.3, in_more_tails)
+    tail_made : FitsAt settings r (Feeding write key rest) (now Done)
+    tail_made = (rest_drafted, untried_on, at_row_still, f.3, in_more_tails)
 
-    no_room : (free needed : ℕ) → FitsAt settings r x (step_of (target_of r) x (Feeding write key draft) number (No (no_space free needed))) (now (No (no_space free needed)))
+    no_room : (free needed : ℕ) → FitsAt settings r (step_of (Feeding write key filled) number (No (no_space free needed))) (now (No (no_space free needed)))
     no_room free needed =
         let a = f.2 in
         let t = f.1 in (
@@ -271,14 +282,38 @@ module _ (settings : SettingsView) (r : PutRequest) (x : Tried) (write : ℕ) (k
           record { want = record { number = number; free = free; needed = needed }; is_last = refl; found = refl; wanted = refl },
         )
 
-  pub feeding_kept : (reply : Reply) → IsKept settings r x (Feeding write key draft) k reply
+  pub feeding_kept : (reply : Reply) → IsKept settings r (Feeding write key filled) k reply
   feeding_kept Done maps number clock before suits answers = tail_made maps number clock before
   feeding_kept (No (no_space free needed)) maps number clock before suits answers = no_room maps number clock before free needed
   feeding_kept reply maps number clock before suits answers = absurd suits
 
 -- ---- the body's end
 
-module _ (settings : SettingsView) (r : PutRequest) (x : Tried) (write : ℕ) (key : Key) (draft : Draft) (k : Known) (f : FitsAt settings r x (Feeding write key draft) k) (none : has_tail draft.body ≡ false) where
+-- the path of a PUT that takes bytes
+pub at_feeding : (write : ℕ) (key : Key) (draft : Draft) (path : Path) → IsAt (Feeding write key draft) path → path ≡ feeding
+at_feeding write key draft feeding is = refl
+at_feeding write key draft begun is = absurd is
+at_feeding write key draft (updating path) is = absurd is
+at_feeding write key draft finished is = absurd is
+at_feeding write key draft astray is = absurd is
+
+-- the tails of the head are all that were made
+parts_of : (r : PutRequest) (new : NewHead) (when : Conditions) (k : Known) → IsContent r new when k → has_parts k.phase r.zone new ≡ true
+parts_of r new when k is =
+    let m = new.manifest in
+    let t : ℕ = tails_of m in
+    let own : Bundle = k.phase.stripes.own r.zone m.write m.write in
+    let all : Bundle = opened (map length (map (tail_bytes m.stripe r.bytes) (range_with_len 1 t))) in
+    parts_allowed k.phase r.zone new r.bytes is.head
+    (elim (t == 0) as (λ b. (t == 0) ≡ b → own ≡ cond b unused all → (t ≡ 0) ⊎ (own ≡ all)) [
+      | true ↦ λ none made. inl (grind (arith, nat_tests, none))
+      | false ↦ λ some made. inr made
+    ] refl is.tails.own)
+
+module _ (settings : SettingsView) (r : PutRequest) (write : ℕ) (key : Key) (given : Draft) (k : Known) (low : 1 ≤ r.zone) (high : r.zone ≤ settings.zones) (in_order : IsInOrder settings r (Feeding write key (at_target r given)) k.events) (f : FitsAt settings r (Feeding write key (at_target r given)) k) (none : has_tail given.body ≡ false) where
+  abbrev came : Draft
+  came = at_target r given
+
   granted : Granted r.zone r.asker r.command.container ChangeThing k.account
   granted =
       let a = f.2 in
@@ -287,67 +322,78 @@ module _ (settings : SettingsView) (r : PutRequest) (x : Tried) (write : ℕ) (k
         unchanged = f.1.unchanged;
       }
 
-  module _ (is : draft.body.end ≡ Some ends.Whole) where
+  module _ (is : came.body.end ≡ Some ends.Whole) where
     whole : r.end ≡ Some ends.Whole
     whole = sym f.0.end ∙ is
 
-    nothing_left : (n : ℕ) → (n == draft.body.stripe || (true && not (n == 0))) ≡ false → n ≡ 0
+    nothing_left : (n : ℕ) → (n == came.body.stripe || (true && not (n == 0))) ≡ false → n ≡ 0
     nothing_left n other = grind (arith, nat_tests, other)
 
-    counted : tails_of (content_of write draft).new.manifest ≡ draft.body.tails
+    counted : tails_of (head_of write came).manifest ≡ came.body.tails
     counted =
-        let other : (length (hand_of draft.body) == draft.body.stripe || (true && not (length (hand_of draft.body) == 0))) ≡ false = subst (λ e. (length (hand_of draft.body) == draft.body.stripe || (is_whole e && not (length (hand_of draft.body) == 0))) ≡ false) is none in
-        let empty = nothing_left (length (hand_of draft.body)) other in
-        tails_counted draft.body.stripe draft.body.tails (length draft.body.bytes) f.0.low (taken_out draft.body.stripe draft.body.tails draft.body.bytes empty) f.0.cut.needed
+        let other : (length (hand_of came.body) == came.body.stripe || (true && not (length (hand_of came.body) == 0))) ≡ false = subst (λ e. (length (hand_of came.body) == came.body.stripe || (is_whole e && not (length (hand_of came.body) == 0))) ≡ false) is none in
+        let empty = nothing_left (length (hand_of came.body)) other in
+        tails_counted came.body.stripe came.body.tails (length came.body.bytes) f.0.low (taken_out came.body.stripe came.body.tails came.body.bytes empty) f.0.cut.needed
 
-    content : is_other_etag draft.etag draft.body.bytes ≡ false → IsContent r (content_of write draft) k
+    content : is_other_etag came.etag came.body.bytes ≡ false → IsContent r (head_of write came) came.when k
     content right =
         let d = f.0 in
         record {
           head = record {
             some = (let low = d.low in omega (arith, low));
-            first = ap (first_bytes draft.body.stripe) d.bytes;
+            first = ap (first_bytes came.body.stripe) d.bytes;
             size = ap length (sym d.bytes);
           };
           sent = record { kind = d.kind; meta = d.meta; etag = ap md5 d.bytes };
           when = d.when;
           is_taken = record {
             whole = whole;
-            right = subst (λ e. is_other_etag e r.bytes ≡ false) d.etag (subst (λ bs. is_other_etag draft.etag bs ≡ false) d.bytes right);
+            right = subst (λ e. is_other_etag e r.bytes ≡ false) d.etag (subst (λ bs. is_other_etag came.etag bs ≡ false) d.bytes right);
           };
-          tails = subst (λ n. InTails r.zone write draft.body.stripe n r.bytes k) (sym counted) f.4;
+          tails = subst (λ n. InTails r.zone write came.body.stripe n r.bytes k) (sym counted) f.4;
         }
 
-    taken_fits : FitsAt settings r x (taken write key draft) k
+    begins : is_other_etag came.etag came.body.bytes ≡ false → FitsAt settings r (Changing (md5 came.body.bytes) (update_of write key came)) k
+    begins right =
+        let change : HeadChange = Write (head_of write came) came.when in
+        let s : Start = record { change = change; from = ready; known = k } in
+        let c = content right in (
+          s,
+          record {
+            new = head_of write came;
+            when = came.when;
+            change = refl;
+            target = refl;
+            etag_is = refl;
+            from = refl;
+            content = c;
+            untried = f.1;
+            order = at_feeding write key came (path_of k.events) in_order.0;
+            stripe = f.0.stripe;
+            cut = in_order.1.cut;
+            unchanged = in_order.1.made.1;
+          },
+          preparing_begins settings k (target_of r) change key (record {
+            low = low;
+            high = high;
+            free = subst IsTagFree (sym f.3) tt;
+            needs = parts_of r (head_of write came) came.when k c;
+            moved = f.1.moved_before;
+          }) f.2,
+        )
+
+    taken_fits : FitsAt settings r (taken write key came) k
     taken_fits =
-        let d = f.0 in
-        elim (is_other_etag draft.etag draft.body.bytes) as (λ b. is_other_etag draft.etag draft.body.bytes ≡ b → FitsAt settings r x (cond b (Ended (outcomes.Done (Refused OtherEtag))) (Preparing key (content_of write draft))) k) [
+        elim (is_other_etag came.etag came.body.bytes) as (λ b. is_other_etag came.etag came.body.bytes ≡ b → FitsAt settings r (cond b (Ended (outcomes.Done (Refused OtherEtag))) (Changing (md5 came.body.bytes) (update_of write key came))) k) [
           | true ↦ λ other. (
-            record { whole = whole; wrong = subst (λ e. is_other_etag e r.bytes ≡ true) d.etag (subst (λ bs. is_other_etag draft.etag bs ≡ true) d.bytes other) },
+            record { whole = whole; wrong = subst (λ e. is_other_etag e r.bytes ≡ true) f.0.etag (subst (λ bs. is_other_etag came.etag bs ≡ true) f.0.bytes other) },
             granted,
             f.1.undecided,
           )
-          | false ↦ λ right. (f.1, f.2, content right, subst IsTagFree (sym f.3) tt)
+          | false ↦ λ right. begins right
         ] refl
 
-  closed_fits : (end : Option BodyEnd) → draft.body.end ≡ end → FitsAt settings r x (closed write key draft end) k
+  pub closed_fits : (end : Option BodyEnd) → came.body.end ≡ end → FitsAt settings r (closed write key came end) k
   closed_fits None is = f
   closed_fits (Some ends.Failed) is = (sym f.0.end ∙ is, granted, f.1.undecided)
   closed_fits (Some ends.Whole) is = taken_fits is
-
--- the body's end leaves a PUT where its events brought it
-pub settled_fits : (settings : SettingsView) (r : PutRequest) (x : Tried) (stage : Stage) (k : Known) → FitsAt settings r x stage k → FitsAt settings r x (settled stage) k
-settled_fits settings r x (Feeding write key draft) k f =
-    elim (has_tail draft.body) as (λ b. has_tail draft.body ≡ b → FitsAt settings r x (cond b (Feeding write key draft) (closed write key draft draft.body.end)) k) [
-      | true ↦ λ waits. f
-      | false ↦ λ none. closed_fits settings r x write key draft k f none draft.body.end refl
-    ] refl
-settled_fits settings r x (Looking draft) k f = f
-settled_fits settings r x (LookingAgain c) k f = f
-settled_fits settings r x (Preparing key c) k f = f
-settled_fits settings r x (Announcing key guard c) k f = f
-settled_fits settings r x (Writing key guard c) k f = f
-settled_fits settings r x (Cancelling key tag a) k f = f
-settled_fits settings r x (Completing key change) k f = f
-settled_fits settings r x (LookingForShard change) k f = f
-settled_fits settings r x (Ended outcome) k f = f

@@ -4,34 +4,22 @@
 
 mod advancing;
 mod body;
-mod changing;
 mod closing;
 mod etag;
 mod keeping;
 mod laws;
 mod splitting;
 mod stage;
+mod staged;
 mod task;
-mod turning;
 
 pub use body::{Progress, PutBody};
-pub use changing::{
-    a_put_may_go_on, answers_are_of_the_map, changes_keep_where_a_put_stands,
-    completions_keep_where_a_put_stands, tags_keep_where_a_put_stands,
-};
-pub use closing::Next;
 pub use etag::has_other_etag;
 pub use keeping::{
     bodies_keep_where_a_put_stands, others_keep_where_a_put_stands,
     puts_make_their_events_in_order, reads_of_the_row_keep_where_a_put_stands,
     tails_keep_where_a_put_stands,
 };
-pub use laws::{
-    a_body_in_tails_is_shown, a_body_is_its_parts, a_changed_head_is_the_answer,
-    a_row_names_its_shard,
-};
-pub use stage::{
-    After, Change, Content, Draft, PutRequest, Rest, Split, Stage, Target, Tried, Unfinished,
-};
+pub use laws::{a_body_in_tails_is_shown, a_body_is_its_parts, a_changed_head_is_the_answer};
+pub use stage::{BodyRest, Draft, PutRequest, Rest, Stage};
 pub use task::PutTask;
-pub use turning::steps_keep_where_a_put_stands;

@@ -4,7 +4,7 @@ ghost use Rattle.std.specs.Prelude.{◌≡◌, IfOk};
 use crate::ends::tell_end;
 use crate::play::Play;
 use crate::words::{asker, bucket_name};
-use realm_door::{Task, TaskTurn};
+use realm_door::{Stepping, Task, TaskTurn};
 use std::alloc::Global;
 use task_container::{ContainerCommand, ContainerRequest, ContainerTask};
 
@@ -26,7 +26,7 @@ pub fn count_of(alloc: Global) -> anyhow::Result<ContainerRequest>
 
 /// Counts at moment 0, as the actor of this number, and prints what was counted.
 pub fn count<R: Print>(rt: &R, alloc: Global, play: &mut Play, actor: u64) -> anyhow::Result<()> {
-    let mut task = ContainerTask::new(count_of(alloc)?);
+    let mut task = Stepping::new(ContainerTask::new(count_of(alloc)?));
     let ended = carry_out(rt, alloc, play, &mut task, actor);
     drop(task);
     ended
@@ -36,7 +36,7 @@ fn carry_out<R: Print>(
     rt: &R,
     alloc: Global,
     play: &mut Play,
-    task: &mut ContainerTask,
+    task: &mut Stepping<ContainerTask>,
     actor: u64,
 ) -> anyhow::Result<()> {
     take_turns(rt, alloc, play, task, actor)?;
@@ -48,7 +48,7 @@ fn take_turns<R: Print>(
     rt: &R,
     alloc: Global,
     play: &mut Play,
-    task: &mut ContainerTask,
+    task: &mut Stepping<ContainerTask>,
     actor: u64,
 ) -> anyhow::Result<()> {
     for _ in 0..TURNS {

@@ -2,7 +2,7 @@
 use crate::ends::tell_end;
 use crate::play::Play;
 use crate::words::{always, asker, bucket_name, object_name};
-use realm_door::{Task, TaskTurn};
+use realm_door::{Stepping, Task, TaskTurn};
 use realm_model::Settings;
 use rgw_types::Pairs;
 use std::alloc::Global;
@@ -27,7 +27,7 @@ pub fn put_of(alloc: Global, name: &str) -> anyhow::Result<PutCommand> {
 /// A PUT by the actor of this number, and the bytes that it was not yet sent.
 #[derive(Drop)]
 pub struct Upload {
-    task: PutTask,
+    task: Stepping<PutTask>,
     actor: u64,
     left: &'static [u8],
 }
@@ -42,7 +42,7 @@ impl Upload {
         bytes: &'static [u8],
     ) -> anyhow::Result<Upload> {
         Ok(Upload {
-            task: PutTask::new(alloc, settings, 1, asker(alloc)?, put_of(alloc, name)?)?,
+            task: Stepping::new(PutTask::new(alloc, settings, 1, asker(alloc)?, put_of(alloc, name)?)?),
             actor,
             left: bytes,
         })
@@ -85,10 +85,10 @@ impl Upload {
 
     // Sends what there is room for. Behind the last byte the body ends.
     fn feed(&mut self) -> anyhow::Result<()> {
-        let taken = self.task.feed(self.left)?;
+        let taken = self.task.stages.feed(self.left)?;
         self.left = &self.left[taken..];
         if self.left.is_empty() {
-            self.task.finish(BodyEnd::Whole);
+            self.task.stages.finish(BodyEnd::Whole);
         }
         Ok(())
     }

@@ -1,15 +1,14 @@
 -- The object answer: what a command on one name is replied, and the slot that it leaves (OpenStack Object Storage API
 -- v1, objects; RFC 9110, sections 13 and 14).
-use Rattle.std.specs.Prelude.{ℕ, ◌/◌, ◌||◌, not, Bool, true, false, nat_lt, nat_le, List, [], length, take, drop, Option, Some, None, unwrap_or, bytes_eq, if◌then◌else◌}
+use Rattle.std.specs.Prelude.{ℕ, ◌/◌, not, Bool, false, nat_lt, nat_le, List, [], length, take, drop, Option, Some, None, unwrap_or, bytes_eq, if◌then◌else◌}
 use Rattle.hex.specs.Hex.{encode_lower}
 use Rattle.md5.specs.Md5.{md5}
 use Rattle.rgw_types.specs.declared.stamp.Stamp.{Stamp}
 use Rattle.rgw_model.specs.declared.slot.Content.{Content}
 use Rattle.rgw_model.specs.declared.slot.Slot.{Slot}
-use Rattle.rgw_model.specs.declared.slot.Slot.TheVariants.{Nothing, Live, Mark}
+use Rattle.rgw_model.specs.declared.slot.Slot.TheVariants.{Live}
 use Rattle.rgw_model.specs.Kinds.{default_kind}
 use Rattle.rgw_model.specs.Stamps.{next_stamp}
-use Rattle.object_words.specs.declared.head.Conditions.{Conditions}
 use Rattle.object_words.specs.declared.head.EtagRule.{EtagRule}
 use Rattle.object_words.specs.Conditions.{meets, fails}
 use Rattle.swift_auth.specs.declared.policy.Deed.{Deed}

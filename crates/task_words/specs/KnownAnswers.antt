@@ -8,12 +8,11 @@ use Rattle.object_words.specs.declared.bucket.Bucket.{Bucket}
 use Rattle.object_words.specs.declared.head.Conditions.{Conditions}
 use Rattle.object_words.specs.declared.head.EtagRule.{EtagRule}
 use Rattle.object_words.specs.declared.head.EtagRule.TheVariants.{OneOf}
-use Rattle.swift_auth.specs.Users.{UserView, standard_user}
+use Rattle.swift_auth.specs.Users.{UserView}
 use Rattle.realm_model.specs.KnownWords.{hex, bucket}
 use Rattle.task_words.specs.declared.asker.Asker.{Asker}
 use Rattle.task_words.specs.declared.command.GetCommand.{GetCommand}
 use Rattle.task_words.specs.declared.command.PutCommand.{PutCommand}
-use Rattle.task_words.specs.declared.reply.MapReply.{MapReply}
 use Rattle.task_words.specs.declared.reply.MapReply.TheVariants.{Shown}
 use Rattle.task_words.specs.declared.command.BodyEnd.TheVariants.{Whole}
 use Rattle.task_words.specs.declared.span.Span.{Span}

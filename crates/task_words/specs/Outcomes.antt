@@ -2,7 +2,6 @@
 -- an object is the answer of the bucket map at the event that decides; every other end has its cause. Each end reads the
 -- account of the task's actor, and the list of its own events, alone.
 use Rattle.std.specs.Prelude.{◌≡◌, ◌≤◌, ◌⊎◌, ℕ, true, false, List, length, filter, Option, Some, None}
-use Rattle.rgw_model.specs.declared.slot.Slot.{Slot}
 use Rattle.object_words.specs.declared.bucket.Bucket.{Bucket}
 use Rattle.realm_model.specs.Accounts.{Looked, Decided, HoldMet, SpaceWanted, Account, is_left}
 use Rattle.realm_model.specs.Owns.{OwnEvent}
@@ -14,21 +13,22 @@ use Rattle.task_words.specs.declared.command.BodyEnd.TheVariants.{Whole, Failed}
 use Rattle.task_words.specs.declared.command.GetCommand.{GetCommand}
 use Rattle.task_words.specs.declared.command.PutCommand.{PutCommand}
 use Rattle.task_words.specs.declared.reply.MapReply.{MapReply}
-use Rattle.task_words.specs.declared.reply.MapReply.TheVariants.{Stored, Shown, Same, Counted, Refused}
+use Rattle.task_words.specs.declared.reply.MapReply.TheVariants.{Stored, Shown, Refused}
 use Rattle.task_words.specs.declared.reply.Refusal.{Refusal}
-use Rattle.task_words.specs.declared.reply.Refusal.TheVariants.{Unauthorized, Denied, NoContainer, NoObject, NotMet, NoRange, OtherEtag}
+use Rattle.task_words.specs.declared.reply.Refusal.TheVariants.{Unauthorized, Denied, NoContainer, NotMet, OtherEtag}
+use Rattle.task_words.specs.declared.limits.TheConstants.{MOST_MOVED, MOST_EXPIRED}
 use Rattle.task_words.specs.declared.outcome.Outcome.{Outcome}
-use Rattle.task_words.specs.declared.outcome.Outcome.TheVariants.{Done, BodyFailed, Busy, MovedOften, RacedOften, LateTag, LateRead, NoSpace}
-use Rattle.task_words.specs.Answers.{Command, put, get, container_of, name_of, deed_of, Answer, answer, is_other_etag}
+use Rattle.task_words.specs.declared.outcome.Outcome.TheVariants.{Done, BodyFailed, Busy, MovedOften, LateTag, LateRead, NoSpace}
+use Rattle.task_words.specs.Answers.{Command, put, get, container_of, name_of, deed_of, answer, is_other_etag}
 use Rattle.task_words.specs.Rows.{row_refusal}
 
 -- a task ends with its answer Moved or Closed of this number
 abbrev pub most_moved : ℕ
-most_moved = 16
+most_moved = MOST_MOVED
 
 -- a task ends with its answer Expired of this number
 abbrev pub most_expired : ℕ
-most_expired = 3
+most_expired = MOST_EXPIRED
 
 -- ---- the row of the container
 

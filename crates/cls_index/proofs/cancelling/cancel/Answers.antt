@@ -1,74 +1,25 @@
-use Rattle.std.proofs.Common.{◌≡◌, ◌-◌, None, sym, subst, arith}
-use Rattle.object_pool.specs.Places.{object_of, rows_of}
-use Rattle.object_words.specs.Names.{at}
-use Rattle.object_words.specs.Tags.{without_tag}
+use Rattle.std.proofs.Common.{sym, subst}
+use Rattle.object_pool.specs.Places.{object_of}
 use Rattle.object_words.specs.Entries.{with_tags}
+use Rattle.object_words.specs.Tags.{without_tag}
 use Rattle.object_words.specs.Shards.{entry_at, with_entry}
-use Rattle.object_words.specs.ShardCalls.{complete_refusal}
-use Rattle.class_words.specs.Shards.{HasEntry, IsShard}
+use Rattle.class_words.specs.Shards.{IsShard}
 use Rattle.cls_index.specs.Rows.{IsLeft}
-use Rattle.cls_index.proofs.RowLemmas.{tags_in}
-use Rattle.cls_index.proofs.StartLemmas.{entry_under, no_refusal, not_refused, open_shard, tag_there, taken_one}
+use Rattle.cls_index.proofs.StartLemmas.{not_refused}
 use Rattle.cls_index.proofs.cancelling.cancel.Goals as goal
-
-pub find_tag-requires : goal.find_tag-requires
-find_tag-requires c =
-    let s = c.requires.0 in
-    let is = c.requires.1 in
-    let name = c.args.name.now in
-    let text = c.bytes_of-text.result.now in
-    let has = entry_under c.args.shard.now s name text c.bytes_of-text.ensures.text is c.bytes_of-text.ensures.named in
-    (at s.entries name, has)
-
-pub take_tag-requires-clause-there : goal.take_tag-requires-clause-there
-take_tag-requires-clause-there c =
-    let s = c.requires.0 in
-    let is = c.requires.1 in
-    let name = c.args.name.now in
-    let text = c.bytes_of-text.result.now in
-    let has = entry_under c.args.shard.now s name text c.bytes_of-text.ensures.text is c.bytes_of-text.ensures.named in
-    let t = c.in-Some.ensures.there (at s.entries name) has in
-    (entry_at s name, subst (HasEntry (rows_of c.args.shard.now) text) t.0 has, t.1, t.2)
-
-pub overflow_sub-left : goal.overflow_sub-left
-overflow_sub-left c =
-    let s = c.requires.0 in
-    let is = c.requires.1 in
-    let name = c.args.name.now in
-    let text = c.bytes_of-text.result.now in
-    let has = entry_under c.args.shard.now s name text c.bytes_of-text.ensures.text is c.bytes_of-text.ensures.named in
-    let t = c.in-Some.ensures.there (at s.entries name) has in
-    omega (arith, tags_in _ (entry_at s name) t.1, t.2)
 
 pub keep_row-requires : goal.keep_row-requires
 keep_row-requires c =
     let s = c.requires.0 in
-    let is = c.requires.1 in
-    let name = c.args.name.now in
-    let text = c.bytes_of-text.result.now in
-    let has = entry_under c.args.shard.now s name text c.bytes_of-text.ensures.text is c.bytes_of-text.ensures.named in
-    let small = c.requires.2 in
-    let t = c.in-Some.ensures.there (at s.entries name) has in
-    let e = entry_at s name in
-    let left = c.take_tag.ensures.entry e (subst (HasEntry (rows_of c.args.shard.now) text) t.0 has) t.1 t.2 in
-    let here = taken_one c.args.shard.now c.take_tag.new.shard s name text c.args.tag c.in-Some.place c.header_at-header.result c.in-Some.front c.bytes_of-text.ensures.text is small c.bytes_of-text.ensures.named
-    (c.header_at-header.ensures s is) t.1 t.2 t.3 c.take_tag.ensures.only left in
-    (s, without_tag c.args.tag e.tags, subst (λ n. IsLeft (object_of c.take_tag.new.shard) s n (without_tag c.args.tag e.tags) c.header_at-header.result (record c.in-Some.front { tags = c.in-Some.front.tags - 1 }) 1) (sym c.bytes_of-text.ensures.text) here)
+    let tags = without_tag c.args.tag (entry_at s c.args.name.now).tags in
+    let taken = c.in_ok-header.ensures.left s c.requires.1 c.requires.2 in
+    (s, tags, subst (λ n. IsLeft (object_of c.take_change.new.shard) s n tags c.in_ok-header.header c.in_ok-header.left 1) (sym c.bytes_of.ensures.text) taken.1)
 
 pub returns-clause-answers : goal.returns-clause-answers
 returns-clause-answers c s is small =
-    let name = c.args.name.now in
-    let text = c.bytes_of-text.result.now in
-    let has = entry_under c.args.shard.now s name text c.bytes_of-text.ensures.text is c.bytes_of-text.ensures.named in
-    let t = c.in-Some.ensures.there (at s.entries name) has in
-    let e = entry_at s name in
-    let left = c.take_tag.ensures.entry e (subst (HasEntry (rows_of c.args.shard.now) text) t.0 has) t.1 t.2 in
-    let here = taken_one c.args.shard.now c.take_tag.new.shard s name text c.args.tag c.in-Some.place c.header_at-header.result c.in-Some.front c.bytes_of-text.ensures.text is small c.bytes_of-text.ensures.named
-    (c.header_at-header.ensures s is) t.1 t.2 t.3 c.take_tag.ensures.only left in
-    let free = open_shard s c.header_at-header.result (c.header_at-header.ensures s is) c.in_ok-check_changes.ensures.ok in
-    let refusal : complete_refusal s name c.args.tag ≡ None = no_refusal _ _ free (tag_there e c.args.tag (sym (c.in-Some.ensures.found (at s.entries name) has))) in
-    let tags = without_tag c.args.tag e.tags in
-    let same = c.bytes_of-text.ensures.text in
-    let here' = subst (λ n. IsLeft (object_of c.take_tag.new.shard) s n tags c.header_at-header.result (record c.in-Some.front { tags = c.in-Some.front.tags - 1 }) 1) (sym same) here in
-    let done = subst (λ n. IsShard (object_of c.keep_row.new.shard) (with_entry s n (with_tags (entry_at s n) tags))) same (c.keep_row.ensures.shard s tags here') in
-    (refusal, tt, not_refused (IsShard (object_of c.keep_row.new.shard)) _ s _ refusal done)
+    let tags = without_tag c.args.tag (entry_at s c.args.name.now).tags in
+    let taken = c.in_ok-header.ensures.left s is small in
+    let same = c.bytes_of.ensures.text in
+    let here = subst (λ n. IsLeft (object_of c.take_change.new.shard) s n tags c.in_ok-header.header c.in_ok-header.left 1) (sym same) taken.1 in
+    let done = subst (λ n. IsShard (object_of c.keep_row.new.shard) (with_entry s n (with_tags (entry_at s n) tags))) same (c.keep_row.ensures.shard s tags here) in
+    (taken.0, tt, not_refused (IsShard (object_of c.keep_row.new.shard)) _ s _ taken.0 done)

@@ -1,4 +1,5 @@
 use Rattle.door_moments.proofs.Asking.{untold_asks_if, event_asks_if}
+use Rattle.std.proofs.lemmas.Result.{on_ok_weaker}
 use Rattle.door_moments.proofs.acting.act.Goals as goal
 
 pub returns-clause-asks : goal.returns-clause-asks
@@ -13,3 +14,6 @@ returns-clause-unasked g c =
     (λ tells. (c.requires.up tells).0)
     c.now-moment.ensures.told
     c.event.ensures.stopped
+
+pub returns-clause-made : goal.returns-clause-made
+returns-clause-made g c = on_ok_weaker c.event.result (λ made tells. (c.now-moment.result, made tells)) c.event.ensures.made

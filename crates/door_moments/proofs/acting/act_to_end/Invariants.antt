@@ -4,9 +4,9 @@ use Rattle.door_moments.proofs.acting.act_to_end.Given as goal
 
 abbrev pub invariant-events : goal.invariant-events
 invariant-events g l = record {
-  sound : g.T.Task.fault l.task ≡ None;
-  up : IsUpTo g.T.Task.fits g.D.Door.tells (g.D.Door.settings l.fn.door) l.task (g.D.Door.told l.door);
-  command : g.T.Task.command l.task ≡ g.T.Task.command l.fn.task;
+  sound : l.task.fault ≡ None;
+  up : IsUpTo g.T.Staged.fits g.D.Door.tells (g.D.Door.settings l.fn.door) l.task.stages (g.D.Door.told l.door);
+  command : g.T.Staged.command l.task.stages ≡ g.T.Staged.command l.fn.task.stages;
   settings : g.D.Door.settings l.door ≡ g.D.Door.settings l.fn.door;
   home : g.D.Door.home l.door ≡ g.D.Door.home l.fn.door;
   plan : g.C.Clock.plan l.clock ≡ g.C.Clock.plan l.fn.clock;

@@ -1,6 +1,6 @@
 use Rattle.std.proofs.Common.{rules, ◌-◌, true, false, Bool, [], ◌++◌, take, drop, length, refl, sym, ◌∙◌, subst}
 use Rattle.realm_model.specs.Settings.{SettingsView}
-use Rattle.task_put.specs.Tasks.{request_of}
+use Rattle.task_put.specs.Runs.{request_of}
 use Rattle.door_moments.specs.Acts.{Asks}
 use Rattle.door_moments.proofs.Asking.{none_asks, both_ask}
 use Rattle.put_service.specs.Standing.{IsUp, PausesAt, is_untold}

@@ -1,6 +1,6 @@
 use Rattle.std.proofs.Common.{◌≡◌, ◌≤◌, ◌+◌, ℕ, false, None, List, ◌++◌, length}
 use Rattle.task_put.specs.Bodies.{most_bytes}
-use Rattle.task_put.specs.Tasks.{request_of, stage_of, fault_of}
+use Rattle.task_put.specs.Runs.{request_of, stage_of, fault_of}
 use Rattle.task_put.specs.Taking.{WantsBytes, fed_request}
 use Rattle.door_moments.specs.Acts.{Asks}
 use Rattle.put_service.specs.Standing.{IsUp, IsSteady}
@@ -9,7 +9,7 @@ use Rattle.put_service.proofs.feeding.feed_all.Given as goal
 abbrev pub invariant-parts : goal.invariant-parts
 invariant-parts g l = record {
   sound : fault_of l.task ≡ None;
-  steady : IsSteady l.task;
+  steady : IsSteady l.task.stages;
   wants : WantsBytes (stage_of l.task);
   few : length ((request_of l.task).bytes) + length l.rest ≤ most_bytes;
   so_far : (taken : List ℕ) × (taken ++ l.rest ≡ l.fn.bytes) × (request_of l.task ≡ fed_request (request_of l.fn.task) taken);

@@ -2,7 +2,7 @@ use Rattle.std.proofs.Common.{◌≡◌, inl, ◌≤◌, ◌+◌, rules, true, f
 use Rattle.realm_model.specs.Settings.{SettingsView}
 use Rattle.task_put.specs.declared.stage.PutRequest.{PutRequest}
 use Rattle.task_put.specs.Bodies.{most_bytes}
-use Rattle.task_put.specs.Tasks.{request_of}
+use Rattle.task_put.specs.Runs.{request_of}
 use Rattle.task_put.specs.Taking.{fed_request}
 use Rattle.http_chunks.specs.declared.body.BodyEnd.TheVariants as End
 use Rattle.call_service.specs.Bodies.{most_due}

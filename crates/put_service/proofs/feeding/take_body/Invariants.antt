@@ -1,6 +1,6 @@
 use Rattle.std.proofs.Common.{◌≡◌, ◌≤◌, ◌<◌, ◌+◌, ℕ, false, None, List, length}
 use Rattle.task_put.specs.Bodies.{most_bytes}
-use Rattle.task_put.specs.Tasks.{request_of, stage_of, fault_of}
+use Rattle.task_put.specs.Runs.{request_of, stage_of, fault_of}
 use Rattle.task_put.specs.Taking.{WantsBytes, fed_request}
 use Rattle.call_service.specs.Bodies.{most_due, HasGiven}
 use Rattle.door_moments.specs.Acts.{Asks}
@@ -12,7 +12,7 @@ invariant-pieces g l = record {
   room : 0 < length l.buffer;
   kept : length l.buffer ≡ length l.fn.buffer;
   sound : fault_of l.task ≡ None;
-  steady : IsSteady l.task;
+  steady : IsSteady l.task.stages;
   wants : WantsBytes (stage_of l.task);
   intake : l.intake.failed ≡ None;
   few : length ((request_of l.task).bytes) + most_due l.intake ≤ most_bytes;

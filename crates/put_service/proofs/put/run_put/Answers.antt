@@ -4,7 +4,7 @@ use Rattle.realm_model.specs.Settings.{SettingsView}
 use Rattle.call_service.specs.Bodies.{ReadsTo}
 use Rattle.door_moments.proofs.Asking.{both_ask}
 use Rattle.task_put.specs.Taking.{ended_request}
-use Rattle.task_put.specs.Tasks.{request_of, fits}
+use Rattle.task_put.specs.Runs.{request_of, fits}
 use Rattle.put_service.specs.declared.feeding.Taken.{Taken}
 use Rattle.put_service.specs.Parts.{TakesBytes, TakesBody, EndsSo, task_end, place}
 use Rattle.put_service.proofs.Joining.{step_stops}

@@ -1,6 +1,6 @@
 use Rattle.std.proofs.Common.{◌≡◌, inl, rules, false, []}
 use Rattle.std.proofs.KnownBytes.{Appends-nil}
-use Rattle.task_put.specs.Tasks.{request_of}
+use Rattle.task_put.specs.Runs.{request_of}
 use Rattle.call_service.specs.Serving.{Site}
 use Rattle.put_service.specs.Parts.{site_at}
 use Rattle.put_service.proofs.Serving.{first_is, ends_with, has_run, stops_unwritten, stops_reply, replied}

@@ -1,6 +1,6 @@
 use Rattle.std.proofs.Common.{◌≡◌, true, false, sym, subst}
 use Rattle.std.specs.Prelude.{Bool, IfOk, IfErr}
-use Rattle.task_put.specs.Tasks.{request_of}
+use Rattle.task_put.specs.Runs.{request_of}
 use Rattle.call_service.specs.Serving.{side}
 use Rattle.call_service.specs.Waiting.{IsPutServed, IsPutStopped}
 use Rattle.put_service.specs.Parts.{site_at}

@@ -5,7 +5,7 @@ use Rattle.std.proofs.lemmas.Result.{IfOk-weaker, IfErr-weaker, err_from_is_err_
 use Rattle.realm_model.specs.Settings.{SettingsView}
 use Rattle.swift_requests.specs.declared.asked.Asked.TheVariants.{Put}
 use Rattle.swift_requests.specs.declared.body.BodyUse.TheVariants.{Fed, Unread}
-use Rattle.task_put.specs.Tasks.{request_of, stage_of}
+use Rattle.task_put.specs.Runs.{request_of, stage_of}
 use Rattle.task_put.specs.declared.stage.PutRequest.{PutRequest}
 use Rattle.call_service.specs.Serving.{Site, side, IsServed, IsStopped}
 use Rattle.door_moments.specs.Acts.{Asks}

@@ -1,5 +1,5 @@
 use Rattle.std.proofs.Common.{◌≡◌, ◌-◌, ◌^◌, false, None}
-use Rattle.task_put.specs.Tasks.{request_of, fault_of}
+use Rattle.task_put.specs.Runs.{request_of, fault_of}
 use Rattle.door_moments.specs.Acts.{Asks}
 use Rattle.put_service.specs.Standing.{IsUp, IsSteady}
 use Rattle.put_service.proofs.stepping.advance.Given as goal
@@ -7,7 +7,7 @@ use Rattle.put_service.proofs.stepping.advance.Given as goal
 abbrev pub invariant-events : goal.invariant-events
 invariant-events g l = record {
   sound : fault_of l.task ≡ None;
-  steady : IsSteady l.task;
+  steady : IsSteady l.task.stages;
   up : IsUp g.D.Door.tells (g.D.Door.settings l.fn.door) l.task (g.D.Door.told l.door);
   asks : Asks g.D.Door.tells g.D.Door.alone (g.D.Door.settings l.fn.door) false (g.D.Door.told l.fn.door) (g.D.Door.told l.door) (g.C.Clock.told l.fn.clock) (g.C.Clock.told l.clock);
   request : request_of l.task ≡ request_of l.fn.task;

@@ -31,6 +31,6 @@ act-requires-clause-up g c κs within =
 
 pub returns-in_ok-act-in-Event-clause-stands : goal.returns-in_ok-act-in-Event-clause-stands
 returns-in_ok-act-in-Event-clause-stands g c =
-    steady_after c.settle.new.self c.act.new.task (c.in-Event.ensures.ready refl)
-    (steady_ready c.args.task.now c.settle.new.self c.settle.ensures.task c.requires.going.steady (c.in-Event.ensures.ready refl))
+    steady_after c.settle.new.self c.act.new.task.stages (c.in-Event.ensures.event refl)
+    (steady_ready c.args.task.now.stages c.settle.new.self c.settle.ensures.task c.requires.going.steady (c.in-Event.ensures.event refl))
     c.in_ok-act-in-Event.ensures.steps

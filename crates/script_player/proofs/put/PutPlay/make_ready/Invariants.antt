@@ -1,7 +1,7 @@
 use Rattle.std.proofs.Common.{◌≡◌}
 use Rattle.realm_model.specs.Settings.{SettingsView}
 use Rattle.realm_model.specs.Doors.{DoorView}
-use Rattle.task_put.specs.Tasks.{fits}
+use Rattle.task_put.specs.Runs.{fits}
 use Rattle.script_player.specs.Plays.{asked_put, PutStands, left_of}
 use Rattle.script_player.proofs.put.PutPlay.make_ready.Given as goal
 

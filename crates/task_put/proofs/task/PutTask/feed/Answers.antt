@@ -12,19 +12,17 @@ returns-clause-fits c = λ settings d f.
     let stage = c.in_ok-taken.ensures.stage in
     let came = c.with_bytes-self.ensures in
     let same : fed t (take taken bytes) ≡ record {
-      target = t.target;
+      zone = t.zone;
       stage = c.feed.new.self;
-      tried = t.tried;
       end = t.end;
-      fault = t.fault;
+      asker = t.asker;
       sent = t.sent;
       came = c.with_bytes-self.result;
     } = λ i. record {
-      target = t.target;
+      zone = t.zone;
       stage = sym stage i;
-      tried = t.tried;
       end = t.end;
-      fault = t.fault;
+      asker = t.asker;
       sent = t.sent;
       came = record { numbers = sym came i };
     } in

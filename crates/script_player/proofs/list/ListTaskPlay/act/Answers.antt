@@ -1,7 +1,0 @@
-use Rattle.script_player.proofs.Listing.{list_steps_if}
-use Rattle.script_player.proofs.list.ListTaskPlay.act.Goals as goal
-
-pub returns-clause-steps : goal.returns-clause-steps
-returns-clause-steps g c =
-    list_steps_if g.D.Door.tells g.D.Door.alone (g.D.Door.settings c.args.door.now) c.args.moment c.event.new.self (g.D.Door.told c.args.door.now) (g.D.Door.told c.event.new.door) c.event.result
-    c.event.ensures.made c.event.ensures.alone

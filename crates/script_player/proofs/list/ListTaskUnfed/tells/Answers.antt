@@ -1,0 +1,5 @@
+use Rattle.script_player.proofs.Unfed.{list_means}
+use Rattle.script_player.proofs.list.ListTaskUnfed.tells.Goals as goal
+
+pub returns : goal.returns
+returns c = list_means

@@ -1,0 +1,6 @@
+use Rattle.task_container.specs.Stages.{stage_of}
+use Rattle.script_player.proofs.Unfed.{stat_open}
+use Rattle.script_player.proofs.stat.ContainerTaskUnfed.goes_on.Goals as goal
+
+pub returns : goal.returns
+returns c = λ t. stat_open (stage_of t)
