@@ -6,7 +6,6 @@ ghost use Rattle.rgw_server.specs.Posts.{IsFresh};
 use crate::posts::Post;
 use admin_api::run_job;
 use gw_io::Clock;
-use job_words::Job;
 use net_io::Pause;
 use object_words::BucketName;
 use realm_core::Realm;
@@ -16,6 +15,7 @@ use std::alloc::Global;
 use std::sync::Wait;
 use std::sync::atomic::AtomicBool;
 use std::sync::atomic::Ordering::SeqCst;
+use task_words::Job;
 use turn_cell::{DoorFault, Turn};
 use turn_door::TurnDoor;
 
