@@ -22,7 +22,7 @@ use Rattle.task_put.specs.Cuts.{CutBody}
 use Rattle.task_put.specs.Stages.{IsOver, IsReady, settled}
 use Rattle.task_put.specs.Stepped.{stepped}
 use Rattle.task_put.specs.Taking.{WantsBytes, room_at, fed_request, ended_request}
-use Rattle.task_put.specs.Runs.{request_of, stage_of, fault_of, decided, with_stages, fits}
+use Rattle.task_put.specs.Runs.{request_of, stage_of, fault_of, with_stages, fits}
 use Rattle.task_put.specs.Tasks.{decided as stages_decided, body_ended as stages_ended, request_of as stages_request, IsPutEnd}
 use Rattle.task_put.specs.declared.stage.Draft.{Draft}
 use Rattle.task_put.specs.declared.stage.PutRequest.{PutRequest}
