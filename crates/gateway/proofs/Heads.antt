@@ -41,17 +41,9 @@ host_put : (host : Bool) (x : Asked) (c : PutCommand) → cond (not host) BadHos
 host_put true x c e = e
 host_put false x c e = absurd (cc)
 
-host_get : (host : Bool) (x : Asked) (c : GetCommand) → cond (not host) BadHost x ≡ Unfed (Get c) → x ≡ Unfed (Get c)
-host_get true x c e = e
-host_get false x c e = absurd (cc)
-
 short_put : (long : Bool) (w : SwiftRefusal) (x : Asked) (c : PutCommand) → cond long (Refused w) x ≡ Put c → x ≡ Put c
 short_put true w x c e = absurd (cc)
 short_put false w x c e = e
-
-short_get : (long : Bool) (w : SwiftRefusal) (x : Asked) (c : GetCommand) → cond long (Refused w) x ≡ Unfed (Get c) → x ≡ Unfed (Get c)
-short_get true w x c e = absurd (cc)
-short_get false w x c e = e
 
 -- a request for an object that is served, and that no field refuses
 object_put : (served put : Bool) (r g : Option SwiftRefusal) (p c : PutCommand) (q : GetCommand)
@@ -63,15 +55,6 @@ object_put true false r None p c q e = absurd (cc)
 object_put true false r (Some w) p c q e = absurd (cc)
 object_put false put r g p c q e = absurd (cc)
 
-object_get : (served put : Bool) (r g : Option SwiftRefusal) (p : PutCommand) (q c : GetCommand)
-    → cond served (cond put (asked_unless r (Put p)) (asked_unless g (Unfed (Get q)))) (Refused why.NotBuilt) ≡ Unfed (Get c)
-    → (served ≡ true) × (put ≡ false) × (g ≡ None) × (q ≡ c)
-object_get true true None g p q c e = absurd (cc)
-object_get true true (Some w) g p q c e = absurd (cc)
-object_get true false r None p q c e = (refl, refl, refl, cc)
-object_get true false r (Some w) p q c e = absurd (cc)
-object_get false put r g p q c e = absurd (cc)
-
 -- a request for a container that is served, and that no field refuses
 container_put : (served : Bool) (r : Option SwiftRefusal) (m : ListCommand) (f : ListingForm) (c : PutCommand)
     → cond served (asked_unless r (Unfed (Listing m f))) (Refused why.NotBuilt) ≡ Put c → ⊥
@@ -79,23 +62,11 @@ container_put true None m f c e = cc
 container_put true (Some w) m f c e = cc
 container_put false r m f c e = cc
 
-container_get : (served : Bool) (r : Option SwiftRefusal) (m : ListCommand) (f : ListingForm) (c : GetCommand)
-    → cond served (asked_unless r (Unfed (Listing m f))) (Refused why.NotBuilt) ≡ Unfed (Get c) → ⊥
-container_get true None m f c e = cc
-container_get true (Some w) m f c e = cc
-container_get false r m f c e = cc
-
--- the head of a PUT, or of a GET or HEAD, that is served
+-- the head of a PUT that is served
 pub record AsksPut (largest : ℕ) (head : Head) : Type 0 where
   pub taken : is_taken head ≡ true
   pub is_one : is_put head ≡ true
   pub passed : put_refusal largest head ≡ None
-
-pub record AsksGet (largest : ℕ) (head : Head) (c : GetCommand) : Type 0 where
-  pub taken : is_taken head ≡ true
-  pub is_one : is_put head ≡ false
-  pub passed : get_refusal largest head ≡ None
-  pub body : c.body ≡ is_get head
 
 module _ (largest : ℕ) (head : Head) where
   at_put : (query : Query) (target : Target) (c : PutCommand) → asked_at largest head query target ≡ Put c → AsksPut largest head
@@ -108,40 +79,15 @@ module _ (largest : ℕ) (head : Head) where
       let found = object_put (is_own account && is_taken head) (is_put head) (put_refusal largest head) (get_refusal largest head) _ c _ e in
       record { taken = (and_parts (is_own account) (is_taken head) found.0).1; is_one = found.1; passed = found.2 }
 
-  at_get : (query : Query) (target : Target) (c : GetCommand) → asked_at largest head query target ≡ Unfed (Get c) → AsksGet largest head c
-  at_get query targets.Unknown c e = absurd (cc)
-  at_get query targets.Auth c e = absurd (cc)
-  at_get query (targets.Account account) c e = absurd (cc)
-  at_get query (targets.Container account container) c e =
-      absurd (container_get (is_own account && is_get head) (list_refusal largest head) _ _ c e)
-  at_get query (targets.Thing account container name) c e =
-      let found = object_get (is_own account && is_taken head) (is_put head) (put_refusal largest head) (get_refusal largest head) _ _ c e in
-      record {
-        taken = (and_parts (is_own account) (is_taken head) found.0).1;
-        is_one = found.1;
-        passed = found.2;
-        body = sym (ap (λ (q : GetCommand). q.body) found.3);
-      }
-
   by_put : (fault : Option WordFault) (c : PutCommand) → asked_by largest head fault ≡ Put c → AsksPut largest head
   by_put (Some fault) c e = absurd (cc)
   by_put None c e = at_put (query_of head.target) (target_of head.target) c e
-
-  by_get : (fault : Option WordFault) (c : GetCommand) → asked_by largest head fault ≡ Unfed (Get c) → AsksGet largest head c
-  by_get (Some fault) c e = absurd (cc)
-  by_get None c e = at_get (query_of head.target) (target_of head.target) c e
 
   asks_put : (c : PutCommand) → asked_of largest head ≡ Put c → AsksPut largest head
   unfolding asked_of
   asks_put c e =
       let in_length = host_put (has_host head) _ c e in
       by_put (target_fault head.target) c (short_put (nat_lt target_limit (length head.target)) why.TargetTooLong _ c in_length)
-
-  asks_get : (c : GetCommand) → asked_of largest head ≡ Unfed (Get c) → AsksGet largest head c
-  unfolding asked_of
-  asks_get c e =
-      let in_length = host_get (has_host head) _ c e in
-      by_get (target_fault head.target) c (short_get (nat_lt target_limit (length head.target)) why.TargetTooLong _ c in_length)
 
 -- ---- methods
 
@@ -150,21 +96,6 @@ same_bytes a b is = (bytes_eq-Decides a b).0 is
 
 pub put_has_body : (head : Head) → is_put head ≡ true → is_bodiless head.method ≡ false
 put_has_body head is = ap (λ m. bytes_eq m (codes "HEAD")) (same_bytes head.method (codes "PUT") is)
-
-get_or_head : (get bodiless : Bool) → (get ≡ true → bodiless ≡ false) → (get || (bodiless || false)) ≡ true → bodiless ≡ not get
-get_or_head true bodiless apart is = apart refl
-get_or_head false true apart is = refl
-get_or_head false false apart is = is
-
-taken_method : (head : Head) → is_taken head ≡ true → has_taken_method head ≡ true
-unfolding is_taken
-taken_method head is = (and_parts (has_taken_method head) _ is).0
-
-get_form : (head : Head) → is_taken head ≡ true → is_put head ≡ false → is_bodiless head.method ≡ not (is_get head)
-get_form head taken no_put =
-    get_or_head (is_get head) (is_bodiless head.method)
-    (λ is. ap (λ m. bytes_eq m (codes "HEAD")) (same_bytes head.method (codes "GET") is))
-    (subst (λ p. (is_get head || (is_bodiless head.method || p)) ≡ true) no_put (taken_method head taken))
 
 -- ---- bodies
 
@@ -185,12 +116,6 @@ put_body largest head intake c e behind =
     let asks = asks_put largest head c e in
     let tests = put_passed largest head asks.passed in
     (due_by largest head.framing intake behind.body_left behind.chunked behind.room tests.4, put_has_body head asks.is_one)
-
--- only the reply to a GET has a body
-pub get_bodiless : (largest : ℕ) (head : Head) (c : GetCommand) → asked_of largest head ≡ Unfed (Get c) → is_bodiless head.method ≡ not c.body
-get_bodiless largest head c e =
-    let asks = asks_get largest head c e in
-    get_form head asks.taken asks.is_one ∙ ap not (sym asks.body)
 
 -- the uses of the body of a PUT
 abbrev pub IsOfPut : BodyUse → Type 0

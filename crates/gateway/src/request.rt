@@ -17,20 +17,17 @@ use crate::asker::asker_of;
 use crate::refusal::serve_refused;
 use crate::turn::Turn;
 use call_service::{ServeFault, Served};
-use get_service::serve_get;
 use gw_io::{Clock, Ends, Sink, Source};
 use http_intake::Intake;
 use http_model::{Head, ReplyForm};
-use list_service::serve_listing;
 use put_service::serve_put;
 use realm_door::Door;
 use realm_model::Settings;
+use request_service::serve_command;
 use std::alloc::Global;
 use swift_auth::User;
 use swift_reply::SwiftRefusal;
 use swift_requests::{Asked, BodyUse, body_use, closes, read_asked};
-use task_get::GetRequest;
-use task_list::ListRequest;
 
 /// How a connection ends behind a reply that closes it, and does not say that a body broke off.
 fn closing_end(asked: &Asked) -> ConnEnd
@@ -91,30 +88,15 @@ fn serve_asked<D: Door, S: Source, K: Sink, C: Clock>(
                 buffer, out,
             )
         }
-        Asked::Get(get) => {
-            let Ok(asker) = asker_of(user) else {
-                drop(get);
-                return Err(ServeFault::OutOfMemory);
-            };
-            let request = GetRequest { zone, asker, get };
-            door.begin();
-            serve_get(
-                alloc, request, form, read, door, clock, intake, source, sink, buffer, out,
-            )
-        }
-        Asked::Listing(command, listing) => {
+        Asked::Unfed(command) => {
             let Ok(asker) = asker_of(user) else {
                 drop(command);
                 return Err(ServeFault::OutOfMemory);
             };
-            let request = ListRequest {
-                zone,
-                asker,
-                command,
-            };
             door.begin();
-            serve_listing(
-                alloc, request, listing, form, read, door, clock, intake, source, sink, buffer, out,
+            serve_command(
+                alloc, zone, asker, command, form, read, door, clock, intake, source, sink, buffer,
+                out,
             )
         }
         refused => {

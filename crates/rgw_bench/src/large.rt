@@ -3,7 +3,7 @@ use crate::bench::Bench;
 use crate::sample::Sample;
 use crate::tasks::Requested;
 use crate::timing::{Timed, clocked};
-use realm_door::{Door, Stepping, Task, TaskTurn};
+use realm_door::{Door, Staged, Stepping, Task, TaskTurn};
 use realm_stage::RealmStage;
 use std::alloc::Global;
 use std::rt::Clock;
@@ -87,7 +87,7 @@ fn put_and_get<R: Clock>(
 }
 
 fn get_large<R: Clock>(rt: &R, alloc: Global, bench: &mut Bench) -> anyhow::Result<Timed> {
-    let mut task = GetTask::on(bench, alloc, 0)?;
+    let mut task = Stepping::<GetTask>::on(bench, alloc, 0)?;
     let get = clocked(rt, || take_all(alloc, &mut bench.stage, &mut task));
     drop(task);
     get
@@ -114,12 +114,12 @@ fn send_all(
 }
 
 // Carries a GET out as the next actor. How many bytes does it give?
-fn take_all(alloc: Global, stage: &mut RealmStage, task: &mut GetTask) -> anyhow::Result<u64> {
+fn take_all(alloc: Global, stage: &mut RealmStage, task: &mut Stepping<GetTask>) -> anyhow::Result<u64> {
     stage.begin();
     let mut given: u64 = 0;
     for _ in 0..TURNS {
         match task.turn(alloc, stage, 0)? {
-            TaskTurn::Gives => given = given.saturating_add(task.piece().len() as u64),
+            TaskTurn::Gives => given = given.saturating_add(task.stages.piece().len() as u64),
             TaskTurn::More | TaskTurn::Wants => {}
             TaskTurn::Done => break,
         }

@@ -42,7 +42,7 @@ fn show_rounds<R: Clock + Print>(rt: &R, alloc: Global, bench: &mut Bench) -> an
         println!(rt; "{name}: {events} events, {refused} refused")?;
     }
     let puts = run_tasks::<Stepping<PutTask>, R>(rt, alloc, bench, 10, 100)?.events;
-    let gets = run_tasks::<GetTask, R>(rt, alloc, bench, 10, 100)?.events;
+    let gets = run_tasks::<Stepping<GetTask>, R>(rt, alloc, bench, 10, 100)?.events;
     println!(rt; "100 puts: {puts} turns, 100 gets: {gets}")?;
     Ok(())
 }
@@ -71,7 +71,7 @@ fn measure_rounds<R: Clock + Print>(
     }
     let puts = run_tasks::<Stepping<PutTask>, R>(rt, alloc, bench, heads, TASKS)?;
     tell(rt, "turn of a put of 5 bytes", &puts)?;
-    let gets = run_tasks::<GetTask, R>(rt, alloc, bench, heads, TASKS)?;
+    let gets = run_tasks::<Stepping<GetTask>, R>(rt, alloc, bench, heads, TASKS)?;
     tell(rt, "turn of a get of 5 bytes", &gets)
 }
 

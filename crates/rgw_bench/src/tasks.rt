@@ -39,13 +39,13 @@ impl Requested for Stepping<PutTask> {
     }
 }
 
-impl Requested for GetTask {
-    fn on(_bench: &Bench, alloc: Global, name: u64) -> anyhow::Result<GetTask> {
-        Ok(GetTask::new(GetRequest {
+impl Requested for Stepping<GetTask> {
+    fn on(_bench: &Bench, alloc: Global, name: u64) -> anyhow::Result<Stepping<GetTask>> {
+        Ok(Stepping::new(GetTask::new(GetRequest {
             zone: 1,
             asker: asker(alloc)?,
             get: get_of(alloc, name)?,
-        }))
+        })))
     }
 
     fn feed_small(&mut self) -> anyhow::Result<()> {

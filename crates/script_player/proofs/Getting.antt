@@ -1,5 +1,5 @@
 -- A GET at work.
-use Rattle.std.proofs.Common.{◌≡◌, ℕ, true, false, cond, List, [], ◌++◌, length, Option, Some, None, refl, sym, ap, ◌∙◌, subst}
+use Rattle.std.proofs.Common.{◌≡◌, ℕ, true, false, cond, List, [], ◌++◌, length, Option, Some, None, IsSome, IfSome, refl, sym, ap, ◌∙◌, subst}
 use Rattle.rgw_types.specs.declared.stamp.Stamp.{Stamp}
 use Rattle.rgw_model.specs.declared.slot.Content.{Content}
 use Rattle.rgw_model.specs.declared.slot.Slot.{Slot}
@@ -7,9 +7,9 @@ use Rattle.rgw_model.specs.declared.slot.Slot.TheVariants as Slots
 use Rattle.realm_model.specs.Settings.{SettingsView}
 use Rattle.realm_model.specs.Doors.{DoorView}
 use Rattle.realm_model.specs.Owns.{OwnEvent}
-use Rattle.realm_door.specs.Turns.{MakesEvent, Turned, IsActing}
-use Rattle.realm_door.specs.declared.task.TaskTurn.{TaskTurn}
-use Rattle.realm_door.specs.declared.task.TaskTurn.TheVariants.{More, Wants, Gives, Done as DoneTurn}
+use Rattle.realm_door.specs.Turns.{MakesEvent}
+use Rattle.realm_door.specs.Waiting.{UnlessFaulted}
+use Rattle.realm_door.specs.declared.stepping.Stepping.{Stepping}
 use Rattle.task_words.specs.declared.command.GetCommand.{GetCommand}
 use Rattle.task_words.specs.declared.outcome.Outcome.{Outcome}
 use Rattle.task_words.specs.declared.outcome.Outcome.TheVariants.{Done, LateRead}
@@ -41,12 +41,6 @@ still_open (Ended outcome given) not_over = not_over tt
 still_open (Late x outcome) not_over = not_over tt
 still_open stage not_over = tt
 
-pub event_made : (settings : SettingsView) (turn : TaskTurn) (moment : ℕ) (d e : DoorView) → IsActing turn → Turned settings turn moment d e → MakesEvent settings moment d e
-event_made settings More moment d e acts made = made
-event_made settings Gives moment d e acts made = made
-event_made settings Wants moment d e acts made = absurd acts
-event_made settings DoneTurn moment d e acts made = absurd acts
-
 -- the bytes of the event follow those before it
 pub bytes_kept : (settings : SettingsView) (t u : GetTask) (d e : DoorView) (moment : ℕ) (before now : List ℕ) → request_of u ≡ request_of t → Fits u settings e → MakesEvent settings moment d e
     → before ≡ brought (request_of t).get (events_at d) → now ≡ before ++ bytes_of u → now ≡ brought (request_of u).get (events_at e)
@@ -55,7 +49,7 @@ bytes_kept settings t u d e moment before now request fits made so_far grown =
     ∙ sym (next_piece_follows settings t u d e moment request fits made)
     ∙ ap (λ (r : GetRequest). brought r.get (events_at e)) (sym request)
 
-pub asked_as : (t u : GetTask) (before now : _) → request_of u ≡ request_of t → asked_get (record { task = u; shown = now }) ≡ asked_get (record { task = t; shown = before })
+pub asked_as : (t u : Stepping GetTask) (before now : _) → request_of u.stages ≡ request_of t.stages → asked_get (record { task = u; shown = now }) ≡ asked_get (record { task = t; shown = before })
 asked_as t u before now same = ap (λ (q : GetRequest). record { zone = q.zone; verb = Get q.get.container q.get.name }) same
 
 pub get_as : (t u : GetTask) → request_of u ≡ request_of t → request_of t ≡ get_request (request_of t).zone (request_of t).get.container (request_of t).get.name
@@ -124,7 +118,14 @@ module _ (settings : SettingsView) (t : GetTask) (d : DoorView) (fits : Fits t s
       record { event = m.0.by_map.event; is_last = last; front = record { rest = front.rest; joined = front.joined ∙ ap (λ l. l ++ front.rest) (sym is) } }
   bytes_shown outcome shown is m = absurd m
 
-pub get_means : (x : GetPlay) (settings : SettingsView) (d : DoorView) (outcome : Outcome) → FitsGet x settings d → means (request_of x.task) outcome settings d → MeansRequest (asked_get x).zone (asked_get x).verb outcome x.shown.items settings d
-get_means x settings d outcome f m =
-    let bytes = bytes_shown settings x.task d f.task outcome x.shown.items f.shown m in
+-- what follows from a clause on what is there, and from that it is there
+pub if_there : {X S : Type 0} (r : Option X) {P Q : X → Type 0} → (IsSome r → S) → IfSome r P → ((x : X) → S → P x → Q x) → IfSome r Q
+if_there None there clause so = tt
+if_there (Some x) there clause so = so x (there tt) clause
+
+pub get_means : (x : GetPlay) (settings : SettingsView) (d : DoorView) (outcome : Outcome) → x.task.fault ≡ None → FitsGet x settings d → means (request_of x.task.stages) outcome settings d
+    → MeansRequest (asked_get x).zone (asked_get x).verb outcome x.shown.items settings d
+get_means x settings d outcome sound f m =
+    let stands : Fits x.task.stages settings d = subst (λ o. UnlessFaulted o (Fits x.task.stages settings d)) sound f.task in
+    let bytes = bytes_shown settings x.task.stages d stands outcome x.shown.items f.shown m in
     subst (λ (q : GetRequest). means q outcome settings d × AreBytesOf q outcome x.shown.items (account_at settings d)) f.is_get (m, bytes)

@@ -56,8 +56,8 @@ asked_put x = record {
 
 abbrev pub asked_get : GetPlay → Asked
 asked_get x = record {
-  zone = (get.request_of x.task).zone;
-  verb = verbs.Get (get.request_of x.task).get.container (get.request_of x.task).get.name;
+  zone = (get.request_of x.task.stages).zone;
+  verb = verbs.Get (get.request_of x.task.stages).get.container (get.request_of x.task.stages).get.name;
 }
 
 abbrev pub stat_of : ContainerRequest → Asked
@@ -115,7 +115,7 @@ pub record IsPut (x : PutPlay) : Type 0 where
   pub ends : EndsAt (put.request_of x.task).end x.fed (length (body_bytes x.body))
 
 abbrev pub IsGet : GetPlay → Type 0
-IsGet x = get.request_of x.task ≡ get_request (asked_get x).zone (get.request_of x.task).get.container (get.request_of x.task).get.name
+IsGet x = get.request_of x.task.stages ≡ get_request (asked_get x).zone (get.request_of x.task.stages).get.container (get.request_of x.task.stages).get.name
 
 abbrev pub IsStat : ContainerRequest → Type 0
 IsStat r = r ≡ stat_request r.zone (name_of r.command)
@@ -135,7 +135,7 @@ pub record PutStands (x : PutPlay) : Type 0 where
 
 pub record GetStands (x : GetPlay) : Type 0 where
   pub is_get : IsGet x
-  pub sound : get.fault_of x.task ≡ None
+  pub sound : x.task.fault ≡ None
 
 abbrev pub StatStands : Stepping ContainerTask → Type 0
 StatStands t = IsStat (stat.request_of t.stages) × (t.fault ≡ None)
@@ -175,7 +175,7 @@ abbrev pub PutEnded : PutPlay → Type 0
 PutEnded x = put_stages.IsOver (put.stage_of x.task) × (put.fault_of x.task ≡ None)
 
 abbrev pub GetEnded : GetPlay → Type 0
-GetEnded x = get_stages.IsOver (get.stage_of x.task) × (get.fault_of x.task ≡ None)
+GetEnded x = get_stages.IsOver (get.stage_of x.task.stages) × (x.task.fault ≡ None)
 
 abbrev pub StatEnded : Stepping ContainerTask → Type 0
 StatEnded t = stat.IsOver (stat.stage_of t.stages) × (t.fault ≡ None)
@@ -228,8 +228,8 @@ pub record FitsPut (x : PutPlay) (settings : SettingsView) (d : DoorView) : Type
 -- and the bytes kept are those that these brought
 pub record FitsGet (x : GetPlay) (settings : SettingsView) (d : DoorView) : Type 0 where
   pub is_get : IsGet x
-  pub task : get.Fits x.task settings d
-  pub shown : x.shown.items ≡ brought (get.request_of x.task).get (get.events_at d)
+  pub task : UnlessFaulted x.task.fault (get.Fits x.task.stages settings d)
+  pub shown : x.shown.items ≡ brought (get.request_of x.task.stages).get (get.events_at d)
 
 abbrev pub FitsStat : Stepping ContainerTask → SettingsView → DoorView → Type 0
 FitsStat t settings d = IsStat (stat.request_of t.stages) × UnlessFaulted t.fault (stat.fits t.stages settings d)

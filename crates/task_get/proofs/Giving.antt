@@ -116,7 +116,7 @@ none_shown r (Late x outcome) y p events fits is = let e : Some fits.1.by_map.ev
 whole_answer : (r : GetRequest) (new : NewHead) (stamp : Stamp) (bytes : List ℕ) → HasParts new bytes → (get_answer r.get (Slots.Live (content_with new bytes) stamp)).after ≡ Slots.Live (content_with new bytes) stamp
 whole_answer r new stamp bytes parts = (live_is r.get new stamp bytes parts.size).after
 
-shown_reply : (reply shown : MapReply) → where_shown reply ≡ Some shown → (reply ≡ shown) × IsShown shown
+pub shown_reply : (reply shown : MapReply) → where_shown reply ≡ Some shown → (reply ≡ shown) × IsShown shown
 shown_reply (Shown kind meta etag stamp size start count) shown is = let same : Shown kind meta etag stamp size start count ≡ shown = cc in (same, subst IsShown same tt)
 shown_reply (Stored etag stamp) shown is = cc
 shown_reply (Same etag stamp) shown is = cc

@@ -23,6 +23,10 @@ use Rattle.task_list.specs.Stages.{IsRowShown}
 use Rattle.realm_model.specs.Shown.{row_shown}
 use Rattle.task_list.specs.Tasks.{IsPast, WentOn, AfterRow, Takes, stage_of}
 
+-- a row refuses a listing in one of three ways
+pub refusal_is : (asker : Asker) (row : Option Bucket) (refusal : Refusal) → row_refusal asker row ListContainer ≡ Some refusal → IsRefusal refusal
+refusal_is asker row refusal is = by_three IsRefusal (verdict_of asker.user asker.account row ListContainer) (found_under asker.account row) refusal is tt (λ rule. tt) tt
+
 -- a listing that went on by a row is past it
 past_by : (c : ListCommand) (row : Bucket) (events : List OwnEvent) (stage : Stage) → WentOn 1 c row stage events → IsPast stage
 past_by c row events (Page m next) on = tt
@@ -34,7 +38,7 @@ past_by c row events stage on = absurd on
 module _ (c : ListCommand) (asker : Asker) where
   past_row : (refusal : Option Refusal) (row : Option Bucket) (stage : Stage) → row_refusal asker row ListContainer ≡ refusal → AfterRow c None refusal row stage → IsPast stage
   past_row (Some refusal) row stage is after =
-      subst IsPast (sym after) (by_three IsRefusal (verdict_of asker.user asker.account row ListContainer) (found_under asker.account row) refusal is tt (λ rule. tt) tt)
+      subst IsPast (sym after) (refusal_is asker row refusal is)
   past_row None None stage is after = absurd after
   past_row None (Some row) stage is after =
       let own : OwnEvent = record { op = asks_row 1 c; reply = Row row; number = 1; clock = 0 } in

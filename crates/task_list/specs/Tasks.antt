@@ -48,16 +48,28 @@ abbrev pub is_broken : Stage → Bool
 is_broken Broken = true
 is_broken stage = false
 
--- the outcome, where the row refused the listing
-abbrev pub refused_in : Stage → Option Outcome
-refused_in (Ended (Done (Refused refusal))) = Some (Done (Refused refusal))
-refused_in stage = None
+-- the outcome, once it is there
+abbrev pub ended_in : Stage → Option Outcome
+ended_in (Ended outcome) = Some outcome
+ended_in stage = None
 
 -- the row was read: a refusal is one of the row
 abbrev pub IsPast : Stage → Type 0
 IsPast (Look known) = ⊥
 IsPast (Ended (Done (Refused refusal))) = IsRefusal refusal
 IsPast stage = Unit {0}
+
+-- a listing may end so
+abbrev pub MayEnd : Outcome → Type 0
+MayEnd (Done (Listed rows)) = Unit {0}
+MayEnd (Done (Refused refusal)) = IsRefusal refusal
+MayEnd MovedOften = Unit {0}
+MayEnd outcome = ⊥
+
+-- it ends as a listing may, whatever a door answered
+abbrev pub IsSound : Stage → Type 0
+IsSound (Ended outcome) = MayEnd outcome
+IsSound stage = Unit {0}
 
 -- an operation comes next
 abbrev pub IsGoing : Stage → Type 0
@@ -211,3 +223,8 @@ stage_of t = t.stage
 -- what the task is asked
 abbrev pub request_of : ListTask → ListRequest
 request_of t = t.request
+
+-- how an answer brings the task on, also where nothing is told
+pub record Steps (t u : ListTask) : Type 0 where
+  pub looked : t.stage ≡ Look None → IsPast u.stage
+  pub sound : IsSound u.stage

@@ -4,7 +4,7 @@ ghost use Rattle.realm_model.specs.Owns.{OwnEvent};
 ghost use Rattle.task_words.specs.Rows.{row_refusal};
 ghost use Rattle.task_list.specs.Progresses.{settled_of, rows_in};
 ghost use Rattle.task_list.specs.Stages.{IsSettledTo, MergingFits};
-ghost use Rattle.task_list.specs.Tasks.{IsGoing, KnownFits, WentOn, AfterRow, AfterPage, AfterHead, AfterSuggestion, Takes, TakesTold, head_shown, after_left};
+ghost use Rattle.task_list.specs.Tasks.{IsGoing, IsSound, KnownFits, WentOn, AfterRow, AfterPage, AfterHead, AfterSuggestion, Takes, TakesTold, head_shown, after_left};
 ghost use Rattle.task_list.specs.Repairs.{may_stand};
 ghost use Rattle.task_list.specs.Sightings.{RowTold, PageTold, HeadTold, OnTold, suggestion_due, asks_suggestion};
 ghost use Rattle.object_words.specs.Heads.{row_of};
@@ -96,6 +96,7 @@ pub fn next_stage(
     requires going { IsGoing stage }
     ensures fits { IfOk result (λ s. Takes request.now stage moved reply s.0 s.1) }
     ensures told { IfOk result (λ s. TakesTold stage reply s.0) }
+    ensures sound { IfOk result (λ s. IsSound s.0) }
 {
     match stage {
         Stage::Look(known) => {
@@ -143,6 +144,7 @@ fn head_in(reply: Reply) -> HeadSeen
 }
 
 /// By the row that was read, or that none is.
+#[tactic(auto, using(crate::proofs::First::refusal_is))]
 fn stage_by_row(
     alloc: Global,
     request: &ListRequest,
@@ -152,6 +154,7 @@ fn stage_by_row(
     ensures fits { IfOk result (λ stage.
         AfterRow request.now.command known (row_refusal request.now.asker row to_list) row stage) }
     ensures told { IfOk result (λ stage. RowTold row stage) }
+    ensures sound { IfOk result IsSound }
 {
     match request.asker.refusal(row.as_ref(), Deed::ListContainer) {
         Some(refusal) => {
@@ -175,6 +178,7 @@ fn stage_in(
 ) -> Result<Stage, AllocError>
     ensures fits { IfOk result (λ stage. AfterRow command.now known None (Some row) stage) }
     ensures told { IfOk result (λ stage. RowTold (Some row) stage) }
+    ensures sound { IfOk result IsSound }
 {
     let progress = progress_in(alloc, command, known, row.id)?;
     went_on(alloc, command, Merging::new(alloc, row, progress))
@@ -208,6 +212,7 @@ fn stage_by_page(
 ) -> Result<(Stage, u32), AllocError>
     ensures fits { IfOk result (λ s. AfterPage command.now merging next moved page s.0 s.1) }
     ensures told { IfOk result (λ s. PageTold merging next page s.0) }
+    ensures sound { IfOk result (λ s. IsSound s.0) }
 {
     match page {
         Some(page) => {
@@ -223,7 +228,8 @@ fn stage_by_page(
 
 /// After so many answers Moved or Closed.
 fn stage_when_moved(merging: Merging, moved: u32) -> Stage
-    ensures { result ≡ after_left merging moved }
+    ensures left { result ≡ after_left merging moved }
+    ensures sound { IsSound result }
 {
     if moved < MOST_MOVED {
         let Merging { row, progress, .. } = merging;
@@ -247,6 +253,7 @@ fn stage_with(
 ) -> Result<Stage, AllocError>
     ensures fits { IfOk result (λ stage. (AfterPage command.now merging next.now 0 (Some page) stage 0)) }
     ensures told { IfOk result (λ stage. PageTold merging next.now (Some page) stage) }
+    ensures sound { IfOk result IsSound }
 {
     merging.put(next, page)?;
     went_on(alloc, command, merging)
@@ -262,6 +269,7 @@ fn stage_by_head(
 ) -> Result<Stage, AllocError>
     ensures fits { IfOk result (λ stage. AfterHead command.now merging wanted.name head.slot stage) }
     ensures told { IfOk result (λ stage. HeadTold merging wanted head stage) }
+    ensures sound { IfOk result IsSound }
 {
     let suggestion = suggestion_by(alloc, &wanted, &head)?;
     merging.settle(alloc, command, wanted.name, head.slot)?;
@@ -323,6 +331,7 @@ fn row_by(alloc: Global, slot: &SeenSlot) -> Result<EntryRow, AllocError>
 fn went_on(alloc: Global, command: &ListCommand, mut merging: Merging) -> Result<Stage, AllocError>
     ensures fits { IfOk result (λ stage. AfterSuggestion command.now merging stage) }
     ensures told { IfOk result (λ stage. OnTold merging stage) }
+    ensures sound { IfOk result IsSound }
 {
     match merging.go_on(alloc, command)? {
         Next::Page(next) => Ok(Stage::Page(merging, next)),

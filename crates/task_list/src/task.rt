@@ -1,7 +1,7 @@
 ghost use Rattle.std.specs.Prelude.{◌≡◌, ◌⊎◌, None, option_copied};
 ghost use Rattle.realm_door.specs.Turns.{FitsAtFirst};
 ghost use Rattle.task_list.specs.declared.stage.Stage.TheVariants.{Broken as broken, Look as looking};
-ghost use Rattle.task_list.specs.Tasks.{IsOver, is_broken, refused_in, IsGoing, Takes, TakesTold, request_of, stage_of, fits};
+ghost use Rattle.task_list.specs.Tasks.{IsOver, is_broken, ended_in, IsGoing, IsSound, Takes, TakesTold, request_of, stage_of, fits};
 
 use crate::request::ListRequest;
 use crate::stage::{Stage, next_stage};
@@ -11,7 +11,7 @@ use realm_model::{Op, Reply};
 use rgw_types::Text;
 use std::alloc::{AllocError, Global};
 use std::mem::replace;
-use task_words::{MapReply, Outcome, PAGE_LIMIT};
+use task_words::{Outcome, PAGE_LIMIT};
 
 /// A request for a listing: the row is read, then a page of each shard by its number, and then, by rising
 /// name, the head of each name that a change is under way of, behind it a suggestion where the entry had a
@@ -47,15 +47,12 @@ impl ListTask {
         matches!(self.stage, Stage::Broken)
     }
 
-    /// The outcome, where the container's row refused the listing.
-    pub fn refused(&self) -> Option<&Outcome>
-        ensures { option_copied result ≡ refused_in (stage_of self.now) }
+    /// The outcome, once it is there.
+    pub fn ended(&self) -> Option<&Outcome>
+        ensures { option_copied result ≡ ended_in (stage_of self.now) }
     {
         match &self.stage {
-            Stage::Ended(outcome) => match outcome {
-                Outcome::Done(MapReply::Refused(_)) => Some(outcome),
-                _ => None,
-            },
+            Stage::Ended(outcome) => Some(outcome),
             _ => None,
         }
     }
@@ -67,6 +64,7 @@ impl ListTask {
         ensures taken { (self.new.stage ≡ broken)
             ⊎ Takes self.old.request self.old.stage self.old.moved reply self.new.stage self.new.moved }
         ensures told { (self.new.stage ≡ broken) ⊎ TakesTold self.old.stage reply self.new.stage }
+        ensures sound { IsSound self.new.stage }
     {
         let stage = replace(&mut self.stage, Stage::Broken);
         if let Ok((stage, moved)) = next_stage(alloc, &self.request, stage, self.moved, reply) {
@@ -77,9 +75,8 @@ impl ListTask {
 }
 
 impl Staged for ListTask {
-    ghost use Rattle.std.specs.Prelude.{◌≡◌, None};
-    ghost use Rattle.task_list.specs.declared.stage.Stage.TheVariants.{Look};
-    ghost use Rattle.task_list.specs.Tasks.{IsOver, IsPast, IsGoing, op_of, stage_of, request_of, fits};
+    ghost use Rattle.std.specs.Prelude.{◌≡◌};
+    ghost use Rattle.task_list.specs.Tasks.{IsOver, IsGoing, op_of, stage_of, request_of, fits, Steps};
     ghost use Rattle.task_list.specs.Listed.{IsListOutcome};
     ghost use Rattle.realm_model.specs.Histories.{account_of};
     ghost use Rattle.realm_model.specs.Owns.{own_events};
@@ -106,7 +103,7 @@ impl Staged for ListTask {
 
     ghost is_taken = { λ t u rest. (u ≡ t) × IsGoing (stage_of t) };
 
-    ghost steps = { λ t u. stage_of t ≡ Look None → IsPast (stage_of u) };
+    ghost steps = { Steps };
 
     #[tactic(auto, using(crate::proofs::Turning::is_open))]
     fn settle(&mut self) -> Next {
@@ -117,10 +114,7 @@ impl Staged for ListTask {
     }
 
     fn end(&self) -> Option<&Outcome> {
-        match &self.stage {
-            Stage::Ended(outcome) => Some(outcome),
-            _ => None,
-        }
+        self.ended()
     }
 
     fn piece(&self) -> &[u8] {

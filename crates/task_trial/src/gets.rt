@@ -4,7 +4,7 @@ ghost use Rattle.std.specs.Prelude.{◌≡◌, IfOk};
 use crate::ends::tell_end;
 use crate::play::Play;
 use crate::words::{always, asker, bucket_name, object_name};
-use realm_door::{Task, TaskTurn};
+use realm_door::{Staged, Stepping, Task, TaskTurn};
 use std::alloc::Global;
 use std::str;
 use task_get::{GetRequest, GetTask};
@@ -40,7 +40,7 @@ pub fn get<R: Print>(
     actor: u64,
     name: &str,
 ) -> anyhow::Result<()> {
-    let mut task = GetTask::new(get_of(alloc, name)?);
+    let mut task = Stepping::new(GetTask::new(get_of(alloc, name)?));
     let ended = carry_out(rt, alloc, play, &mut task, actor);
     drop(task);
     ended
@@ -50,7 +50,7 @@ fn carry_out<R: Print>(
     rt: &R,
     alloc: Global,
     play: &mut Play,
-    task: &mut GetTask,
+    task: &mut Stepping<GetTask>,
     actor: u64,
 ) -> anyhow::Result<()> {
     take_turns(rt, alloc, play, task, actor)?;
@@ -62,7 +62,7 @@ fn take_turns<R: Print>(
     rt: &R,
     alloc: Global,
     play: &mut Play,
-    task: &mut GetTask,
+    task: &mut Stepping<GetTask>,
     actor: u64,
 ) -> anyhow::Result<()> {
     for _ in 0..TURNS {
@@ -75,8 +75,8 @@ fn take_turns<R: Print>(
     Ok(())
 }
 
-fn tell_piece<R: Print>(rt: &R, task: &GetTask) -> anyhow::Result<()> {
-    let piece = str::from_utf8(task.piece())?;
+fn tell_piece<R: Print>(rt: &R, task: &Stepping<GetTask>) -> anyhow::Result<()> {
+    let piece = str::from_utf8(task.stages.piece())?;
     println!(rt; "gives {piece}")?;
     Ok(())
 }

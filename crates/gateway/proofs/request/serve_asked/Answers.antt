@@ -8,7 +8,7 @@ use Rattle.swift_requests.specs.declared.asked.Asked.TheVariants as asks
 use Rattle.gateway.specs.Calls.{site_of}
 use Rattle.gateway.proofs.Growing.{may_serve}
 use Rattle.gateway.proofs.Fates.{waits_so, refused_waits}
-use Rattle.gateway.proofs.Heads.{put_body, put_use, get_bodiless, get_use, list_use, is_refused}
+use Rattle.gateway.proofs.Heads.{put_body, put_use, unfed_use, is_refused}
 use Rattle.gateway.proofs.Joining.{asked_served, asked_left}
 use Rattle.gateway.proofs.Refusals.{refused_served, refused_left}
 use Rattle.gateway.proofs.Tasks.{put_served_if, put_stopped_if, unwanted_served, unwanted_stopped, site_is}
@@ -34,32 +34,18 @@ serve_put-requires-clause-ready g c κs within =
     let settings = c.begin.ensures.settings ∙ c.requires.goes.site.same in
     may_serve g.D.Door.tells c.args.settings.now _ _ c.args.zone (g.D.Door.told c.args.door.now) (g.D.Door.told c.begin.new.self) c.args.user.now c.args.intake.now _ c.requires.goes c.requires.behind.failed c.begin.ensures.begins settings
 
-pub serve_get-requires-clause-form : goal.serve_get-requires-clause-form
-serve_get-requires-clause-form g c κs within =
-    let e : asked_of c.args.settings.now.largest c.args.head.now ≡ asks.Get c.in-Get.get = sym c.requires.asks ∙ c.in-Get.is in
-    c.requires.form ∙ get_bodiless c.args.settings.now.largest c.args.head.now c.in-Get.get e
+pub serve_command-requires-clause-ready : goal.serve_command-requires-clause-ready
+serve_command-requires-clause-ready g c κs within =
+    let settings = c.begin-in-Unfed.ensures.settings ∙ c.requires.goes.site.same in
+    may_serve g.D.Door.tells c.args.settings.now _ _ c.args.zone (g.D.Door.told c.args.door.now) (g.D.Door.told c.begin-in-Unfed.new.self) c.args.user.now c.args.intake.now _ c.requires.goes c.requires.behind.failed c.begin-in-Unfed.ensures.begins settings
 
-pub serve_get-requires-clause-ready : goal.serve_get-requires-clause-ready
-serve_get-requires-clause-ready g c κs within =
-    let settings = c.begin-in-Get.ensures.settings ∙ c.requires.goes.site.same in
-    may_serve g.D.Door.tells c.args.settings.now _ _ c.args.zone (g.D.Door.told c.args.door.now) (g.D.Door.told c.begin-in-Get.new.self) c.args.user.now c.args.intake.now _ c.requires.goes c.requires.behind.failed c.begin-in-Get.ensures.begins settings
-
-pub serve_listing-requires-clause-ready : goal.serve_listing-requires-clause-ready
-serve_listing-requires-clause-ready g c κs within =
-    let settings = c.begin-in-Listing.ensures.settings ∙ c.requires.goes.site.same in
-    may_serve g.D.Door.tells c.args.settings.now _ _ c.args.zone (g.D.Door.told c.args.door.now) (g.D.Door.told c.begin-in-Listing.new.self) c.args.user.now c.args.intake.now _ c.requires.goes c.requires.behind.failed c.begin-in-Listing.ensures.begins settings
-
-pub serve_get-requires-clause-shut : goal.serve_get-requires-clause-shut
-serve_get-requires-clause-shut g c κs within is =
-    c.requires.shut (sym (ap is_unread c.requires.used) ∙ sym c.is_unread-read.ensures ∙ not_false c.is_unread-read.result is)
-
-pub serve_listing-requires-clause-shut : goal.serve_listing-requires-clause-shut
-serve_listing-requires-clause-shut g c κs within is =
+pub serve_command-requires-clause-shut : goal.serve_command-requires-clause-shut
+serve_command-requires-clause-shut g c κs within is =
     c.requires.shut (sym (ap is_unread c.requires.used) ∙ sym c.is_unread-read.ensures ∙ not_false c.is_unread-read.result is)
 
 pub serve_refused-served-requires-clause-quiet : goal.serve_refused-served-requires-clause-quiet
 serve_refused-served-requires-clause-quiet g c =
-    let refused = is_refused c.args.asked c.in_default.not-Put c.in_default.not-Get c.in_default.not-Listing in
+    let refused = is_refused c.args.asked c.in_default.not-Put c.in_default.not-Unfed in
     let plan_by = c.requires.used ∙ ap (body_use c.args.settings.now.largest c.args.head.now) (sym c.requires.asks) in
     ap is_awaited plan_by ∙ sym (waits_so c.args.settings.now.largest c.args.head.now c.args.asked) ∙ refused_waits c.args.head.now c.args.asked refused
 
@@ -93,51 +79,29 @@ returns-in-Ok-clause-left g c =
 
 pub returns-in-Ok-asker_of-clause-served : goal.returns-in-Ok-asker_of-clause-served
 returns-in-Ok-asker_of-clause-served g c =
-    let asks_so = asks.Get c.in-Get.get in
-    let e : asked_of c.args.settings.now.largest c.args.head.now ≡ asks_so = sym c.requires.asks ∙ c.in-Get.is in
+    let asks_so = asks.Unfed c.in-Unfed.command in
+    let e : asked_of c.args.settings.now.largest c.args.head.now ≡ asks_so = sym c.requires.asks ∙ c.in-Unfed.is in
     let quiet = sym (waits_so c.args.settings.now.largest c.args.head.now asks_so ∙ ap (λ (a : Asked). is_awaited (body_use c.args.settings.now.largest c.args.head.now a)) (sym e)) in
     asked_served g.D.Door.tells g.D.Door.alone (site_of c.args.settings.now c.args.zone) c.args.head.now c.args.asked asks_so c.args.form _ _
-    (use_of c.args.settings.now.largest c.args.head.now) c.in-Get.is c.serve_get.result
-    (unwanted_served g.D.Door.tells g.D.Door.alone (site_of c.args.settings.now c.args.zone) c.args.form asks_so _ (g.D.Door.told c.begin-in-Get.new.self) _ c.requires.goes.may c.begin-in-Get.ensures.begins
-    c.args.head.now (use_of c.args.settings.now.largest c.args.head.now) refl quiet _ (ap (λ b. dropped_if (not b)) (c.is_unread-read.ensures ∙ ap is_unread c.requires.used) ∙ get_use c.args.settings.now.largest c.args.head.now c.in-Get.get e)
-    refl (λ shut. c.requires.shut shut) _ c.serve_get.result (site_is (g.D.Door.settings c.begin-in-Get.new.self) c.args.settings.now c.args.zone c.in-Ok-asker_of.asker (c.begin-in-Get.ensures.settings ∙ c.requires.goes.site.same) c.in-Ok-asker_of.ensures) c.serve_get.ensures.served)
+    (use_of c.args.settings.now.largest c.args.head.now) c.in-Unfed.is c.serve_command.result
+    (unwanted_served g.D.Door.tells g.D.Door.alone (site_of c.args.settings.now c.args.zone) c.args.form asks_so _ (g.D.Door.told c.begin-in-Unfed.new.self) _ c.requires.goes.may c.begin-in-Unfed.ensures.begins
+    c.args.head.now (use_of c.args.settings.now.largest c.args.head.now) refl quiet _ (ap (λ b. dropped_if (not b)) (c.is_unread-read.ensures ∙ ap is_unread c.requires.used) ∙ unfed_use c.args.settings.now.largest c.args.head.now c.in-Unfed.command e)
+    refl (λ shut. c.requires.shut shut) _ c.serve_command.result (site_is (g.D.Door.settings c.begin-in-Unfed.new.self) c.args.settings.now c.args.zone c.in-Ok-asker_of.asker (c.begin-in-Unfed.ensures.settings ∙ c.requires.goes.site.same) c.in-Ok-asker_of.ensures) c.serve_command.ensures.served)
 
 pub returns-in-Ok-asker_of-clause-left : goal.returns-in-Ok-asker_of-clause-left
 returns-in-Ok-asker_of-clause-left g c =
-    let asks_so = asks.Get c.in-Get.get in
-    let e : asked_of c.args.settings.now.largest c.args.head.now ≡ asks_so = sym c.requires.asks ∙ c.in-Get.is in
+    let asks_so = asks.Unfed c.in-Unfed.command in
+    let e : asked_of c.args.settings.now.largest c.args.head.now ≡ asks_so = sym c.requires.asks ∙ c.in-Unfed.is in
     let quiet = sym (waits_so c.args.settings.now.largest c.args.head.now asks_so ∙ ap (λ (a : Asked). is_awaited (body_use c.args.settings.now.largest c.args.head.now a)) (sym e)) in
     asked_left g.D.Door.tells g.D.Door.alone (site_of c.args.settings.now c.args.zone) c.args.head.now c.args.asked asks_so c.args.form _ _
-    (use_of c.args.settings.now.largest c.args.head.now) c.in-Get.is (g.D.Door.found c.serve_get.new.door) c.serve_get.result
-    (unwanted_stopped g.D.Door.tells g.D.Door.alone (site_of c.args.settings.now c.args.zone) c.args.form asks_so _ (g.D.Door.told c.begin-in-Get.new.self) _ c.requires.goes.may c.begin-in-Get.ensures.begins
-    c.args.head.now (use_of c.args.settings.now.largest c.args.head.now) refl quiet _ (ap (λ b. dropped_if (not b)) (c.is_unread-read.ensures ∙ ap is_unread c.requires.used) ∙ get_use c.args.settings.now.largest c.args.head.now c.in-Get.get e)
-    (g.D.Door.found c.serve_get.new.door) (λ fault x. (g.D.Door.told c.begin-in-Get.new.self, c.begin-in-Get.ensures.begins, x)) _ c.serve_get.result (site_is (g.D.Door.settings c.begin-in-Get.new.self) c.args.settings.now c.args.zone c.in-Ok-asker_of.asker (c.begin-in-Get.ensures.settings ∙ c.requires.goes.site.same) c.in-Ok-asker_of.ensures) c.serve_get.ensures.stopped)
-
-pub returns-in-Ok-asker_of-2-clause-served : goal.returns-in-Ok-asker_of-2-clause-served
-returns-in-Ok-asker_of-2-clause-served g c =
-    let asks_so = asks.Listing c.in-Listing.command c.in-Listing.listing in
-    let e : asked_of c.args.settings.now.largest c.args.head.now ≡ asks_so = sym c.requires.asks ∙ c.in-Listing.is in
-    let quiet = sym (waits_so c.args.settings.now.largest c.args.head.now asks_so ∙ ap (λ (a : Asked). is_awaited (body_use c.args.settings.now.largest c.args.head.now a)) (sym e)) in
-    asked_served g.D.Door.tells g.D.Door.alone (site_of c.args.settings.now c.args.zone) c.args.head.now c.args.asked asks_so c.args.form _ _
-    (use_of c.args.settings.now.largest c.args.head.now) c.in-Listing.is c.serve_listing.result
-    (unwanted_served g.D.Door.tells g.D.Door.alone (site_of c.args.settings.now c.args.zone) c.args.form asks_so _ (g.D.Door.told c.begin-in-Listing.new.self) _ c.requires.goes.may c.begin-in-Listing.ensures.begins
-    c.args.head.now (use_of c.args.settings.now.largest c.args.head.now) refl quiet _ (ap (λ b. dropped_if (not b)) (c.is_unread-read.ensures ∙ ap is_unread c.requires.used) ∙ list_use c.args.settings.now.largest c.args.head.now c.in-Listing.command c.in-Listing.listing e)
-    refl (λ shut. c.requires.shut shut) _ c.serve_listing.result (site_is (g.D.Door.settings c.begin-in-Listing.new.self) c.args.settings.now c.args.zone c.in-Ok-asker_of-2.asker (c.begin-in-Listing.ensures.settings ∙ c.requires.goes.site.same) c.in-Ok-asker_of-2.ensures) c.serve_listing.ensures.served)
-
-pub returns-in-Ok-asker_of-2-clause-left : goal.returns-in-Ok-asker_of-2-clause-left
-returns-in-Ok-asker_of-2-clause-left g c =
-    let asks_so = asks.Listing c.in-Listing.command c.in-Listing.listing in
-    let e : asked_of c.args.settings.now.largest c.args.head.now ≡ asks_so = sym c.requires.asks ∙ c.in-Listing.is in
-    let quiet = sym (waits_so c.args.settings.now.largest c.args.head.now asks_so ∙ ap (λ (a : Asked). is_awaited (body_use c.args.settings.now.largest c.args.head.now a)) (sym e)) in
-    asked_left g.D.Door.tells g.D.Door.alone (site_of c.args.settings.now c.args.zone) c.args.head.now c.args.asked asks_so c.args.form _ _
-    (use_of c.args.settings.now.largest c.args.head.now) c.in-Listing.is (g.D.Door.found c.serve_listing.new.door) c.serve_listing.result
-    (unwanted_stopped g.D.Door.tells g.D.Door.alone (site_of c.args.settings.now c.args.zone) c.args.form asks_so _ (g.D.Door.told c.begin-in-Listing.new.self) _ c.requires.goes.may c.begin-in-Listing.ensures.begins
-    c.args.head.now (use_of c.args.settings.now.largest c.args.head.now) refl quiet _ (ap (λ b. dropped_if (not b)) (c.is_unread-read.ensures ∙ ap is_unread c.requires.used) ∙ list_use c.args.settings.now.largest c.args.head.now c.in-Listing.command c.in-Listing.listing e)
-    (g.D.Door.found c.serve_listing.new.door) (λ fault x. (g.D.Door.told c.begin-in-Listing.new.self, c.begin-in-Listing.ensures.begins, x)) _ c.serve_listing.result (site_is (g.D.Door.settings c.begin-in-Listing.new.self) c.args.settings.now c.args.zone c.in-Ok-asker_of-2.asker (c.begin-in-Listing.ensures.settings ∙ c.requires.goes.site.same) c.in-Ok-asker_of-2.ensures) c.serve_listing.ensures.stopped)
+    (use_of c.args.settings.now.largest c.args.head.now) c.in-Unfed.is (g.D.Door.found c.serve_command.new.door) c.serve_command.result
+    (unwanted_stopped g.D.Door.tells g.D.Door.alone (site_of c.args.settings.now c.args.zone) c.args.form asks_so _ (g.D.Door.told c.begin-in-Unfed.new.self) _ c.requires.goes.may c.begin-in-Unfed.ensures.begins
+    c.args.head.now (use_of c.args.settings.now.largest c.args.head.now) refl quiet _ (ap (λ b. dropped_if (not b)) (c.is_unread-read.ensures ∙ ap is_unread c.requires.used) ∙ unfed_use c.args.settings.now.largest c.args.head.now c.in-Unfed.command e)
+    (g.D.Door.found c.serve_command.new.door) (λ fault x. (g.D.Door.told c.begin-in-Unfed.new.self, c.begin-in-Unfed.ensures.begins, x)) _ c.serve_command.result (site_is (g.D.Door.settings c.begin-in-Unfed.new.self) c.args.settings.now c.args.zone c.in-Ok-asker_of.asker (c.begin-in-Unfed.ensures.settings ∙ c.requires.goes.site.same) c.in-Ok-asker_of.ensures) c.serve_command.ensures.stopped)
 
 pub returns-in_default-clause-served : goal.returns-in_default-clause-served
 returns-in_default-clause-served g c =
-    let refused = is_refused c.args.asked c.in_default.not-Put c.in_default.not-Get c.in_default.not-Listing in
+    let refused = is_refused c.args.asked c.in_default.not-Put c.in_default.not-Unfed in
     let plan_by = c.requires.used ∙ ap (body_use c.args.settings.now.largest c.args.head.now) (sym c.requires.asks) in
     refused_served g.D.Door.tells g.D.Door.alone (site_of c.args.settings.now c.args.zone) c.args.head.now c.args.asked refused c.args.settings.now.largest c.args.plan plan_by c.args.form
     (λ unread. c.requires.shut (sym (ap is_unread c.requires.used) ∙ unread))
@@ -145,7 +109,7 @@ returns-in_default-clause-served g c =
 
 pub returns-in_default-clause-left : goal.returns-in_default-clause-left
 returns-in_default-clause-left g c =
-    let refused = is_refused c.args.asked c.in_default.not-Put c.in_default.not-Get c.in_default.not-Listing in
+    let refused = is_refused c.args.asked c.in_default.not-Put c.in_default.not-Unfed in
     let plan_by = c.requires.used ∙ ap (body_use c.args.settings.now.largest c.args.head.now) (sym c.requires.asks) in
     refused_left g.D.Door.tells g.D.Door.alone (site_of c.args.settings.now c.args.zone) c.args.head.now c.args.asked refused c.args.settings.now.largest c.args.plan plan_by c.args.form
     (λ unread. c.requires.shut (sym (ap is_unread c.requires.used) ∙ unread))

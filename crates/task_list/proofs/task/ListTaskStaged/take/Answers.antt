@@ -20,4 +20,7 @@ pub returns-clause-steps : goal.returns-clause-steps
 returns-clause-steps c = λ t taken suits back.
     let reply = c.args.answered.reply in
     let next = c.go_on.new.self in
-    behind_row t next reply (subst (λ (u : ListTask). (next.stage ≡ Broken) ⊎ Takes u.request u.stage u.moved reply next.stage next.moved) taken.0 c.go_on.ensures.taken)
+    record {
+      looked = behind_row t next reply (subst (λ (u : ListTask). (next.stage ≡ Broken) ⊎ Takes u.request u.stage u.moved reply next.stage next.moved) taken.0 c.go_on.ensures.taken);
+      sound = c.go_on.ensures.sound;
+    }

@@ -1,0 +1,5 @@
+pub mod Ends
+pub mod Texts
+pub mod Writing
+pub mod Stopping
+pub mod Early

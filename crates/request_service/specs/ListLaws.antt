@@ -1,0 +1,176 @@
+-- The laws of a listing as a request.
+use Rattle.std.proofs.Common.{◌≡◌, ℕ, ◌≤◌, true, false, List, [], ◌++◌, length, Option, Some, None, refl, sym, ap, subst, arith}
+use Rattle.http_chunks.specs.declared.body.BodyEnd.{BodyEnd}
+use Rattle.object_words.specs.declared.bucket.Bucket.{Bucket}
+use Rattle.realm_model.specs.Accounts.{Account}
+use Rattle.realm_model.specs.Doors.{DoorView, actor_at}
+use Rattle.realm_model.specs.Histories.{account_of}
+use Rattle.realm_model.specs.Owns.{OwnEvent, own_events}
+use Rattle.realm_model.specs.Settings.{SettingsView}
+use Rattle.realm_door.specs.Turns.{MakesEvent}
+use Rattle.swift_auth.specs.declared.policy.Deed.TheVariants.{ListContainer}
+use Rattle.swift_reply.specs.declared.reply.ListingForm.{ListingForm}
+use Rattle.swift_requests.specs.declared.asked.Asked.{Asked}
+use Rattle.swift_requests.specs.declared.asked.Asked.TheVariants.{Unfed}
+use Rattle.swift_requests.specs.declared.asked.UnfedCommand.TheVariants.{Listing as asks_listing}
+use Rattle.task_words.specs.declared.outcome.Outcome.{Outcome}
+use Rattle.task_words.specs.declared.outcome.Outcome.TheVariants.{Done, BodyFailed, MovedOften}
+use Rattle.task_words.specs.declared.reply.MapReply.{MapReply}
+use Rattle.task_words.specs.declared.reply.MapReply.TheVariants.{Listed, Refused}
+use Rattle.task_words.specs.declared.reply.Refusal.TheVariants.{Unauthorized, Denied, NoContainer}
+use Rattle.task_words.specs.Rows.{row_refusal}
+use Rattle.task_list.specs.declared.request.ListRequest.{ListRequest}
+use Rattle.task_list.specs.declared.stage.Stage.{Stage}
+use Rattle.task_list.specs.declared.stage.Stage.TheVariants.{Look, Page, Head, Suggest, Broken, Ended}
+use Rattle.task_list.specs.Listed.{IsListOutcome}
+use Rattle.task_list.specs.Tasks.{IsOver, IsPast, IsSound, MayEnd as MayEndListing, Going, Looking, FitsAt, Steps, ended_in, is_broken, request_of, stage_of, fits}
+use Rattle.call_words.specs.Bodies.{read_whole, broken_off, IsWrong}
+use Rattle.call_words.specs.Calls.{IsBorneOut}
+use Rattle.call_words.proofs.Fates.{broken_has_list_reply}
+use Rattle.call_service.specs.Serving.{BearsOut}
+use Rattle.request_service.specs.declared.listing.Listing.{Listing}
+use Rattle.request_service.specs.Early.{early_end}
+use Rattle.request_service.specs.Listings.{task_of, command_of}
+use Rattle.request_service.specs.Requests.{Question, site_of, HasBytes, MayEnd, GoesOn, EndsSo, ShowsFront}
+
+abbrev asked_by : ListRequest × ListingForm → Asked
+asked_by c = Unfed (asks_listing c.0.command c.1)
+
+abbrev asks : ListRequest × ListingForm → Question
+asks c = record { zone = c.0.zone; asker = c.0.asker; asked = asked_by c }
+
+-- ---- also where nothing is told
+
+still_open : (stage : Stage) → ended_in stage ≡ None → IsOver stage → ⊥
+still_open (Ended outcome) none over = cc
+still_open stage none over = over
+
+pub onward : (t : Listing) → ended_in (stage_of (task_of t)) ≡ None → IsOver (stage_of (task_of t)) → ⊥
+onward t = still_open (stage_of (task_of t))
+
+pub begun : (t : Listing) → stage_of (task_of t) ≡ Look None → (IsOver (stage_of (task_of t)) → ⊥) × IsSound (stage_of (task_of t))
+begun t looks = subst (λ stage. (IsOver stage → ⊥) × IsSound stage) (sym looks) (λ over. over, tt)
+
+pub goes_on : (t u : Listing) → Steps (task_of t) (task_of u) → IsSound (stage_of (task_of t)) → IsSound (stage_of (task_of u)) × GoesOn None None []
+goes_on t u steps sound = (steps.sound, record { shows = λ reply shown. shown; brings = λ some. absurd (omega (arith, some)) })
+
+pub first : (t u : Listing) → Steps (task_of t) (task_of u) → stage_of (task_of t) ≡ Look None → [] {A = ℕ} ≡ []
+first t u steps looks = refl
+
+pub shows : (t : Listing) (reply : MapReply) → IsSound (stage_of (task_of t)) → None ≡ Some reply → HasBytes (asked_by (command_of t)) reply
+shows t reply sound is = cc
+
+-- ---- how it ends
+
+stage_ends : (c : ListRequest × ListingForm) (outcome : Outcome) → MayEndListing outcome → MayEnd (asked_by c) None outcome
+stage_ends c (Done (Listed rows)) may = record { has_reply = tt; by_event = refl; is_shown = λ reply shown. cc }
+stage_ends c (Done (Refused Unauthorized)) may = record { has_reply = tt; by_event = refl; is_shown = λ reply shown. cc }
+stage_ends c (Done (Refused (Denied rule))) may = record { has_reply = tt; by_event = refl; is_shown = λ reply shown. cc }
+stage_ends c (Done (Refused NoContainer)) may = record { has_reply = tt; by_event = refl; is_shown = λ reply shown. cc }
+stage_ends c MovedOften may = record { has_reply = tt; by_event = refl; is_shown = λ reply shown. cc }
+stage_ends c outcome may = absurd may
+
+ends_so : (stage : Stage) (outcome : Outcome) → IsSound stage → ended_in stage ≡ Some outcome → MayEndListing outcome
+ends_so (Ended found) outcome sound is = let same : found ≡ outcome = cc in subst MayEndListing same sound
+ends_so stage outcome sound is = cc
+
+pub may_end : (t : Listing) (outcome : Outcome) → IsSound (stage_of (task_of t)) → ended_in (stage_of (task_of t)) ≡ Some outcome → MayEnd (asked_by (command_of t)) None outcome
+may_end t outcome sound is = stage_ends (command_of t) outcome (ends_so (stage_of (task_of t)) outcome sound is)
+
+-- ---- no bytes
+
+pub unbrought : (c : ListRequest × ListingForm) (d : DoorView) → own_events d.seen (actor_at d) ≡ [] → [] {A = ℕ} ≡ []
+unbrought c d none = refl
+
+pub brings : (t u : Listing) (settings : SettingsView) (d e : DoorView) (moment : ℕ) → command_of u ≡ command_of t → fits (task_of u) settings e → MakesEvent settings moment d e → [] {A = ℕ} ≡ [] ++ []
+brings t u settings d e moment same f made = refl
+
+pub front : (t : Listing) (settings : SettingsView) (d : DoorView) (reply : MapReply) → fits (task_of t) settings d → None ≡ Some reply
+    → ShowsFront (site_of settings (asks (command_of t))) (asked_by (command_of t)) reply [] [] d
+front t settings d reply f is = cc
+
+-- ---- what is borne out
+
+done_borne : (stripe : ℕ) (r : ListRequest) (listing : ListingForm) (outcome : Outcome) (y : Account) (events : List OwnEvent) (body : List ℕ) → MayEndListing outcome → IsListOutcome r outcome y events
+    → IsBorneOut stripe r.zone r.asker (asked_by (r, listing)) read_whole body outcome [] y events
+done_borne stripe r listing (Done (Listed rows)) y events body may f = ((f, tt), tt, refl, (f.1).reads)
+done_borne stripe r listing (Done (Refused Unauthorized)) y events body may f = ((f, tt), tt, refl, (f.1).reads)
+done_borne stripe r listing (Done (Refused (Denied rule))) y events body may f = ((f, tt), tt, refl, (f.1).reads)
+done_borne stripe r listing (Done (Refused NoContainer)) y events body may f = ((f, tt), tt, refl, (f.1).reads)
+done_borne stripe r listing MovedOften y events body may f = ((f, tt), tt, refl, (f.2).reads)
+done_borne stripe r listing outcome y events body may f = absurd may
+
+end_right : (c : ListRequest × ListingForm) (settings : SettingsView) (d : DoorView) (outcome : Outcome) → MayEndListing outcome → IsListOutcome c.0 outcome (account_of settings d.seen (actor_at d)) (own_events d.seen (actor_at d))
+    → EndsSo (site_of settings (asks c)) (asked_by c) [] d outcome
+end_right c settings d (Done reply) may f = λ body. done_borne settings.stripe c.0 c.1 (Done reply) (account_of settings d.seen (actor_at d)) (own_events d.seen (actor_at d)) body may f
+end_right c settings d MovedOften may f = λ body. done_borne settings.stripe c.0 c.1 MovedOften (account_of settings d.seen (actor_at d)) (own_events d.seen (actor_at d)) body may f
+end_right c settings d outcome may f = absurd may
+
+stage_means : (r : ListRequest) (stage : Stage) (moved last : ℕ) (y : Account) (events : List OwnEvent) (outcome : Outcome) → FitsAt r stage moved y events last → ended_in stage ≡ Some outcome → IsListOutcome r outcome y events
+stage_means r (Ended found) moved last y events outcome f is = let same : found ≡ outcome = cc in subst (λ o. IsListOutcome r o y events) same f
+stage_means r stage moved last y events outcome f is = cc
+
+pub right : (t : Listing) (settings : SettingsView) (d : DoorView) (outcome : Outcome) → IsSound (stage_of (task_of t)) → fits (task_of t) settings d → ended_in (stage_of (task_of t)) ≡ Some outcome
+    → EndsSo (site_of settings (asks (command_of t))) (asked_by (command_of t)) [] d outcome
+right t settings d outcome sound f is =
+    end_right (command_of t) settings d outcome (ends_so (stage_of (task_of t)) outcome sound is)
+    (stage_means (request_of (task_of t)) (stage_of (task_of t)) _ _ (account_of settings d.seen (actor_at d)) (own_events d.seen (actor_at d)) outcome f.2 is)
+
+-- ---- behind a body that broke off
+
+module _ (stripe : ℕ) (r : ListRequest) (listing : ListingForm) (why : BodyEnd) (wrong : IsWrong why) (moved last : ℕ) (y : Account) (events : List OwnEvent) where
+  abbrev Right : Outcome → Type 0
+  Right outcome = IsBorneOut stripe r.zone r.asker (asked_by (r, listing)) (broken_off why) [] outcome [] y events
+
+  still_going : Going r moved y events last → (row : Bucket) → Looking r row y last → Right BodyFailed
+  still_going g row l = (
+    record {
+      by_row = record {
+        look = l.look;
+        is_last = l.is_last;
+        in_zone = l.in_zone;
+        under_name = l.under_name;
+        refuses = subst (λ o. row_refusal r.asker o ListContainer ≡ None) (sym l.showed) l.granted;
+      };
+      unchanged = g.unchanged;
+    },
+    broken_has_list_reply listing why wrong,
+    refl,
+    g.reads,
+  )
+
+  right_at_first : (stage : Stage) → is_broken stage ≡ false → IsPast stage → FitsAt r stage moved y events last → Right (early_end (ended_in stage))
+  right_at_first (Look known) going past f = absurd past
+  right_at_first (Page m next) going past f = still_going f.0 m.row f.1
+  right_at_first (Head m wanted) going past f = still_going f.0 m.row f.1
+  right_at_first (Suggest m s) going past f = still_going f.0 m.row f.1
+  right_at_first Broken going past f = let clash : true ≡ false = going in absurd (cc)
+  right_at_first (Ended (Done (Refused Unauthorized))) going past f = ((f, tt), tt, refl, (f.1).reads)
+  right_at_first (Ended (Done (Refused (Denied rule)))) going past f = ((f, tt), tt, refl, (f.1).reads)
+  right_at_first (Ended (Done (Refused NoContainer))) going past f = ((f, tt), tt, refl, (f.1).reads)
+  right_at_first (Ended (Done (Refused refusal))) going past f = absurd past
+  right_at_first (Ended (Done (Listed rows))) going past f =
+      let l = f.0 in (
+        record {
+          by_row = record {
+            look = l.look;
+            is_last = l.is_last;
+            in_zone = l.in_zone;
+            under_name = l.under_name;
+            refuses = subst (λ o. row_refusal r.asker o ListContainer ≡ None) (sym l.showed) l.granted;
+          };
+          unchanged = (f.1).unchanged;
+        },
+        broken_has_list_reply listing why wrong,
+        refl,
+        (f.1).reads,
+      )
+  right_at_first (Ended MovedOften) going past f =
+      (record { by_row = f.0; unchanged = (f.2).unchanged }, broken_has_list_reply listing why wrong, refl, (f.2).reads)
+  right_at_first (Ended (Done reply)) going past f = absurd f.0
+  right_at_first (Ended outcome) going past f = absurd f
+
+pub early : (t u : Listing) (settings : SettingsView) (e : DoorView) (why : BodyEnd) → stage_of (task_of t) ≡ Look None → Steps (task_of t) (task_of u) → is_broken (stage_of (task_of u)) ≡ false → fits (task_of u) settings e → IsWrong why
+    → BearsOut (site_of settings (asks (command_of u))) (asked_by (command_of u)) (broken_off why) [] (early_end (ended_in (stage_of (task_of u)))) [] e
+early t u settings e why looks steps going f wrong =
+    right_at_first settings.stripe (request_of (task_of u)) u.listing why wrong _ _ (account_of settings e.seen (actor_at e)) (own_events e.seen (actor_at e)) (stage_of (task_of u)) going (steps.looked looks) f.2

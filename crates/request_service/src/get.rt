@@ -1,0 +1,97 @@
+//! A GET or a HEAD of an object.
+ghost use Rattle.std.specs.Prelude.{◌≡◌};
+ghost use Rattle.task_words.specs.Answers.{span_of};
+
+use crate::request::Request;
+use call_words::{push_map_reply, push_outcome};
+use http_model::ReplyForm;
+use std::alloc::{AllocError, Global};
+use task_get::{GetRequest, GetTask};
+use task_words::{Outcome, Span};
+
+/// The range that counts for the text of the reply.
+fn span_in(request: &GetRequest) -> Option<Span>
+    ensures { result ≡ span_of request.now.get }
+{
+    if request.get.body {
+        request.get.span
+    } else {
+        None
+    }
+}
+
+impl Request for GetTask {
+    ghost use Rattle.std.specs.Prelude.{◌≡◌, false};
+    ghost use Rattle.swift_requests.specs.declared.asked.Asked.TheVariants.{Unfed};
+    ghost use Rattle.swift_requests.specs.declared.asked.UnfedCommand.TheVariants.{Get};
+    ghost use Rattle.task_get.specs.Stages.{IsSound, ended_in};
+    ghost use Rattle.task_get.specs.declared.stage.Stage.TheVariants.{Look};
+    ghost use Rattle.task_get.specs.Tasks.{stage_of, shown_of};
+    ghost use Rattle.request_service.specs.Gets.{brought_at, whole_at};
+    ghost use Rattle.request_service.specs.GetLaws.{onward, begun, goes_on, first, shows, may_end, unbrought, brings, front, right, early};
+
+    ghost question = { λ r. record { zone = r.zone; asker = r.asker; asked = Unfed (Get r.get) } };
+
+    ghost begins = { λ t. stage_of t ≡ Look };
+
+    ghost is_sound = { λ t. IsSound (stage_of t) };
+
+    ghost ended = { λ t. ended_in (stage_of t) };
+
+    ghost is_broken = { λ t. false };
+
+    ghost shown = { shown_of };
+
+    ghost brought = { brought_at };
+
+    ghost whole = { whole_at };
+
+    fn ended(&self) -> Option<&Outcome> {
+        self.ended()
+    }
+
+    fn is_broken(&self) -> bool {
+        false
+    }
+
+    fn push_head(&self, out: &mut Vec<u8>, form: ReplyForm) -> Result<(), AllocError> {
+        match self.shown() {
+            Some(reply) => push_map_reply(out, reply, span_in(self.request()), form),
+            None => unreachable!(),
+        }
+    }
+
+    fn push_reply(
+        &self,
+        _alloc: Global,
+        out: &mut Vec<u8>,
+        outcome: &Outcome,
+        form: ReplyForm,
+    ) -> Result<(), AllocError> {
+        push_outcome(out, outcome, span_in(self.request()), form)
+    }
+
+    ghost unfed = { λ c. tt };
+
+    ghost onward = { onward };
+
+    ghost begun = { begun };
+
+    ghost goes_on = { goes_on };
+
+    ghost first = { first };
+
+    ghost shows = { shows };
+
+    ghost may_end = { may_end };
+
+    ghost unbrought = { unbrought };
+
+    ghost brings = { brings };
+
+    ghost front = { front };
+
+    ghost right = { right };
+
+    ghost early = { early };
+}
