@@ -4,7 +4,7 @@ use Rattle.realm_model.specs.Owns.{OwnEvent}
 use Rattle.realm_model.specs.declared.op.Op.{Op}
 use Rattle.realm_model.specs.declared.op.Op.TheVariants.{BucketRead, Prepare, Complete, Cancel, HeadWrite, TailMake, Announce}
 use Rattle.realm_model.specs.declared.event.Reply.{Reply}
-use Rattle.index_update.specs.Paths.{turned, ready, prepared, announced, changed, refused, adrift, finished as ended, astray as off}
+use Rattle.index_update.specs.Paths.{turned, ready, prepared, announced, changed, refused, adrift, finished as over, astray as off}
 use Rattle.task_put.specs.Orders.{Path, begun, feeding, updating, finished, astray, path_after, path_from, path_of, IsOrdered, IsFinished}
 use Rattle.task_put.proofs.Ordering.{finished_ordered}
 use Rattle.call_words.specs.Events.{is_of_put, AreOfPut}
@@ -47,7 +47,7 @@ kind_is (updating announced) op reply = inr tt
 kind_is (updating changed) op reply = inr tt
 kind_is (updating refused) op reply = inr tt
 kind_is (updating adrift) op reply = inr tt
-kind_is (updating ended) op reply = inr tt
+kind_is (updating over) op reply = inr tt
 kind_is (updating off) op reply = inr tt
 kind_is finished op reply = inr tt
 kind_is astray op reply = inr tt
@@ -62,4 +62,4 @@ from_path path (e ∷ es) ordered =
     ]
 
 pub of_put : (events : List OwnEvent) → IsFinished (path_of events) → AreOfPut events
-of_put events finished = from_path begun events (finished_ordered (path_of events) finished)
+of_put events ended = from_path begun events (finished_ordered (path_of events) ended)

@@ -1,5 +1,5 @@
 -- The reply to a PUT.
-use Rattle.std.proofs.Common.{◌≡◌, [], None, refl}
+use Rattle.std.proofs.Common.{◌≡◌, None, refl}
 use Rattle.http_chunks.specs.declared.body.BodyEnd.{BodyEnd}
 use Rattle.http_chunks.specs.declared.body.BodyEnd.TheVariants as Body
 use Rattle.http_model.specs.declared.reply.ReplyForm.{ReplyForm}
@@ -7,7 +7,7 @@ use Rattle.call_words.specs.Bodies.{Fate, broken_off, IsWrong}
 use Rattle.call_words.specs.Texts.{outcome_reply, told_reply, HasReply, front_if, broken_text}
 use Rattle.call_words.proofs.Fates.{broken_has_reply}
 use Rattle.task_words.specs.declared.outcome.Outcome.{Outcome}
-use Rattle.task_words.specs.declared.outcome.Outcome.TheVariants.{Done, BodyFailed, Busy, MovedOften, RacedOften, LateTag, LateRead, NoSpace}
+use Rattle.task_words.specs.declared.outcome.Outcome.TheVariants.{Done, BodyFailed, Busy, MovedOften, LateTag, NoSpace}
 use Rattle.task_words.specs.declared.reply.MapReply.TheVariants.{Stored, Refused}
 use Rattle.put_service.specs.Standing.{IsEndAt}
 use Rattle.put_service.specs.Parts.{fate_of, text_of}

@@ -1,5 +1,5 @@
 -- A PUT as a whole: what its parts come to, beside what was written.
-use Rattle.std.proofs.Common.{◌≡◌, ℕ, inl, inr, Bool, true, false, List, [], Option, None, refl, sym, ap, ◌∙◌, subst}
+use Rattle.std.proofs.Common.{◌≡◌, ℕ, inl, inr, Bool, List, [], Option, None, refl, sym, ap, ◌∙◌, subst}
 use Rattle.std.specs.Io.KnownBytes.{Appends}
 use Rattle.gw_io.specs.Ends.{EndsState}
 use Rattle.http_model.specs.declared.reply.ReplyForm.{ReplyForm}
@@ -17,7 +17,7 @@ use Rattle.http_chunks.specs.declared.body.BodyEnd.TheVariants as Body
 use Rattle.realm_door.specs.declared.stepping.Stepping.{Stepping}
 use Rattle.task_put.specs.Bodies.{no_bytes}
 use Rattle.task_put.specs.Tasks.{request_of as stages_request}
-use Rattle.task_put.specs.Runs.{request_of, stage_of}
+use Rattle.task_put.specs.Runs.{stage_of}
 use Rattle.task_put.specs.declared.stage.PutRequest.{PutRequest}
 use Rattle.task_put.specs.declared.stage.Draft.{Draft}
 use Rattle.task_put.specs.declared.stage.Stage.{Stage}

@@ -1,9 +1,8 @@
 -- A PUT whose client waits for a 100.
-use Rattle.std.proofs.Common.{◌≡◌, ℕ, inl, inr, Bool, true, false, List, [], Option, None, Some, refl, sym, ap, ◌∙◌, subst}
+use Rattle.std.proofs.Common.{◌≡◌, ℕ, inl, inr, Bool, true, false, List, [], None, Some, refl, sym, ◌∙◌, subst}
 use Rattle.std.specs.Io.KnownBytes.{Consumes, Appends}
-use Rattle.std.proofs.KnownBytes.{Appends-nil, Consumes-nil}
+use Rattle.std.proofs.KnownBytes.{Appends-nil}
 use Rattle.http_model.specs.declared.reply.ReplyForm.{ReplyForm}
-use Rattle.http_intake.specs.Intake.{IntakeState}
 use Rattle.realm_model.specs.Doors.{DoorView, actor_at}
 use Rattle.realm_model.specs.Histories.{Legal, account_of}
 use Rattle.realm_model.specs.Owns.{own_events}
@@ -29,8 +28,8 @@ use Rattle.task_put.specs.declared.stage.Stage.{Stage}
 use Rattle.task_put.specs.declared.stage.Stage.TheVariants.{Feeding, Ended}
 use Rattle.task_put.specs.declared.task.PutTask.{PutTask}
 use Rattle.call_words.specs.Bodies.{unread}
-use Rattle.call_words.specs.Texts.{HasReply, told_reply, outcome_reply, front_if, text_if}
-use Rattle.call_service.specs.Serving.{Site, Side, side, is_by_end, AppendsFront, LeavesText, IsServed, IsStopped}
+use Rattle.call_words.specs.Texts.{HasReply, told_reply, outcome_reply, front_if}
+use Rattle.call_service.specs.Serving.{Site, Side, is_by_end, AppendsFront, LeavesText, IsServed, IsStopped}
 use Rattle.door_moments.specs.Acts.{Asks}
 use Rattle.call_service.specs.declared.fault.ServeFault.{ServeFault}
 use Rattle.call_service.specs.declared.fault.ServeFault.TheVariants as faults

@@ -25,7 +25,7 @@ pub(crate) enum Pause {
 }
 
 /// Makes the event that comes next, or says why none comes.
-#[tactic(auto, using(crate::proofs::Pausing::steady_wanting, crate::proofs::Pausing::steady_ready, crate::proofs::Pausing::by_body))]
+#[tactic(auto, using(crate::proofs::Pausing::steady_wanting, crate::proofs::Pausing::steady_ready))]
 fn take_step<D: Door, C: Clock>(
     alloc: Global,
     task: &mut Stepping<PutTask>,

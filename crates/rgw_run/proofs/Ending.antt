@@ -18,7 +18,7 @@ use Rattle.rgw_script.specs.declared.fault.ScriptFault.{ScriptFault}
 use Rattle.rgw_script.specs.declared.fault.ScriptFault.TheVariants as Script
 use Rattle.rgw_run.specs.declared.once_end.OnceEnd.{OnceEnd}
 use Rattle.rgw_run.specs.Scripted.{RunsScripted, script_status}
-use Rattle.rgw_run.specs.Runs.{RunsByClock, with_clock, RunsAt, RunsBy, RunsOnce, Runs, end_status, fault_status, door_status, status_by}
+use Rattle.rgw_run.specs.Runs.{RunsByClock, with_clock, RunsAt, RunsBy, RunsOnce, RunsAlone, end_status, fault_status, door_status, status_by}
 
 -- ---- memory was wanting before anything was done
 
@@ -47,7 +47,7 @@ scripted_unmade None ends realm none = tt
 scripted_unmade (Some script) ends realm none = inl (record { none = none; same = refl; memory = refl })
 
 -- the words were not read for want of memory
-pub unread : (once : Option RunWords) (script : Option RunWords) (ends : EndsState) (realm : Option RealmView) → realm ≡ None → IsSome once → Runs once script ends ends realm 4
+pub unread : (once : Option RunWords) (script : Option RunWords) (ends : EndsState) (realm : Option RealmView) → realm ≡ None → IsSome once → RunsAlone once script ends ends realm 4
 unread (Some once) script ends realm none there = record {
   refused = (λ e. absurd (omega (arith, e)), λ e. absurd (cc));
   nothing = λ e. absurd (cc);
@@ -56,7 +56,7 @@ unread (Some once) script ends realm none there = record {
 }
 unread None script ends realm none there = absurd (cc)
 
-pub unread_script : (once : Option RunWords) (script : Option RunWords) (ends : EndsState) (realm : Option RealmView) → once ≡ None → realm ≡ None → IsSome script → Runs once script ends ends realm 4
+pub unread_script : (once : Option RunWords) (script : Option RunWords) (ends : EndsState) (realm : Option RealmView) → once ≡ None → realm ≡ None → IsSome script → RunsAlone once script ends ends realm 4
 unread_script None (Some script) ends realm other none there = record {
   refused = (λ e. absurd (omega (arith, e)), λ e. let clash : Some script ≡ None = e.1 in absurd (cc));
   nothing = λ _ e. let clash : Some script ≡ None = e in absurd (cc);
@@ -109,7 +109,7 @@ scripted_not_refused script old new realm status (inr run) e = script_not_refuse
 
 -- ---- by the words
 
-asked_once : (asked : RunWords) (old new : EndsState) (realm : Option RealmView) (status : ℕ) → RunsOnce asked old new realm status → Runs (Some asked) None old new realm status
+asked_once : (asked : RunWords) (old new : EndsState) (realm : Option RealmView) (status : ℕ) → RunsOnce asked old new realm status → RunsAlone (Some asked) None old new realm status
 asked_once asked old new realm status runs = record {
   refused = (λ e. absurd (once_not_refused asked.now asked.settings asked.bucket old new realm status runs e), λ e. let clash : Some asked ≡ None = e.0 in absurd (cc));
   nothing = λ e _. let clash : Some asked ≡ None = e in absurd (cc);
@@ -119,12 +119,12 @@ asked_once asked old new realm status runs = record {
 
 -- the words ask to serve a connection
 pub runs_once : (once : Option RunWords) (script : Option RunWords) (asked : RunWords) (old new : EndsState) (realm : Option RealmView) (status : ℕ)
-    → once ≡ Some asked → script ≡ None → RunsOnce asked old new realm status → Runs once script old new realm status
+    → once ≡ Some asked → script ≡ None → RunsOnce asked old new realm status → RunsAlone once script old new realm status
 runs_once once script asked old new realm status is none runs =
-    subst (λ o. Runs o script old new realm status) (sym is)
-    (subst (λ s. Runs (Some asked) s old new realm status) (sym none) (asked_once asked old new realm status runs))
+    subst (λ o. RunsAlone o script old new realm status) (sym is)
+    (subst (λ s. RunsAlone (Some asked) s old new realm status) (sym none) (asked_once asked old new realm status runs))
 
-asked_script : (asked : RunWords) (old new : EndsState) (realm : Option RealmView) (status : ℕ) → RunsScripted asked old new realm status → Runs None (Some asked) old new realm status
+asked_script : (asked : RunWords) (old new : EndsState) (realm : Option RealmView) (status : ℕ) → RunsScripted asked old new realm status → RunsAlone None (Some asked) old new realm status
 asked_script asked old new realm status runs = record {
   refused = (λ e. absurd (scripted_not_refused asked old new realm status runs e), λ e. let clash : Some asked ≡ None = e.1 in absurd (cc));
   nothing = λ _ e. let clash : Some asked ≡ None = e in absurd (cc);
@@ -134,10 +134,10 @@ asked_script asked old new realm status runs = record {
 
 -- the words ask to run a script
 pub runs_script : (once : Option RunWords) (script : Option RunWords) (asked : RunWords) (old new : EndsState) (realm : Option RealmView) (status : ℕ)
-    → once ≡ None → script ≡ Some asked → RunsScripted asked old new realm status → Runs once script old new realm status
+    → once ≡ None → script ≡ Some asked → RunsScripted asked old new realm status → RunsAlone once script old new realm status
 runs_script once script asked old new realm status none is runs =
-    subst (λ o. Runs o script old new realm status) (sym none)
-    (subst (λ s. Runs None s old new realm status) (sym is) (asked_script asked old new realm status runs))
+    subst (λ o. RunsAlone o script old new realm status) (sym none)
+    (subst (λ s. RunsAlone None s old new realm status) (sym is) (asked_script asked old new realm status runs))
 
 -- a script over the realm that is left
 pub has_run : (script : RunWords) (old new : EndsState) (made : RealmView) (realm : Option RealmView) (moment : ℕ) (result : Result (Unit {0}) ScriptFault) (status : ℕ)

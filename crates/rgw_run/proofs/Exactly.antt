@@ -47,7 +47,7 @@ use Rattle.once_law.proofs.Moments.{clocks_at}
 use Rattle.rgw_run.specs.declared.once_end.OnceEnd.{OnceEnd}
 use Rattle.rgw_run.specs.declared.once_end.OnceEnd.TheVariants.{Unmade, Unbegun, Ended, Stopped}
 use Rattle.rgw_words.specs.declared.run_words.RunWords.{RunWords}
-use Rattle.rgw_run.specs.Runs.{door_at, making, Prepares, with_clock, Leaves, RunsAt, RunsBy, RunsOnce, Runs}
+use Rattle.rgw_run.specs.Runs.{door_at, making, Prepares, with_clock, Leaves, RunsAt, RunsBy, RunsOnce, RunsAlone}
 use Rattle.rgw_run.specs.Exact.{fixed_at, AreExact, calls_before, calls_in, IsExactEnd, RunsExactly, RunsExactlyIf}
 use Rattle.rgw_run.proofs.Container.{IsPrepared, none_prepared, one_prepared}
 use Rattle.rgw_run.proofs.Told.{AreMoment, both_are, calls_at}
@@ -255,7 +255,7 @@ exactly_if once old new realm status = by_now once.now
     by_now None runs = tt
     by_now (Some moment) runs = exactly once.settings once.bucket moment old new realm status runs
 
-pub exactly_of : (words : Option RunWords) (script : Option RunWords) (old new : EndsState) (realm : Option RealmView) (status : ℕ) → Runs words script old new realm status → RunsExactlyIf words old new realm status
+pub exactly_of : (words : Option RunWords) (script : Option RunWords) (old new : EndsState) (realm : Option RealmView) (status : ℕ) → RunsAlone words script old new realm status → RunsExactlyIf words old new realm status
 exactly_of None script old new realm status runs = tt
 exactly_of (Some once) script old new realm status runs = exactly_if once old new realm status runs.once_runs
 

@@ -4,3 +4,4 @@ pub mod Container
 pub mod Told
 pub mod Exactly
 pub mod InTime
+pub mod Serving

@@ -1,4 +1,5 @@
 pub mod Scripted
 pub mod Runs
+pub mod Served
 pub mod Preparing
 pub mod Exact

@@ -164,9 +164,9 @@ RunsBy (Some moment) settings bucket old new realm status = RunsAt settings buck
 abbrev pub RunsOnce : RunWords → EndsState → EndsState → Option RealmView → ℕ → Type 0
 RunsOnce once old new realm status = RunsBy once.now once.settings once.bucket old new realm status
 
--- What a run with such words comes to, which ask to serve a connection, or to run a script, or neither; where they are refused
--- nothing happens.
-pub record Runs (once : Option RunWords) (script : Option RunWords) (old new : EndsState) (realm : Option RealmView) (status : ℕ) : Type 0 where
+-- What a run with such words comes to, which ask to serve one connection, or to run a script, or neither, and then nothing
+-- happens.
+pub record RunsAlone (once : Option RunWords) (script : Option RunWords) (old new : EndsState) (realm : Option RealmView) (status : ℕ) : Type 0 where
   pub refused : (status ≡ 1) ↔ ((once ≡ None) × (script ≡ None))
   pub nothing : once ≡ None → script ≡ None → (realm ≡ None) × (new ≡ old)
   pub once_runs : IfSome once (λ asked. RunsOnce asked old new realm status)

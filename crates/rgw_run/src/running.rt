@@ -1,4 +1,4 @@
-// A run of the program, over any input, output and clock.
+// A run of the program that serves one connection or plays a script, over any input, output and clock.
 ghost use Rattle.std.specs.Prelude.{◌≡◌, ◌^◌, IfSome, IsSome, None, Some, [], length, map, string_bytes, IfOk, IfErr, OnOk, OnErr};
 ghost use Rattle.swift_auth.specs.Users.{standard_user, account_of};
 ghost use Rattle.realm_core.specs.Realms.{new_realm};
@@ -9,7 +9,7 @@ ghost use Rattle.rgw_words.specs.Words.{once_of, script_of};
 ghost use Rattle.turn_cell.specs.declared.machine.DoorFault.TheVariants.{Worn};
 ghost use Rattle.rgw_run.specs.Exact.{RunsExactlyIf};
 ghost use Rattle.rgw_run.specs.Preparing.{HasPrepared, StopsPreparing};
-ghost use Rattle.rgw_run.specs.Runs.{Runs, RunsOnce, RunsByClock, RunsAt, HasRunCause, IsInTime, Leaves, end_of, status_by, end_status, fault_status, door_status};
+ghost use Rattle.rgw_run.specs.Runs.{RunsAlone, RunsOnce, RunsByClock, RunsAt, HasRunCause, IsInTime, Leaves, end_of, status_by, end_status, fault_status, door_status};
 
 use crate::once_end::OnceEnd;
 use crate::scripted::run_scripted;
@@ -27,18 +27,8 @@ use std::alloc::{AllocError, Global};
 use swift_auth::Users;
 use turn_cell::DoorFault;
 
-/// Does what the words ask, from the input to the output, leaves the realm that it made, and answers the
-/// status of the program:
-///
-/// | Status | Comes where |
-/// |---|---|
-/// | 0 | the requests of the input ended with it, or with one that closes the connection; all lines of the script were played |
-/// | 1 | the words are refused |
-/// | 2, 3 | the input, the output failed |
-/// | 4 | memory was wanting |
-/// | 5 | the requests end inside of one, with a refusal, or with a form that is not taken yet; a line of the script is bad |
-/// | 7 | the realm has all the events that it may have |
-pub fn run<S: Source, K: Sink, C: Clock>(
+/// Does what the words ask, where they ask for no server, and leaves the realm that it made.
+pub(crate) fn run_alone<S: Source, K: Sink, C: Clock>(
     alloc: Global,
     words: &[String],
     input: &mut S,
@@ -47,7 +37,7 @@ pub fn run<S: Source, K: Sink, C: Clock>(
     realm: &mut Option<Realm>,
 ) -> Status
     requires { realm.old ≡ None }
-    ensures runs { Runs (once_of (map string_bytes words.now)) (script_of (map string_bytes words.now))
+    ensures runs { RunsAlone (once_of (map string_bytes words.now)) (script_of (map string_bytes words.now))
         (⟦<(S, K, C) as Ends>⟧.ends (input.old, output.old, clock.old))
         (⟦<(S, K, C) as Ends>⟧.ends (input.new, output.new, clock.new)) realm.new result.number }
 
@@ -83,7 +73,7 @@ fn run_other<S: Source, K: Sink, C: Clock>(
 ) -> Status
     requires none { once_of (map string_bytes words.now) ≡ None }
     requires new { realm.old ≡ None }
-    ensures runs { Runs (once_of (map string_bytes words.now)) (script_of (map string_bytes words.now))
+    ensures runs { RunsAlone (once_of (map string_bytes words.now)) (script_of (map string_bytes words.now))
         (⟦<(S, K, C) as Ends>⟧.ends (input.old, output.old, clock.now))
         (⟦<(S, K, C) as Ends>⟧.ends (input.new, output.new, clock.now)) realm.new result.number }
     ensures untouched { result.number ≡ 1 → (input.new ≡ input.old) × (output.new ≡ output.old) }

@@ -1,14 +1,25 @@
-// A run over the standard streams and the system's clock.
+// A run over the standard streams, the system's clock and its TCP.
 ghost use Rattle.std.specs.Prelude.{◌≡◌, ◌≢◌};
 ghost use Rattle.std.specs.IoError.{error_kind};
 
-use crate::running::run;
+use crate::program::run;
 use crate::status::Status;
 use gw_io::{SystemClock, standard_input, standard_output};
+use net_io::{AnnouncedNet, SystemPause, TcpNet};
 use std::io::ErrorKind;
+use std::net::{Net, TcpListener, TcpStream};
 use std::process::ExitCode;
 use std::rt::{Clock, Env};
+use std::sync::Wait;
+use std::thread::Threads;
+use std::time::Duration;
 use std::{env, io};
+
+/// A read or a write of a connection that waits so long fails, so a client that stops gives its worker back.
+const WAIT_SECONDS: u64 = 60;
+
+/// How long the jobs pause between two rounds.
+const PAUSE_MILLIS: u64 = 20;
 
 /// The words behind the program's name.
 fn arguments<R: Env + AllocGlobal>(rt: &R) -> io::Result<Vec<String>> {
@@ -26,10 +37,11 @@ fn status_without_words(error: &io::Error) -> Status
     }
 }
 
-/// A run over the real ends. Neither stream is buffered here, so nothing is left to flush.
+/// A run over the real ends. No stream is buffered here, so nothing is left to flush.
 fn run_with_system<R>(rt: R) -> Status
 where
-    R: Env + AllocGlobal + Input + Print + Eprint + Clock + Copy + Send,
+    R: Env + AllocGlobal + Input + Print + Eprint + Clock + Wait + Threads + Copy + Send + Sync,
+    R: Net<Listener = TcpListener, Stream = TcpStream>,
 {
     let words = match arguments(&rt) {
         Ok(words) => words,
@@ -38,13 +50,19 @@ where
     let mut input = standard_input(&rt);
     let mut output = standard_output(&rt);
     let mut clock = SystemClock::new(rt);
+    let wait = Some(Duration::from_secs(WAIT_SECONDS));
+    let mut net = AnnouncedNet::new(rt, TcpNet::new(rt, wait));
+    let pause = SystemPause::new(rt, PAUSE_MILLIS);
     let mut realm = None;
     run(
+        &rt,
         rt.alloc(),
         &words,
         &mut input,
         &mut output,
         &mut clock,
+        &mut net,
+        &pause,
         &mut realm,
     )
 }
@@ -53,7 +71,8 @@ where
 /// 0 is told on standard error, in the line `rgw: status N`.
 pub fn run_on_system<R>(rt: R) -> ExitCode
 where
-    R: Env + AllocGlobal + Input + Print + Eprint + Clock + Copy + Send,
+    R: Env + AllocGlobal + Input + Print + Eprint + Clock + Wait + Threads + Copy + Send + Sync,
+    R: Net<Listener = TcpListener, Stream = TcpStream>,
 {
     let status = run_with_system(rt);
     if status.number != 0 {

@@ -16,6 +16,7 @@ use Rattle.realm_model.specs.declared.op.Op.{Op}
 use Rattle.swift_auth.specs.Users.{standard_user, account_of}
 use Rattle.turn_cell.specs.declared.machine.DoorFault.{DoorFault}
 use Rattle.turn_cell.specs.declared.machine.DoorFault.TheVariants as doors
+use Rattle.task_words.specs.declared.asker.Asker.{Asker}
 use Rattle.rgw_script.specs.Faults.{door_fault}
 use Rattle.rgw_script.specs.Casts.{under}
 use Rattle.rgw_script.specs.Runs.{first_door, made, opening, Unmade, IsUnmade, RunsLines, RunsScript, HasScriptCause}
@@ -135,13 +136,13 @@ unmade_counts settings plan history read write fault unmade = record {
 -- ---- the scene before the first line
 
 -- nobody has a name, and the container stands
-pub opens : (settings : SettingsView) (plan : ScriptPlan) (cast : Cast) (history : List Event) → ((name : List ℕ) → under cast name ≡ None) → history ≡ made settings plan.bucket plan.moment
-    → scene_of (record { moment = plan.moment; next = 2; cast = cast }) history ≡ opening settings plan
-opens settings plan cast history none is = λ i. record { moment = plan.moment; parts = λ name. part_of (none name i); next = 2; history = is i }
+pub opens : (settings : SettingsView) (plan : ScriptPlan) (cast : Cast) (asker : Asker) (history : List Event) → ((name : List ℕ) → under cast name ≡ None) → history ≡ made settings plan.bucket plan.moment
+    → scene_of (record { moment = plan.moment; next = 2; cast = cast; asker = asker }) history ≡ opening settings plan
+opens settings plan cast asker history none is = λ i. record { moment = plan.moment; parts = λ name. part_of (none name i); next = 2; history = is i }
 
-pub opens_holds : (settings : SettingsView) (plan : ScriptPlan) (cast : Cast) (realm : RealmView) → ((name : List ℕ) → under cast name ≡ None) → IsOpen settings realm → AreBelow 2 realm.history
-    → Holds settings (record { moment = plan.moment; next = 2; cast = cast }) realm
-opens_holds settings plan cast realm none is_open below = record {
+pub opens_holds : (settings : SettingsView) (plan : ScriptPlan) (cast : Cast) (asker : Asker) (realm : RealmView) → ((name : List ℕ) → under cast name ≡ None) → IsOpen settings realm → AreBelow 2 realm.history
+    → Holds settings (record { moment = plan.moment; next = 2; cast = cast; asker = asker }) realm
+opens_holds settings plan cast asker realm none is_open below = record {
   is_open = is_open;
   below = below;
   standing = record {

@@ -35,7 +35,7 @@ any_err (Err e) P p = p
 
 -- the script with another cast
 abbrev pub recasted : Script → Cast → Script
-recasted script cast = record { moment = script.moment; next = script.next; cast = cast }
+recasted script cast = record { moment = script.moment; next = script.next; cast = cast; asker = script.asker }
 
 -- what taking out the actor of a name leaves
 pub record Takes (script : Script) (cast : Cast) (name : List ℕ) (r : Option Active) : Type 0 where
@@ -79,7 +79,7 @@ stopped settings script cast name (Some a) history takes some = (
 
 -- the script behind one actor more
 abbrev pub raised : Script → Cast → Script
-raised script cast = record { moment = script.moment; next = script.next + 1; cast = cast }
+raised script cast = record { moment = script.moment; next = script.next + 1; cast = cast; asker = script.asker }
 
 module _ (settings : SettingsView) (script : Script) (cast : Cast) (name : List ℕ) (a : Active) (zone : ℕ) (verb : Verb)
     (role : role_of a ≡ record { pass = script.next; zone = zone; verb = verb }) (by : Puts name (Some (Some a)) (under script.cast) (under cast)) where
@@ -298,7 +298,7 @@ memory_stops (Ok x) history is = tt
 memory_stops (Err e) history is = subst (StopsAt history) (sym is) tt
 
 pub comes_clock : (settings : SettingsView) (script : Script) (realm : RealmView) (moment : ℕ) (out : List ℕ) → out ≡ [] → Holds settings script realm
-    → ComesTo settings (lines.Clock moment) script (record { moment = moment; next = script.next; cast = script.cast }) realm realm out (Ok true)
+    → ComesTo settings (lines.Clock moment) script (record { moment = moment; next = script.next; cast = script.cast; asker = script.asker }) realm realm out (Ok true)
 comes_clock settings script realm moment out empty holds = record {
   holds = record { is_open = holds.is_open; below = holds.below; standing = holds.standing };
   played = λ is. (refl, empty);

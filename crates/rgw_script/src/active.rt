@@ -7,7 +7,7 @@ ghost use Rattle.rgw_script.specs.Stages.{role_of, IsOpen, AreBelow, StandsIn, I
 use crate::fault::ScriptFault;
 use realm_core::{Realm, SoloDoor};
 use realm_model::{Actor, Settings};
-use script_player::{Gone, Player, others_keep_a_player};
+use script_player::{Gone, Player, StandardAsker, others_keep_a_player};
 use script_words::Verb;
 use std::alloc::{AllocError, Global};
 
@@ -25,6 +25,7 @@ impl Active {
     pub(crate) fn new(
         alloc: Global,
         settings: &Settings,
+        asker: &StandardAsker,
         pass: u64,
         zone: u8,
         verb: Verb,
@@ -37,7 +38,7 @@ impl Active {
         Ok(Active {
             pass,
             used: false,
-            player: Player::new(alloc, settings, zone, verb)?,
+            player: Player::new(alloc, settings, asker, zone, verb)?,
         })
     }
 

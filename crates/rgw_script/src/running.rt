@@ -15,6 +15,7 @@ use object_words::BucketName;
 use realm_core::Realm;
 use realm_model::Settings;
 use script_lines::{LineReader, Next};
+use script_player::StandardAsker;
 use std::alloc::Global;
 
 /// What a script is run on, beside its realm.
@@ -48,10 +49,12 @@ pub fn run_script<S: Source, K: Sink>(
     ensures settings { realm.new.settings ≡ settings.now }
 {
     make_planned(alloc, settings, plan, realm)?;
+    let asker = StandardAsker::new(alloc)?;
     let mut script = Script {
         moment: plan.moment,
         next: 2,
         cast: Cast::new(alloc),
+        asker,
     };
     play_lines(alloc, settings, &mut script, realm, input, output)
 }

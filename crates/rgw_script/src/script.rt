@@ -14,7 +14,7 @@ use crate::ending::{push_ending, push_named_ending};
 use crate::fault::ScriptFault;
 use realm_core::Realm;
 use realm_model::Settings;
-use script_player::Gone;
+use script_player::{Gone, StandardAsker};
 use script_words::{ActorName, Line, Verb, push_count_line};
 use std::alloc::Global;
 
@@ -26,6 +26,8 @@ pub(crate) struct Script {
     /// The number of the pass of the next actor.
     pub(crate) next: u64,
     pub(crate) cast: Cast,
+    /// Who asks in each request.
+    pub(crate) asker: StandardAsker,
 }
 
 impl Script {
@@ -51,7 +53,7 @@ impl Script {
         if self.cast.has(&name) {
             return Ok(false);
         }
-        let active = Active::new(alloc, settings, self.next, zone, verb)?;
+        let active = Active::new(alloc, settings, &self.asker, self.next, zone, verb)?;
         self.cast.put(name, active)?;
         self.next += 1;
         Ok(true)
@@ -158,7 +160,7 @@ impl Script {
         ensures cause { IfErr result (StopsAt realm.new.history) }
         ensures open { IsOpen settings.now realm.new }
     {
-        let mut active = Active::new(alloc, settings, self.next, zone, verb)?;
+        let mut active = Active::new(alloc, settings, &self.asker, self.next, zone, verb)?;
         self.next += 1;
         active.finish(alloc, realm, self.moment)?;
         push_ending(out, &active)?;

@@ -1,10 +1,12 @@
--- What the words of the command line mean: `once` or `script`, and options behind it.
-use Rattle.std.specs.Prelude.{ℕ, ◌*◌, ◌&&◌, nat_le, List, [], ◌∷◌, Option, Some, None, option_and_then, if◌then◌else◌, bytes_eq, codes}
+-- What the words of the command line mean: `once`, `script` or `serve`, and options behind it.
+use Rattle.std.specs.Prelude.{ℕ, ◌*◌, ◌&&◌, Bool, true, false, nat_le, List, [], ◌∷◌, Option, Some, None, option_and_then, if◌then◌else◌, bytes_eq, codes}
 use Rattle.std.specs.Option.{option_map}
 use Rattle.realm_model.specs.Settings.{SettingsView, settings_of, second}
 use Rattle.rgw_words.specs.Values.{is_bucket, moment_of}
 use Rattle.rgw_words.specs.Options.{value_of, are_options, number_in}
 use Rattle.rgw_words.specs.declared.run_words.RunWords.{RunWords}
+use Rattle.rgw_words.specs.declared.serve_words.Serving.{Serving}
+use Rattle.rgw_words.specs.declared.serve_words.ServeWords.{ServeWords}
 
 -- the container that is made first, if one is
 abbrev pub bucket_in : Option (List ℕ) → Option (Option (List ℕ))
@@ -50,15 +52,41 @@ with_options options =
     (bucket_in (value_of (codes "--bucket") options))
 
 -- what the words ask, where they are this command and options behind it; nothing where they are refused
-abbrev pub words_behind : List ℕ → List (List ℕ) → Option RunWords
-words_behind command [] = None
-words_behind command (word ∷ options) =
-    if bytes_eq word command && are_options options then with_options options else None
+abbrev pub words_behind : List ℕ → Bool → List (List ℕ) → Option RunWords
+words_behind command serves [] = None
+words_behind command serves (word ∷ options) =
+    if bytes_eq word command && are_options serves options then with_options options else None
 
 -- to serve a connection
 abbrev pub once_of : List (List ℕ) → Option RunWords
-once_of words = words_behind (codes "once") words
+once_of words = words_behind (codes "once") false words
 
 -- to run a script
 abbrev pub script_of : List (List ℕ) → Option RunWords
-script_of words = words_behind (codes "script") words
+script_of words = words_behind (codes "script") false words
+
+-- how many connections a server takes in all; none is no end
+abbrev pub accepts_in : Option (List ℕ) → Option (Option ℕ)
+accepts_in None = Some None
+accepts_in (Some word) = option_map (λ accepts. Some accepts) (number_in 1 1000000 1 (Some word))
+
+-- what the options say of a server's connections: port 8080 and 8 workers where they say nothing
+abbrev pub serving_with : List (List ℕ) → Option Serving
+serving_with options =
+    option_and_then (λ port.
+    option_and_then (λ workers.
+    option_map (λ accepts. record { port = port; workers = workers; accepts = accepts })
+    (accepts_in (value_of (codes "--accepts") options)))
+    (number_in 1 64 8 (value_of (codes "--workers") options)))
+    (number_in 1 65528 8080 (value_of (codes "--port") options))
+
+abbrev pub serving_in : List (List ℕ) → Option Serving
+serving_in [] = None
+serving_in (word ∷ options) = serving_with options
+
+-- to serve the connections of a port
+abbrev pub serve_of : List (List ℕ) → Option ServeWords
+serve_of words =
+    option_and_then (λ serving.
+    option_map (λ run. record { run = run; serving = serving }) (words_behind (codes "serve") true words))
+    (serving_in words)

@@ -4,7 +4,9 @@
 mod fault;
 mod options;
 mod run_words;
+mod serve_words;
 mod values;
 
 pub use fault::WordsFault;
 pub use run_words::{RunWords, read_once, read_script};
+pub use serve_words::{ServeWords, Serving, read_serve};

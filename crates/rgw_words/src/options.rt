@@ -1,6 +1,6 @@
 //! Options behind a command: each a name and a value, in any order.
 ghost use Rattle.std.specs.Prelude.{◌≡◌, None, Some, MatchOption, map, string_bytes};
-ghost use Rattle.rgw_words.specs.Options.{value_of, is_option, begins_option, are_options, number_in};
+ghost use Rattle.rgw_words.specs.Options.{value_of, is_usual_option, is_server_option, is_option, begins_option, are_options, number_in};
 
 use crate::values::{all_digits, begins_with_dash};
 
@@ -22,15 +22,15 @@ pub(crate) fn value_of<'a>(name: &str, words: &'a [String]) -> Option<&'a str>
 }
 
 /// Whether the words are options and values by turns, each option there once, and no value beginning with a
-/// dash.
-pub(crate) fn are_options(words: &[String]) -> bool
-    ensures { result ≡ are_options (map string_bytes words.now) }
+/// dash. A server has options of its own.
+pub(crate) fn are_options(serves: bool, words: &[String]) -> bool
+    ensures { result ≡ are_options serves (map string_bytes words.now) }
 {
     match words {
         [] => true,
         [word, value, rest @ ..] => {
-            if begins_option(word.as_str(), value.as_str(), rest) {
-                are_options(rest)
+            if begins_option(serves, word.as_str(), value.as_str(), rest) {
+                are_options(serves, rest)
             } else {
                 false
             }
@@ -39,14 +39,26 @@ pub(crate) fn are_options(words: &[String]) -> bool
     }
 }
 
-fn begins_option(word: &str, value: &str, words: &[String]) -> bool
-    ensures { result ≡ begins_option word.now value.now (map string_bytes words.now) }
+fn begins_option(serves: bool, word: &str, value: &str, words: &[String]) -> bool
+    ensures { result ≡ begins_option serves word.now value.now (map string_bytes words.now) }
 {
-    is_option(word) && !begins_with_dash(value) && value_of(word, words).is_none()
+    is_option(serves, word) && !begins_with_dash(value) && value_of(word, words).is_none()
 }
 
-fn is_option(word: &str) -> bool
-    ensures { result ≡ is_option word.now }
+fn is_option(serves: bool, word: &str) -> bool
+    ensures { result ≡ is_option serves word.now }
+{
+    is_usual_option(word) || serves && is_server_option(word)
+}
+
+fn is_server_option(word: &str) -> bool
+    ensures { result ≡ is_server_option word.now }
+{
+    word == "--port" || word == "--workers" || word == "--accepts"
+}
+
+fn is_usual_option(word: &str) -> bool
+    ensures { result ≡ is_usual_option word.now }
 {
     word == "--bucket"
         || word == "--stripe"

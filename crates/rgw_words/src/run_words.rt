@@ -44,7 +44,7 @@ pub fn read_once(alloc: Global, words: &[String]) -> Result<RunWords, WordsFault
     ensures out_of_memory { IsErrOf result WordsFault.OutOfMemory
         → IsSome (once_of (map string_bytes words.now)) }
 {
-    read_behind(alloc, "once", words)
+    read_behind(alloc, "once", false, words)
 }
 
 /// Reads the words behind the program's name, where they ask to run a script, with the same options.
@@ -55,19 +55,24 @@ pub fn read_script(alloc: Global, words: &[String]) -> Result<RunWords, WordsFau
     ensures out_of_memory { IsErrOf result WordsFault.OutOfMemory
         → IsSome (script_of (map string_bytes words.now)) }
 {
-    read_behind(alloc, "script", words)
+    read_behind(alloc, "script", false, words)
 }
 
-/// Reads this command and the options behind it.
-fn read_behind(alloc: Global, command: &str, words: &[String]) -> Result<RunWords, WordsFault>
-    ensures ok { IfOk result (λ asked. words_behind command.now (map string_bytes words.now) ≡ Some asked) }
+/// Reads this command and the options behind it, those of a server among them or not.
+pub(crate) fn read_behind(
+    alloc: Global,
+    command: &str,
+    serves: bool,
+    words: &[String],
+) -> Result<RunWords, WordsFault>
+    ensures ok { IfOk result (λ asked. words_behind command.now serves (map string_bytes words.now) ≡ Some asked) }
     ensures bounds { IfOk result (λ asked. IsSettings asked.settings) }
     ensures refused { IsErrOf result WordsFault.Refused
-        ↔ (words_behind command.now (map string_bytes words.now) ≡ None) }
+        ↔ (words_behind command.now serves (map string_bytes words.now) ≡ None) }
     ensures out_of_memory { IsErrOf result WordsFault.OutOfMemory
-        → IsSome (words_behind command.now (map string_bytes words.now)) }
+        → IsSome (words_behind command.now serves (map string_bytes words.now)) }
 {
-    let Some(parts) = parts_behind(command, words) else {
+    let Some(parts) = parts_behind(command, serves, words) else {
         return Err(WordsFault::Refused);
     };
     let Some(name) = parts.bucket else {
@@ -89,17 +94,17 @@ fn read_behind(alloc: Global, command: &str, words: &[String]) -> Result<RunWord
 }
 
 /// What the words ask, where they are this command and options behind it.
-fn parts_behind<'a>(command: &str, words: &'a [String]) -> Option<Parts<'a>>
-    ensures parts { MatchOption result (words_behind command.now (map string_bytes words.now) ≡ None)
+fn parts_behind<'a>(command: &str, serves: bool, words: &'a [String]) -> Option<Parts<'a>>
+    ensures parts { MatchOption result (words_behind command.now serves (map string_bytes words.now) ≡ None)
         (λ parts. MatchOption parts.bucket
-        (words_behind command.now (map string_bytes words.now) ≡ Some (words_with None parts.settings parts.now))
-        (λ name. (words_behind command.now (map string_bytes words.now) ≡ Some (words_with (Some name.now) parts.settings parts.now)) × (is_name 256 name.now ≡ true))) }
+        (words_behind command.now serves (map string_bytes words.now) ≡ Some (words_with None parts.settings parts.now))
+        (λ name. (words_behind command.now serves (map string_bytes words.now) ≡ Some (words_with (Some name.now) parts.settings parts.now)) × (is_name 256 name.now ≡ true))) }
     ensures bounds { IfSome result (λ parts. IsSettings parts.settings) }
 {
     let [word, options @ ..] = words else {
         return None;
     };
-    if word.as_str() != command || !are_options(options) {
+    if word.as_str() != command || !are_options(serves, options) {
         return None;
     }
     let bucket = bucket_in(value_of("--bucket", options))?;

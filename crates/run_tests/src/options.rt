@@ -1,10 +1,13 @@
 // Words whose meaning comes from the manual of the program and from examples worked by hand.
-use rgw_words::{RunWords, WordsFault, read_once, read_script};
+use rgw_words::{RunWords, ServeWords, Serving, WordsFault, read_once, read_script, read_serve};
 use std::alloc::{AllocError, Global};
 use std::test::Fail;
 
 const REFUSED: &[&[&str]] = &[
     &[],
+    &["once", "--port", "8080"],
+    &["once", "--workers", "8"],
+    &["once", "--accepts", "1"],
     &["once", "x"],
     &["once", "--bucket"],
     &["once", "box"],
@@ -228,6 +231,82 @@ fn a_script_without_options_has_those_of_the_manual(rt: HostRuntime) -> Result<(
 fn other_words_are_no_script(rt: HostRuntime) -> Result<(), Fail> {
     for words in NO_SCRIPTS {
         assert!(rt; is_refused(script_of(rt.alloc(), words)?), "{words:?}");
+    }
+    Ok(())
+}
+
+const NO_SERVERS: &[&[&str]] = &[
+    &[],
+    &["once"],
+    &["serve", "x"],
+    &["serve", "--port"],
+    &["serve", "--port", "0"],
+    &["serve", "--port", "65529"],
+    &["serve", "--port", "80", "--port", "80"],
+    &["serve", "--workers", "0"],
+    &["serve", "--workers", "65"],
+    &["serve", "--accepts", "0"],
+    &["serve", "--accepts", "1000001"],
+    &["serve", "--accepts", "-1"],
+    &["serve", "--stripe", "15"],
+];
+
+fn serve_of(alloc: Global, words: &[&str]) -> Result<Result<ServeWords, WordsFault>, AllocError> {
+    let words = strings(alloc, words)?;
+    let read = read_serve(alloc, &words);
+    drop(words);
+    Ok(read)
+}
+
+// What the words say of the connections, where they ask for a server.
+fn serving_of(alloc: Global, words: &[&str]) -> Result<Serving, Fail> {
+    let read = serve_of(alloc, words)?.ok().ok_or("no server")?;
+    let serving = read.serving;
+    drop(read);
+    Ok(serving)
+}
+
+#[test]
+fn a_server_without_options_has_those_of_the_manual(rt: HostRuntime) -> Result<(), Fail> {
+    let usual = Serving {
+        port: 8080,
+        workers: 8,
+        accepts: None,
+    };
+    assert!(rt; serving_of(rt.alloc(), &["serve"])? == usual);
+    assert!(rt; serving_of(rt.alloc(), &["serve", "--bucket", "box"])? == usual);
+    Ok(())
+}
+
+#[test]
+fn options_of_a_server_are_taken_up_to_their_ends(rt: HostRuntime) -> Result<(), Fail> {
+    let greatest = [
+        "serve",
+        "--accepts",
+        "1000000",
+        "--port",
+        "65528",
+        "--shards",
+        "1",
+        "--workers",
+        "64",
+    ];
+    let least = ["serve", "--workers", "1", "--port", "01", "--accepts", "1"];
+    let serving = serving_of(rt.alloc(), &greatest)?;
+    assert!(rt; serving.port == 65_528 && serving.workers == 64);
+    assert!(rt; serving.accepts == Some(1_000_000));
+    let serving = serving_of(rt.alloc(), &least)?;
+    assert!(rt; serving.port == 1 && serving.workers == 1 && serving.accepts == Some(1));
+    Ok(())
+}
+
+#[test]
+fn other_words_ask_for_no_server(rt: HostRuntime) -> Result<(), Fail> {
+    for words in NO_SERVERS {
+        let read = serve_of(rt.alloc(), words)?;
+        let refused = matches!(&read, Err(WordsFault::Refused));
+        drop(read);
+        assert!(rt; refused, "{words:?}");
     }
     Ok(())
 }

@@ -7,7 +7,7 @@ use object_words::{BucketName, ObjectName};
 use realm_model::Settings;
 use realm_stage::RealmStage;
 use rgw_types::{Bytes, Text};
-use script_player::{Gone, Player};
+use script_player::{Gone, Player, StandardAsker};
 use script_words::{ActorOutcome, ScriptBody, Verb};
 use std::alloc::Global;
 use std::test::Fail;
@@ -102,7 +102,8 @@ fn a_put_goes_event_by_event(rt: HostRuntime) -> Result<(), Fail> {
     let settings = settings();
     let mut door = realm(alloc, &settings)?;
     let made = door.events();
-    let mut writer = Player::new(alloc, &settings, 1, put(alloc)?)?;
+    let asker = StandardAsker::new(alloc)?;
+    let mut writer = Player::new(alloc, &settings, &asker, 1, put(alloc)?)?;
     door.act_as(2);
     assert_eq!(rt; writer.go(alloc, &mut door, MOMENT, 4)?, Gone::Short);
     assert_eq!(rt; door.events(), made + 4);
@@ -118,7 +119,8 @@ fn a_get_and_a_head_show_what_was_put(rt: HostRuntime) -> Result<(), Fail> {
     let alloc = rt.alloc();
     let settings = settings();
     let mut door = realm(alloc, &settings)?;
-    let mut writer = Player::new(alloc, &settings, 1, put(alloc)?)?;
+    let asker = StandardAsker::new(alloc)?;
+    let mut writer = Player::new(alloc, &settings, &asker, 1, put(alloc)?)?;
     door.act_as(2);
     let _ended = writer.go(alloc, &mut door, MOMENT, 9)?;
 
@@ -126,7 +128,8 @@ fn a_get_and_a_head_show_what_was_put(rt: HostRuntime) -> Result<(), Fail> {
         container: container(alloc)?,
         name: object(alloc)?,
     };
-    let mut reader = Player::new(alloc, &settings, 1, get)?;
+    let asker = StandardAsker::new(alloc)?;
+    let mut reader = Player::new(alloc, &settings, &asker, 1, get)?;
     door.act_as(3);
     assert_eq!(rt; reader.go(alloc, &mut door, MOMENT, 1)?, Gone::Short);
     assert!(rt; reader.shown().is_empty());
@@ -136,7 +139,8 @@ fn a_get_and_a_head_show_what_was_put(rt: HostRuntime) -> Result<(), Fail> {
     let stat = Verb::Stat {
         container: container(alloc)?,
     };
-    let mut counter = Player::new(alloc, &settings, 1, stat)?;
+    let asker = StandardAsker::new(alloc)?;
+    let mut counter = Player::new(alloc, &settings, &asker, 1, stat)?;
     door.act_as(4);
     assert_eq!(rt; counter.go(alloc, &mut door, MOMENT, 2)?, Gone::Ended);
     assert!(rt; is_counted(counter.outcome(), 1, 5));

@@ -2,9 +2,13 @@
 ghost use Rattle.std.specs.Prelude.{◌≤◌};
 
 use gw_io::{SliceSource, StepClock, VecSink};
+use net_io::{ListConnection, ListNet, NoPause};
 use rgw_run::run;
 use std::alloc::{AllocError, Global};
+use std::collections::VecDeque;
+use std::sync::{Arc, Mutex, Wait};
 use std::test::Fail;
+use std::thread::Threads;
 
 /// A PUT of `hello` and a GET of it.
 const PUT_THEN_GET: &[u8] =
@@ -75,6 +79,17 @@ fn strings(alloc: Global, words: &[&str]) -> Result<Vec<String>, AllocError> {
     Ok(all)
 }
 
+/// One connection of a server, at one moment.
+const SERVED_AT_ONE_MOMENT: &[&str] = &[
+    "serve",
+    "--accepts",
+    "1",
+    "--bucket",
+    "box",
+    "--now",
+    "1700000000000000",
+];
+
 /// How input and output behave: the greatest piece, and the calls that fail.
 #[derive(Drop)]
 struct Streams<'a> {
@@ -86,7 +101,8 @@ struct Streams<'a> {
 
 /// The status of a run, and what it wrote. The clock begins on the 14th of November 2023 and goes in
 /// steps of a second.
-fn outcome(
+fn outcome<R: Wait + Threads + Copy + Send + Sync>(
+    rt: R,
     alloc: Global,
     words: &[&str],
     bytes: &[u8],
@@ -96,13 +112,17 @@ fn outcome(
     let mut input = SliceSource::new(bytes, streams.piece, streams.failing_reads);
     let mut output = VecSink::new(alloc, streams.piece, streams.failing_writes);
     let mut clock = StepClock::new(1_700_000_000_000_000, 1_000_000);
+    let mut net = ListNet::new(rt, alloc, VecDeque::new(alloc));
     let mut realm = None;
     let status = run(
+        &rt,
         alloc,
         &words,
         &mut input,
         &mut output,
         &mut clock,
+        &mut net,
+        &NoPause,
         &mut realm,
     );
     Ok((status.number, output.into_bytes()))
@@ -128,7 +148,7 @@ fn connections_are_replied_so_in_any_pieces(rt: HostRuntime) -> Result<(), Fail>
                 failing_reads: &[],
                 failing_writes: &[],
             };
-            let (number, written) = outcome(rt.alloc(), words, bytes, &streams)?;
+            let (number, written) = outcome(rt, rt.alloc(), words, bytes, &streams)?;
             assert_eq!(rt; number, status, "row {row} in pieces of {piece}");
             assert_eq!(rt;
                 written.as_slice(),
@@ -152,10 +172,42 @@ fn a_failure_gives_its_status_and_a_front(rt: HostRuntime) -> Result<(), Fail> {
                 failing_reads: if reads > 0 { &calls } else { &[] },
                 failing_writes: if writes > 0 { &calls } else { &[] },
             };
-            let (number, written) = outcome(rt.alloc(), AT_ONE_MOMENT, PUT_THEN_GET, &streams)?;
+            let (number, written) = outcome(rt, rt.alloc(), AT_ONE_MOMENT, PUT_THEN_GET, &streams)?;
             assert_eq!(rt; number, status, "at call {call}");
             assert!(rt; STORED_AND_SHOWN.starts_with(&written), "at call {call}");
         }
     }
+    Ok(())
+}
+
+#[test]
+fn a_server_replies_over_a_list_net(rt: HostRuntime) -> Result<(), Fail> {
+    let alloc = rt.alloc();
+    let words = strings(alloc, SERVED_AT_ONE_MOMENT)?;
+    let output = Arc::new(alloc, Mutex::new(Vec::new(alloc)))?;
+    let mut connections = VecDeque::new(alloc);
+    connections.push_back(ListConnection {
+        input: PUT_THEN_GET,
+        output: Arc::try_clone(&output)?,
+    })?;
+    let mut net = ListNet::new(rt, alloc, connections);
+    let mut input = SliceSource::new(b"", 1, &[]);
+    let mut nothing = VecSink::new(alloc, 1, &[]);
+    let mut clock = StepClock::new(0, 1);
+    let mut realm = None;
+    let status = run(
+        &rt,
+        alloc,
+        &words,
+        &mut input,
+        &mut nothing,
+        &mut clock,
+        &mut net,
+        &NoPause,
+        &mut realm,
+    );
+    assert_eq!(rt; status.number, 0);
+    assert!(rt; realm.is_none() && nothing.into_bytes().is_empty());
+    assert!(rt; output.lock(&rt).as_slice() == STORED_AND_SHOWN);
     Ok(())
 }

@@ -2,6 +2,6 @@ pub mod Going
 pub mod Feeding
 pub mod Putting
 pub mod Getting
-pub mod Unfed
+pub mod Asking
 pub mod Staying
 pub mod Words

@@ -3,7 +3,7 @@ ghost use Rattle.std.specs.Prelude.{◌≡◌, IfOk};
 ghost use Rattle.script_words.specs.declared.line.Verb.TheVariants.{Get};
 ghost use Rattle.script_player.specs.Plays.{IsBegun, asked_get, GetStands, GetEnded, FitsGet};
 
-use crate::asker::standard_asker;
+use crate::asker::StandardAsker;
 use crate::play::{EndingPlay, Play};
 use object_words::{BucketName, Conditions, ObjectName};
 use realm_door::{Door, EventTask, Staged, Stepping, Task};
@@ -23,6 +23,7 @@ impl GetPlay {
     /// A GET that made no event, of all bytes and without conditions.
     pub(crate) fn new(
         alloc: Global,
+        asker: &StandardAsker,
         zone: u8,
         container: BucketName,
         name: ObjectName,
@@ -43,7 +44,7 @@ impl GetPlay {
         };
         let request = GetRequest {
             zone,
-            asker: standard_asker(alloc)?,
+            asker: asker.for_request()?,
             get,
         };
         Ok(GetPlay {
@@ -74,7 +75,11 @@ impl Play for GetPlay {
     /// Keeps the bytes that the event brings.
     fn act<D: Door>(&mut self, alloc: Global, door: &mut D, moment: u64) -> Result<(), DoorFault> {
         self.task.event(alloc, door, moment)?;
-        if self.shown.extend_from_slice(self.task.stages.piece()).is_err() {
+        if self
+            .shown
+            .extend_from_slice(self.task.stages.piece())
+            .is_err()
+        {
             return Err(DoorFault::OutOfMemory);
         }
         Ok(())

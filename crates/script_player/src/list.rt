@@ -3,7 +3,7 @@ ghost use Rattle.std.specs.Prelude.{IfOk};
 ghost use Rattle.script_words.specs.declared.line.Verb.TheVariants as verbs;
 ghost use Rattle.script_player.specs.Plays.{IsBegun, asked_list, ListStands, ListEnded, FitsList};
 
-use crate::asker::standard_asker;
+use crate::asker::StandardAsker;
 use crate::unfed::Unfed;
 use list_words::ListCommand;
 use object_words::BucketName;
@@ -18,6 +18,7 @@ const MOST_ROWS: u32 = 10000;
 /// A listing of all names of the container that made no event.
 pub(crate) fn new_list(
     alloc: Global,
+    asker: &StandardAsker,
     zone: u8,
     container: BucketName,
 ) -> Result<Stepping<ListTask>, AllocError>
@@ -25,7 +26,7 @@ pub(crate) fn new_list(
 {
     Ok(Stepping::new(ListTask::new(ListRequest {
         zone,
-        asker: standard_asker(alloc)?,
+        asker: asker.for_request()?,
         command: ListCommand {
             container,
             limit: MOST_ROWS,

@@ -10,6 +10,7 @@ ghost use Rattle.script_player.specs.Meanings.{Means};
 ghost use Rattle.script_player.specs.Plays.{asked, IsPlaying, IsEnded, StandsAs, shown_of, fits};
 ghost use Rattle.script_player.specs.Requests.{HasFewBytes};
 
+use crate::asker::StandardAsker;
 use crate::check::new_check;
 use crate::get::GetPlay;
 use crate::list::new_list;
@@ -57,6 +58,7 @@ impl Player {
     pub fn new(
         alloc: Global,
         settings: &Settings,
+        asker: &StandardAsker,
         zone: u8,
         verb: Verb,
     ) -> Result<Player, AllocError>
@@ -71,12 +73,12 @@ impl Player {
                 container,
                 name,
                 body,
-            } => Acting::Put(PutPlay::new(alloc, settings, zone, container, name, body)?),
+            } => Acting::Put(PutPlay::new(alloc, settings, asker, zone, container, name, body)?),
             Verb::Get { container, name } => {
-                Acting::Get(GetPlay::new(alloc, zone, container, name)?)
+                Acting::Get(GetPlay::new(alloc, asker, zone, container, name)?)
             }
-            Verb::Stat { container } => Acting::Stat(new_stat(alloc, zone, container)?),
-            Verb::List { container } => Acting::List(new_list(alloc, zone, container)?),
+            Verb::Stat { container } => Acting::Stat(new_stat(asker, zone, container)?),
+            Verb::List { container } => Acting::List(new_list(alloc, asker, zone, container)?),
             Verb::Job(Job::Check { container }) => Acting::Check(new_check(zone, container)),
         };
         Ok(Player { acting })

@@ -12,7 +12,7 @@ ghost use Rattle.script_words.specs.Bodies.{body_bytes};
 ghost use Rattle.script_words.specs.declared.line.Verb.TheVariants.{Put};
 ghost use Rattle.script_player.specs.Plays.{asked_put, TakesNext, PutStands, PutEnded, FitsPut, left_of};
 
-use crate::asker::standard_asker;
+use crate::asker::StandardAsker;
 use crate::play::{EndingPlay, Play};
 use object_words::{BucketName, Conditions, ObjectName};
 use realm_door::{Door, EventTask, Next, Staged, Stepping, Task};
@@ -68,6 +68,7 @@ impl PutPlay {
     pub(crate) fn new(
         alloc: Global,
         settings: &Settings,
+        asker: &StandardAsker,
         zone: u8,
         container: BucketName,
         name: ObjectName,
@@ -93,7 +94,7 @@ impl PutPlay {
                 unmodified: None,
             },
         };
-        let asker = standard_asker(alloc)?;
+        let asker = asker.for_request()?;
         Ok(PutPlay {
             task: Stepping::new(PutTask::new(alloc, settings, zone, asker, put)?),
             body,

@@ -3,7 +3,7 @@ ghost use Rattle.std.specs.Prelude.{IfOk};
 ghost use Rattle.script_words.specs.declared.line.Verb.TheVariants.{Stat};
 ghost use Rattle.script_player.specs.Plays.{IsBegun, asked_stat, StatStands, StatEnded, FitsStat};
 
-use crate::asker::standard_asker;
+use crate::asker::StandardAsker;
 use crate::unfed::Unfed;
 use object_words::BucketName;
 use realm_door::Stepping;
@@ -12,7 +12,7 @@ use task_container::{ContainerCommand, ContainerRequest, ContainerTask};
 
 /// A HEAD of the container that made no event.
 pub(crate) fn new_stat(
-    alloc: Global,
+    asker: &StandardAsker,
     zone: u8,
     container: BucketName,
 ) -> Result<Stepping<ContainerTask>, AllocError>
@@ -20,7 +20,7 @@ pub(crate) fn new_stat(
 {
     Ok(Stepping::new(ContainerTask::new(ContainerRequest {
         zone,
-        asker: standard_asker(alloc)?,
+        asker: asker.for_request()?,
         command: ContainerCommand::Head { name: container },
     })))
 }

@@ -1,4 +1,4 @@
-use Rattle.std.proofs.Common.{◌≡◌, inl, rules, false, []}
+use Rattle.std.proofs.Common.{rules}
 use Rattle.std.proofs.KnownBytes.{Appends-nil}
 use Rattle.task_put.specs.Runs.{request_of}
 use Rattle.call_service.specs.Serving.{Site}

@@ -1,6 +1,9 @@
-use Rattle.std.proofs.Common.{◌≡◌, true, false, subst}
+use Rattle.std.proofs.Common.{ap, ◌∙◌, subst}
 use Rattle.std.specs.Prelude.{IfOk, IfErr}
+use Rattle.realm_door.specs.declared.stepping.Stepping.{Stepping}
 use Rattle.task_put.specs.declared.stage.PutRequest.{PutRequest}
+use Rattle.task_put.specs.declared.task.PutTask.{PutTask}
+use Rattle.task_put.specs.Runs.{request_of}
 use Rattle.call_service.specs.Serving.{Site, side}
 use Rattle.call_service.specs.Waiting.{IsPutServed, IsPutStopped}
 use Rattle.put_service.specs.Parts.{site_at}
@@ -22,7 +25,7 @@ returns-clause-served g c =
     let x = side (g.D.Door.told c.args.door.now) c.args.intake.now old in
     let y = side (g.D.Door.told c.serve_new-served.new.door) c.serve_new-served.new.intake new in
     subst (λ (r : PutRequest). IfOk c.serve_new-served.result (IsPutServed c.args.waits g.D.Door.tells g.D.Door.alone (site_at (g.D.Door.settings c.args.door.now) r) c.args.form r.command x y))
-    c.in-Ok.ensures.request c.serve_new-served.ensures.served
+    (ap (λ (t : Stepping PutTask). request_of t) c.new-task.ensures ∙ c.in-Ok.ensures.request) c.serve_new-served.ensures.served
 
 pub returns-clause-stopped : goal.returns-clause-stopped
 returns-clause-stopped g c =
@@ -31,4 +34,4 @@ returns-clause-stopped g c =
     let x = side (g.D.Door.told c.args.door.now) c.args.intake.now old in
     let y = side (g.D.Door.told c.serve_new-served.new.door) c.serve_new-served.new.intake new in
     subst (λ (r : PutRequest). IfErr c.serve_new-served.result (IsPutStopped c.args.waits g.D.Door.tells g.D.Door.alone (site_at (g.D.Door.settings c.args.door.now) r) c.args.form r.command (g.D.Door.found c.serve_new-served.new.door) x y))
-    c.in-Ok.ensures.request c.serve_new-served.ensures.stopped
+    (ap (λ (t : Stepping PutTask). request_of t) c.new-task.ensures ∙ c.in-Ok.ensures.request) c.serve_new-served.ensures.stopped

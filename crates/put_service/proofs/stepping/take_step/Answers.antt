@@ -1,7 +1,7 @@
-use Rattle.std.proofs.Common.{refl}
+use Rattle.std.proofs.Common.{rules, refl}
 use Rattle.door_moments.proofs.Asking.{none_asks, untold_asks}
 use Rattle.put_service.proofs.Steps.{steady_after}
-use Rattle.put_service.proofs.Pausing.{up_decided, steady_ready}
+use Rattle.put_service.proofs.Pausing.{up_decided, steady_ready, by_body}
 use Rattle.put_service.proofs.stepping.take_step.Goals as goal
 
 pub returns-then-is_some-clause-asks : goal.returns-then-is_some-clause-asks
@@ -34,3 +34,7 @@ returns-in_ok-act-in-Event-clause-stands g c =
     steady_after c.settle.new.self c.act.new.task.stages (c.in-Event.ensures.event refl)
     (steady_ready c.args.task.now.stages c.settle.new.self c.settle.ensures.task c.requires.going.steady (c.in-Event.ensures.event refl))
     c.in_ok-act-in-Event.ensures.steps
+
+pub returns-in-Done-clause-stands : goal.returns-in-Done-clause-stands
+returns-in-Done-clause-stands g c =
+    by_body c.args.task.now.stages c.settle.new.self c.settle.ensures.task (λ over. search (rules, over)) c.requires.going.steady (c.in-Done.ensures.done refl)

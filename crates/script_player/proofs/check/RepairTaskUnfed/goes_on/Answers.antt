@@ -1,5 +1,5 @@
 use Rattle.task_repair.specs.Tasks.{stage_of}
-use Rattle.script_player.proofs.Unfed.{check_open}
+use Rattle.script_player.proofs.Asking.{check_open}
 use Rattle.script_player.proofs.check.RepairTaskUnfed.goes_on.Goals as goal
 
 pub returns : goal.returns

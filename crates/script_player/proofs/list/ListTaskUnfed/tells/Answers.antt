@@ -1,4 +1,4 @@
-use Rattle.script_player.proofs.Unfed.{list_means}
+use Rattle.script_player.proofs.Asking.{list_means}
 use Rattle.script_player.proofs.list.ListTaskUnfed.tells.Goals as goal
 
 pub returns : goal.returns

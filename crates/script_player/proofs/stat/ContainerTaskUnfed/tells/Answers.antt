@@ -1,4 +1,4 @@
-use Rattle.script_player.proofs.Unfed.{stat_means}
+use Rattle.script_player.proofs.Asking.{stat_means}
 use Rattle.script_player.proofs.stat.ContainerTaskUnfed.tells.Goals as goal
 
 pub returns : goal.returns

@@ -2,7 +2,7 @@ use Rattle.std.proofs.Common.{Err, ap, map, string_bytes}
 use Rattle.rgw_words.proofs.Apart.{no_script}
 use Rattle.rgw_run.proofs.Ending.{unread, runs_once}
 use Rattle.rgw_run.proofs.Exactly.{exactly_of, exactly_said}
-use Rattle.rgw_run.proofs.running.run.Goals as goal
+use Rattle.rgw_run.proofs.running.run_alone.Goals as goal
 
 pub returns-in-Err-OutOfMemory-clause-runs : goal.returns-in-Err-OutOfMemory-clause-runs
 returns-in-Err-OutOfMemory-clause-runs g c =
