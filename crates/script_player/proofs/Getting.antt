@@ -121,7 +121,7 @@ module _ (settings : SettingsView) (t : GetTask) (d : DoorView) (fits : Fits t s
 -- what follows from a clause on what is there, and from that it is there
 pub if_there : {X S : Type 0} (r : Option X) {P Q : X → Type 0} → (IsSome r → S) → IfSome r P → ((x : X) → S → P x → Q x) → IfSome r Q
 if_there None there clause so = tt
-if_there (Some x) there clause so = so x (there tt) clause
+if_there (Some x) there clause so = so x (there refl) clause
 
 pub get_means : (x : GetPlay) (settings : SettingsView) (d : DoorView) (outcome : Outcome) → x.task.fault ≡ None → FitsGet x settings d → means (request_of x.task.stages) outcome settings d
     → MeansRequest (asked_get x).zone (asked_get x).verb outcome x.shown.items settings d

@@ -21,6 +21,7 @@ use Rattle.task_put.proofs.Staging.{waits as put_waits}
 use Rattle.task_get.specs.Gets.{Means as GetMeans}
 use Rattle.task_get.specs.Pieces.{brought}
 use Rattle.task_get.specs.Tasks as get
+use Rattle.task_get.specs.declared.task.GetTask.{GetTask}
 use Rattle.task_get.proofs.Giving.{stays_while_waiting as get_waits}
 use Rattle.task_container.specs.Counts.{IsContainerEnd}
 use Rattle.task_container.specs.Stages as stat
@@ -90,6 +91,11 @@ module _ (settings : SettingsView) (d e : DoorView) (pass : e.pass ≡ d.pass) (
     waited : Waited settings d later
     waited = record { pass = pass; count = count; used = refl; front = front; same = same }
 
+    get_stays : (t : GetTask) → get.Fits t settings d → get.Fits t settings e
+    get_stays t f =
+        let now : get.Fits t settings later = get_waits t settings d later waited f in
+        record { first_zone = now.first_zone; last_zone = now.last_zone; stage = now.stage; given = now.given; piece = now.piece }
+
     stays_by : (acting : Acting) → FitsBy acting settings d → FitsBy acting settings e
     stays_by (actings.Put x) f = record {
       is_put = f.is_put;
@@ -97,7 +103,7 @@ module _ (settings : SettingsView) (d e : DoorView) (pass : e.pass ≡ d.pass) (
     }
     stays_by (actings.Get x) f = record {
       is_get = f.is_get;
-      task = lifted x.task.fault (get.Fits x.task.stages settings d) (get.Fits x.task.stages settings e) (get_waits x.task.stages settings d later waited) f.task;
+      task = lifted x.task.fault (get.Fits x.task.stages settings d) (get.Fits x.task.stages settings e) (get_stays x.task.stages) f.task;
       shown = subst (λ es. x.shown.items ≡ brought (get.request_of x.task.stages).get es) (sym events_same) f.shown;
     }
     stays_by (actings.Stat t) f = (f.0, lifted t.fault (stat.fits t.stages settings d) (stat.fits t.stages settings e) (stat_waits t.stages settings d later waited) f.1)
