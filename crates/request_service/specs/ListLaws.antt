@@ -1,5 +1,5 @@
 -- The laws of a listing as a request.
-use Rattle.std.proofs.Common.{◌≡◌, ℕ, ◌≤◌, true, false, List, [], ◌++◌, length, Option, Some, None, refl, sym, ap, subst, arith}
+use Rattle.std.proofs.Common.{◌≡◌, ℕ, true, false, List, [], ◌++◌, Some, None, refl, sym, subst, arith}
 use Rattle.http_chunks.specs.declared.body.BodyEnd.{BodyEnd}
 use Rattle.object_words.specs.declared.bucket.Bucket.{Bucket}
 use Rattle.realm_model.specs.Accounts.{Account}
@@ -33,6 +33,9 @@ use Rattle.request_service.specs.Early.{early_end}
 use Rattle.request_service.specs.Listings.{task_of, command_of}
 use Rattle.request_service.specs.Requests.{Question, site_of, HasBytes, MayEnd, GoesOn, EndsSo, ShowsFront}
 
+abbrev no_bytes : List ℕ
+no_bytes = []
+
 abbrev asked_by : ListRequest × ListingForm → Asked
 asked_by c = Unfed (asks_listing c.0.command c.1)
 
@@ -54,7 +57,7 @@ begun t looks = subst (λ stage. (IsOver stage → ⊥) × IsSound stage) (sym l
 pub goes_on : (t u : Listing) → Steps (task_of t) (task_of u) → IsSound (stage_of (task_of t)) → IsSound (stage_of (task_of u)) × GoesOn None None []
 goes_on t u steps sound = (steps.sound, record { shows = λ reply shown. shown; brings = λ some. absurd (omega (arith, some)) })
 
-pub first : (t u : Listing) → Steps (task_of t) (task_of u) → stage_of (task_of t) ≡ Look None → [] {A = ℕ} ≡ []
+pub first : (t u : Listing) → Steps (task_of t) (task_of u) → stage_of (task_of t) ≡ Look None → no_bytes ≡ []
 first t u steps looks = refl
 
 pub shows : (t : Listing) (reply : MapReply) → IsSound (stage_of (task_of t)) → None ≡ Some reply → HasBytes (asked_by (command_of t)) reply
@@ -79,10 +82,10 @@ may_end t outcome sound is = stage_ends (command_of t) outcome (ends_so (stage_o
 
 -- ---- no bytes
 
-pub unbrought : (c : ListRequest × ListingForm) (d : DoorView) → own_events d.seen (actor_at d) ≡ [] → [] {A = ℕ} ≡ []
+pub unbrought : (c : ListRequest × ListingForm) (d : DoorView) → own_events d.seen (actor_at d) ≡ [] → no_bytes ≡ []
 unbrought c d none = refl
 
-pub brings : (t u : Listing) (settings : SettingsView) (d e : DoorView) (moment : ℕ) → command_of u ≡ command_of t → fits (task_of u) settings e → MakesEvent settings moment d e → [] {A = ℕ} ≡ [] ++ []
+pub brings : (t u : Listing) (settings : SettingsView) (d e : DoorView) (moment : ℕ) → command_of u ≡ command_of t → fits (task_of u) settings e → MakesEvent settings moment d e → no_bytes ≡ no_bytes ++ []
 brings t u settings d e moment same f made = refl
 
 pub front : (t : Listing) (settings : SettingsView) (d : DoorView) (reply : MapReply) → fits (task_of t) settings d → None ≡ Some reply

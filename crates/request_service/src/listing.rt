@@ -120,7 +120,7 @@ impl Request for Listing {
     }
 
     fn push_head(&self, _out: &mut Vec<u8>, _form: ReplyForm) -> Result<(), AllocError> {
-        unreachable!()
+        Ok(())
     }
 
     fn push_reply(

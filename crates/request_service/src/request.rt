@@ -1,5 +1,5 @@
 //! What requests without a wanted body differ in.
-ghost use Rattle.std.specs.Prelude.{◌≡◌, ◌++◌, ℕ, Bool, false, List, [], Option, None, Some, IsSome, OnOk, option_copied};
+ghost use Rattle.std.specs.Prelude.{◌≡◌, ◌++◌, ℕ, Bool, false, List, [], Option, None, Some, OnOk, option_copied};
 
 use http_model::ReplyForm;
 use realm_door::Staged;
@@ -53,10 +53,9 @@ pub trait Request: Staged {
     fn is_broken(&self) -> bool
         ensures { result ≡ is_broken self.now };
 
-    /// Adds the text of the reply whose bytes come, up to these bytes.
+    /// Adds the text of the reply whose bytes come, up to these bytes; nothing while none is known.
     fn push_head(&self, out: &mut Vec<u8>, form: ReplyForm) -> Result<(), AllocError>
         requires sound { is_sound self.now }
-        requires shown { IsSome (shown self.now) }
         ensures { OnOk result (out.new.items ≡ out.old.items ++ shown_text form (question (Self.command self.now)).asked (shown self.now)) };
 
     /// Adds the text of the reply with which the task ended, but for bytes of an object.

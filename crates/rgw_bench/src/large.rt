@@ -114,7 +114,11 @@ fn send_all(
 }
 
 // Carries a GET out as the next actor. How many bytes does it give?
-fn take_all(alloc: Global, stage: &mut RealmStage, task: &mut Stepping<GetTask>) -> anyhow::Result<u64> {
+fn take_all(
+    alloc: Global,
+    stage: &mut RealmStage,
+    task: &mut Stepping<GetTask>,
+) -> anyhow::Result<u64> {
     stage.begin();
     let mut given: u64 = 0;
     for _ in 0..TURNS {

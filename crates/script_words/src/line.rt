@@ -1,7 +1,7 @@
 use crate::ActorName;
-use task_words::Job;
 use object_words::{BucketName, ObjectName};
 use rgw_types::Bytes;
+use task_words::Job;
 
 /// The bytes of an object that a script writes.
 #[derive(Debug, Drop)]

@@ -7,10 +7,10 @@ ghost use Rattle.script_words.specs.Reading.{Reads, path_in, times_in, body_in, 
 use crate::no_line::NoLine;
 use crate::words::{container_in, is, name_in, number_in};
 use crate::{ScriptBody, Verb};
-use task_words::Job;
 use object_words::{BucketName, ObjectName};
 use rgw_types::Bytes;
 use std::alloc::Global;
+use task_words::Job;
 
 /// The most letters that `*N` may ask for.
 const MOST_LETTERS: u64 = 5_368_709_120;

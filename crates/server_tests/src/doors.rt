@@ -64,13 +64,13 @@ fn make<R: Wait>(
     settings: &Settings,
     cell: &Turn<Realm>,
     pass: Pass<Realm>,
-    name: &[u8],
+    name: &str,
 ) -> Result<(), Fail>
     requires fresh { IsFresh cell.now pass }
     requires settings { cell.now.fixed ≡ settings.now }
 {
     let name = container(alloc, name)?;
-    let owner = Text::from_utf8(alloc, b"acme")?;
+    let owner = Text::from_str(alloc, "acme")?;
     let mut door = TurnDoor::new(rt, cell, pass);
     match preset_bucket(alloc, settings, &mut door, &name, &owner, EARLY) {
         Ok(()) => Ok(()),
@@ -92,9 +92,9 @@ fn two_passes_of_one_cell_make_a_put_each(rt: HostRuntime) -> Result<(), Fail> {
     };
     let (cell, mut first) = Turn::new(alloc, realm)?;
     let maker = cell.split(&mut first, 1);
-    make(&rt, alloc, &settings, &cell, maker, b"box")?;
+    make(&rt, alloc, &settings, &cell, maker, "box")?;
     let maker = cell.split(&mut first, 1);
-    make(&rt, alloc, &settings, &cell, maker, b"bag")?;
+    make(&rt, alloc, &settings, &cell, maker, "bag")?;
     let one = cell.split(&mut first, 1);
     let other = cell.split(&mut first, 1);
     let (in_box, in_bag) = join(

@@ -81,8 +81,8 @@ pub fn small_settings() -> Result<Settings, Fail> {
     Ok(made.ok_or("settings")?)
 }
 
-pub fn container(alloc: Global, name: &[u8]) -> Result<BucketName, Fail> {
-    let name = BucketName::new(Text::from_utf8(alloc, name)?).map_err(|_| "a name")?;
+pub fn container(alloc: Global, name: &str) -> Result<BucketName, Fail> {
+    let name = BucketName::new(Text::from_str(alloc, name)?).map_err(|_| "a name")?;
     Ok(name)
 }
 
@@ -91,7 +91,7 @@ pub fn plan(alloc: Global, workers: u32, accepts: Option<u64>) -> Result<ServePl
         port: 8080,
         workers,
         accepts,
-        bucket: Some(container(alloc, b"box")?),
+        bucket: Some(container(alloc, "box")?),
     })
 }
 
@@ -104,7 +104,7 @@ pub fn has_output<R: Wait>(rt: &R, output: &Arc<Mutex<Vec<u8>>>, wanted: &[u8]) 
 }
 
 /// A net of two connections.
-pub fn net_of<'a, R>(
+pub fn net_of<'a, R: Copy>(
     rt: R,
     alloc: Global,
     connections: [(&'a [u8], &Arc<Mutex<Vec<u8>>>); 2],

@@ -42,7 +42,13 @@ impl Upload {
         bytes: &'static [u8],
     ) -> anyhow::Result<Upload> {
         Ok(Upload {
-            task: Stepping::new(PutTask::new(alloc, settings, 1, asker(alloc)?, put_of(alloc, name)?)?),
+            task: Stepping::new(PutTask::new(
+                alloc,
+                settings,
+                1,
+                asker(alloc)?,
+                put_of(alloc, name)?,
+            )?),
             actor,
             left: bytes,
         })

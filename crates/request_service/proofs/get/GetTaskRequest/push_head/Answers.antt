@@ -10,8 +10,8 @@ use Rattle.request_service.specs.Requests.{shown_text}
 use Rattle.request_service.proofs.Texts.{get_text}
 use Rattle.request_service.proofs.get.GetTaskRequest.push_head.Goals as goal
 
-pub returns : goal.returns
-returns c =
+pub returns-in-Some : goal.returns-in-Some
+returns-in-Some c =
     let r = request_of c.args.self.now in
     let reply = c.in-Some.reply.now in
     let span = c.span_in.ensures ∙ ap (λ (r : GetRequest). span_of r.get) c.request.ensures in

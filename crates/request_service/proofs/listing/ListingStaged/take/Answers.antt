@@ -1,4 +1,4 @@
-use Rattle.std.proofs.Common.{ap, subst}
+use Rattle.std.proofs.Common.{ap}
 use Rattle.request_service.specs.declared.listing.Listing.{Listing}
 use Rattle.request_service.proofs.listing.ListingStaged.take.Goals as goal
 
