@@ -12,9 +12,9 @@ use Rattle.rgw_script.specs.Runs.{with_breaks, IsShort, IsWithin, ReadsAll, Read
 
 -- ---- lists
 
-texts_both : {Is : List ℕ → Type 0} (xs ys : List (List ℕ)) → AllByRecursion Is xs → AllByRecursion Is ys → AllByRecursion Is (xs ++ ys)
-texts_both [] ys p q = q
-texts_both (x ∷ xs) ys p q = (p.0, texts_both xs ys p.1 q)
+texts_both : (Is : List ℕ → Type 0) (xs ys : List (List ℕ)) → AllByRecursion Is xs → AllByRecursion Is ys → AllByRecursion Is (xs ++ ys)
+texts_both Is [] ys p q = q
+texts_both Is (x ∷ xs) ys p q = (p.0, texts_both Is xs ys p.1 q)
 
 breaks_more : (texts : List (List ℕ)) (line rest : List ℕ) → with_breaks texts ++ (line ++ 10 ∷ rest) ≡ with_breaks (texts ++ line ∷ []) ++ rest
 breaks_more [] line rest = sym (append_assoc line (10 ∷ []) rest)
@@ -144,7 +144,10 @@ nothing_sized None = tt
 nothing_sized (Some all) = refl
 
 pub nothing_read : (left : Option (List ℕ)) → ReadsSo left left [] [] 0
-nothing_read left = record { some = nothing_some left; size = nothing_sized left }
+nothing_read left = record {
+  some = record { read = []; consumed = Consumes-nil left; unbroken = tt; short = tt; within = nothing_within left; fronts = inl refl };
+  size = nothing_sized left;
+}
 
 -- the input ended
 pub all_read : (first left : Option (List ℕ)) (texts : List (List ℕ)) (rest : List ℕ) → ReadsSome first left texts rest → rest ≡ [] → IsAtEnd left → ReadsAll first left texts
@@ -169,8 +172,8 @@ module _ (first left : Option (List ℕ)) (texts : List (List ℕ)) (rest : List
         some = record {
           read = reads.some.read;
           consumed = reads.some.consumed;
-          unbroken = texts_both texts (new.line ∷ []) reads.some.unbroken (takes.one, tt);
-          short = texts_both texts (new.line ∷ []) reads.some.short (takes.short, tt);
+          unbroken = texts_both IsUnbroken texts (new.line ∷ []) reads.some.unbroken (takes.one, tt);
+          short = texts_both IsShort texts (new.line ∷ []) reads.some.short (takes.short, tt);
           within = within_of first reads.some.read new.waits new.given size takes.within;
           fronts = elim reads.some.fronts [
             | inl front ↦ inl (front ∙ ap (λ l. with_breaks texts ++ l) takes.bytes ∙ breaks_more texts new.line new.waits)
@@ -194,8 +197,8 @@ module _ (first left : Option (List ℕ)) (texts : List (List ℕ)) (rest : List
         some = record {
           read = reads.some.read;
           consumed = reads.some.consumed;
-          unbroken = texts_both texts (new.line ∷ []) reads.some.unbroken (takes.one, tt);
-          short = texts_both texts (new.line ∷ []) reads.some.short (takes.short, tt);
+          unbroken = texts_both IsUnbroken texts (new.line ∷ []) reads.some.unbroken (takes.one, tt);
+          short = texts_both IsShort texts (new.line ∷ []) reads.some.short (takes.short, tt);
           within = within_of first reads.some.read new.waits new.given size takes.within;
           fronts = elim reads.some.fronts [
             | inl front ↦ inr (
