@@ -1,5 +1,5 @@
 -- What a head asks, and what becomes of the bytes behind it.
-use Rattle.std.proofs.Common.{◌≡◌, ℕ, ◌+◌, ◌≤◌, Bool, true, false, not, cond, ◌&&◌, ◌||◌, nat_lt, List, length, Option, Some, None, refl, sym, ap, ◌∙◌, subst, codes, arith}
+use Rattle.std.proofs.Common.{◌≡◌, ℕ, ◌+◌, ◌≤◌, Bool, true, false, not, cond, ◌&&◌, nat_lt, List, length, Option, Some, None, refl, sym, ap, ◌∙◌, subst, codes, arith}
 use Rattle.std.specs.Prelude.{bytes_eq}
 use Rattle.std.proofs.lemmas.Bool.{and_parts}
 use Rattle.std.proofs.lemmas.Bool.Decides.{nat_tests}
@@ -16,7 +16,7 @@ use Rattle.swift_words.specs.declared.target.Target.{Target}
 use Rattle.swift_words.specs.declared.target.Target.TheVariants as targets
 use Rattle.swift_words.specs.declared.query.Query.{Query}
 use Rattle.swift_words.specs.Targets.{target_fault, target_of, asked_by as query_of}
-use Rattle.swift_requests.specs.Asks.{target_limit, has_taken_method, is_taken, is_own, is_above, put_refusal, get_refusal, list_refusal, asked_unless, asked_at, asked_by, asked_of}
+use Rattle.swift_requests.specs.Asks.{target_limit, is_taken, is_own, is_above, put_refusal, get_refusal, list_refusal, asked_unless, asked_at, asked_by, asked_of}
 use Rattle.swift_requests.proofs.Refusals.{put_passed}
 use Rattle.swift_requests.specs.Bodies.{body_use, is_unread}
 use Rattle.swift_requests.specs.declared.asked.Asked.{Asked}

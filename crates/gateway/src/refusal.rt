@@ -28,7 +28,7 @@ fn push_refused(out: &mut Vec<u8>, asked: &Asked, form: ReplyForm) -> Result<(),
     match asked {
         Asked::BadHost => push_bad_request(out, BadRequest::Host, form),
         Asked::Refused(refusal) => push_refusal(out, refusal, form),
-        Asked::Put(_) | Asked::Get(_) | Asked::Listing(_, _) => unreachable!(),
+        Asked::Put(_) | Asked::Unfed(_) => unreachable!(),
     }
 }
 
