@@ -75,7 +75,7 @@ fn put_and_get<R: Clock>(
     size: u64,
 ) -> anyhow::Result<Both> {
     let piece = vec![in alloc; 7_u8; PIECE]?;
-    let mut task = Stepping::<PutTask>::on(bench, alloc, 0)?;
+    let mut task = Stepping::new(PutTask::on(bench, alloc, 0)?);
     let put = clocked(
         rt,
         || send_all(alloc, &mut bench.stage, &mut task, piece.as_slice(), size),
@@ -87,7 +87,7 @@ fn put_and_get<R: Clock>(
 }
 
 fn get_large<R: Clock>(rt: &R, alloc: Global, bench: &mut Bench) -> anyhow::Result<Timed> {
-    let mut task = Stepping::<GetTask>::on(bench, alloc, 0)?;
+    let mut task = Stepping::new(GetTask::on(bench, alloc, 0)?);
     let get = clocked(rt, || take_all(alloc, &mut bench.stage, &mut task));
     drop(task);
     get

@@ -4,7 +4,6 @@ use crate::ops::Kind;
 use crate::round::Round;
 use crate::sample::Sample;
 use crate::tasks::run_tasks;
-use realm_door::Stepping;
 use std::alloc::Global;
 use std::rt::Clock;
 use task_get::GetTask;
@@ -41,8 +40,8 @@ fn show_rounds<R: Clock + Print>(rt: &R, alloc: Global, bench: &mut Bench) -> an
         let (events, refused) = (round.events, round.refused);
         println!(rt; "{name}: {events} events, {refused} refused")?;
     }
-    let puts = run_tasks::<Stepping<PutTask>, R>(rt, alloc, bench, 10, 100)?.events;
-    let gets = run_tasks::<Stepping<GetTask>, R>(rt, alloc, bench, 10, 100)?.events;
+    let puts = run_tasks::<PutTask, R>(rt, alloc, bench, 10, 100)?.events;
+    let gets = run_tasks::<GetTask, R>(rt, alloc, bench, 10, 100)?.events;
     println!(rt; "100 puts: {puts} turns, 100 gets: {gets}")?;
     Ok(())
 }
@@ -69,9 +68,9 @@ fn measure_rounds<R: Clock + Print>(
         let round = bench.run(rt, alloc, kind, names_of(kind, heads), count)?;
         tell(rt, name, &round)?;
     }
-    let puts = run_tasks::<Stepping<PutTask>, R>(rt, alloc, bench, heads, TASKS)?;
+    let puts = run_tasks::<PutTask, R>(rt, alloc, bench, heads, TASKS)?;
     tell(rt, "turn of a put of 5 bytes", &puts)?;
-    let gets = run_tasks::<Stepping<GetTask>, R>(rt, alloc, bench, heads, TASKS)?;
+    let gets = run_tasks::<GetTask, R>(rt, alloc, bench, heads, TASKS)?;
     tell(rt, "turn of a get of 5 bytes", &gets)
 }
 

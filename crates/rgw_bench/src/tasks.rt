@@ -4,7 +4,7 @@ use crate::chance::one_of;
 use crate::ops::{asker, get_of, put_of};
 use crate::round::Round;
 use crate::timing::clocked;
-use realm_door::{Door, Stepping, Task, TaskTurn};
+use realm_door::{Door, Staged, Stepping, Task, TaskTurn};
 use realm_stage::RealmStage;
 use std::alloc::Global;
 use std::rt::Clock;
@@ -16,7 +16,7 @@ use task_words::BodyEnd;
 const TURNS: u32 = 64;
 
 /// A request on one of the heads.
-pub trait Requested: Task + Drop {
+pub trait Requested: Staged + Drop {
     /// That on the name of this number.
     fn on(bench: &Bench, alloc: Global, name: u64) -> anyhow::Result<Self>;
 
@@ -24,28 +24,28 @@ pub trait Requested: Task + Drop {
     fn feed_small(&mut self) -> anyhow::Result<()>;
 }
 
-impl Requested for Stepping<PutTask> {
-    fn on(bench: &Bench, alloc: Global, name: u64) -> anyhow::Result<Stepping<PutTask>> {
+impl Requested for PutTask {
+    fn on(bench: &Bench, alloc: Global, name: u64) -> anyhow::Result<PutTask> {
         bench.settings.has_zone_one();
         let asker = asker(alloc)?;
         let put = put_of(alloc, name)?;
-        Ok(Stepping::new(PutTask::new(alloc, &bench.settings, 1, asker, put)?))
+        Ok(PutTask::new(alloc, &bench.settings, 1, asker, put)?)
     }
 
     fn feed_small(&mut self) -> anyhow::Result<()> {
-        self.stages.feed(b"hello")?;
-        self.stages.finish(BodyEnd::Whole);
+        self.feed(b"hello")?;
+        self.finish(BodyEnd::Whole);
         Ok(())
     }
 }
 
-impl Requested for Stepping<GetTask> {
-    fn on(_bench: &Bench, alloc: Global, name: u64) -> anyhow::Result<Stepping<GetTask>> {
-        Ok(Stepping::new(GetTask::new(GetRequest {
+impl Requested for GetTask {
+    fn on(_bench: &Bench, alloc: Global, name: u64) -> anyhow::Result<GetTask> {
+        Ok(GetTask::new(GetRequest {
             zone: 1,
             asker: asker(alloc)?,
             get: get_of(alloc, name)?,
-        })))
+        }))
     }
 
     fn feed_small(&mut self) -> anyhow::Result<()> {
@@ -81,11 +81,11 @@ fn chunk_of<S: Requested>(
     bench: &Bench,
     heads: u64,
     from: u64,
-) -> anyhow::Result<Vec<S>> {
+) -> anyhow::Result<Vec<Stepping<S>>> {
     let mut tasks = Vec::new(alloc);
     for more in 0..u64::from(CHUNK) {
         let name = one_of(heads, from.saturating_add(more));
-        tasks.push(S::on(bench, alloc, name)?)?;
+        tasks.push(Stepping::new(S::on(bench, alloc, name)?))?;
     }
     Ok(tasks)
 }
@@ -94,11 +94,11 @@ fn chunk_of<S: Requested>(
 fn take_all<S: Requested>(
     alloc: Global,
     stage: &mut RealmStage,
-    tasks: &mut [S],
+    tasks: &mut [Stepping<S>],
 ) -> anyhow::Result<u64> {
     let mut turns: u64 = 0;
     for task in tasks {
-        task.feed_small()?;
+        task.stages.feed_small()?;
         turns = turns.saturating_add(turns_of(alloc, stage, task)?);
     }
     Ok(turns)
