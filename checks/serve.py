@@ -29,7 +29,7 @@ TOKEN = {"X-Auth-Token": "AUTH_tk1"}
 BOX = "/swift/v1/AUTH_acme/box"
 
 # How often a reply that comes early is asked for, and how long a body is behind which it comes.
-EARLY_REPLIES = 20
+EARLY_REPLIES = 100
 EARLY_BODY = 4 << 20
 
 
