@@ -302,9 +302,10 @@ def processor_seconds():
     return used.ru_utime + used.ru_stime
 
 
-def run(names, say, is_proved=False):
+def run(names, say, is_proved=False, until=None):
     """Tries the wrong bodies of these crates, and returns how many were refused, those that were not, with the reason,
-    and the seconds of a processor. is_proved: the gate has just proved them."""
+    and the seconds of a processor. is_proved: the gate has just proved them. until: no crate is begun after this time of
+    the monotonic clock; one that was not begun stays due."""
     crates = [it for it in kit.crates() if it.name in names]
     if not libraries_are_there(crates):
         say("building the libraries that they stand on")
@@ -317,6 +318,8 @@ def run(names, say, is_proved=False):
 
     def timed(crate):
         begun = time.monotonic()
+        if until is not None and begun > until:
+            return crate.name, None, 0, 0
         results, checks = try_crate(crate, is_proved)
         return crate.name, results, checks, time.monotonic() - begun
 
@@ -324,6 +327,9 @@ def run(names, say, is_proved=False):
     with ThreadPoolExecutor(kit.processors()) as pool:
         for ended in as_completed([pool.submit(timed, it) for it in order]):
             name, results, checks, seconds = ended.result()
+            if results is None:
+                say(f"{name}: no time was left for its wrong bodies, which stay due")
+                continue
             with alone:
                 bad = sorted((edit, it) for edit, it in results.items() if it[0] not in GOOD)
                 count += len(results) - len(bad)

@@ -2,18 +2,22 @@
 use Rattle.std.proofs.Common.{◌≡◌, inl, inr, ℕ, ◌+◌, ◌<◌, ◌≤◌, Bool, true, false, List, [], ◌++◌, length, take, Option, None, Ok, Err, refl, sym, ap, ◌∙◌, subst, append_assoc, length-append, arith}
 use Rattle.std.proofs.lemmas.List.{length-take-le, append-nil}
 use Rattle.std.proofs.KnownBytes.{Consumes-nil, Consumes-trans}
-use Rattle.std.specs.Io.KnownBytes.{Consumes}
+use Rattle.std.specs.Io.KnownBytes.{Consumes, IsAtEnd}
 use Rattle.http_chunks.specs.declared.body.BodyEnd.{BodyEnd}
 use Rattle.http_chunks.specs.declared.body.BodyEnd.TheVariants as End
+use Rattle.http_intake.specs.declared.fault.IntakeFault.{IntakeFault}
 use Rattle.http_intake.specs.declared.fault.IntakeFault.TheVariants as Fault
-use Rattle.http_intake.specs.Grammar.{IsBroken, IsBrokenBy, Gives, ReadsBody}
+use Rattle.http_intake.specs.Grammar.{IsBroken, Gives, IsWrong, GoesWrong, ReadsBody}
 use Rattle.http_intake.specs.Intake.{IntakeState, IsUnchunked, IsWhole, is_line_due, GivesBody, GivesChunk}
 use Rattle.http_intake.proofs.BodyGrammar.{gives_none, gives_trans}
 use Rattle.http_intake.proofs.Given.{never_due}
+use Rattle.http_intake.proofs.WrongBodies.{never_wrong}
 use Rattle.swift_requests.specs.declared.body.BodyUse.{BodyUse}
 use Rattle.swift_requests.specs.declared.body.BodyUse.TheVariants.{Unread}
-use Rattle.call_words.specs.Bodies.{Fate, read_whole, broken_off, unread, is_broken, IsWrong, Suits}
-use Rattle.call_service.specs.Bodies.{most_due, most_due_by, HasGiven, HasGivenAll, BreaksIn, IsCutIn, FailsIn, HasFate, HasBegun, IsBegunOrLeft, ReadsTo, DropsBody}
+use Rattle.call_words.specs.Bodies.{Fate, read_whole, broken_off, unread, Suits}
+use Rattle.call_words.specs.Calls.{body_at}
+use Rattle.call_service.specs.Bodies.{most_due, most_due_by, HasGiven, HasGivenAll, BreaksIn, FallsShort, FallsBehind, FailsIn, HasFate, HasComeTo, HasCome, ReadsTo, DropsBody}
+use Rattle.call_service.specs.Serving.{body_of}
 
 -- ---- one call
 
@@ -73,20 +77,6 @@ pub has_given_all : (old new : IntakeState) (a b : Option (List ℕ)) (was out :
 has_given_all old new a b was out given chunk reads whole =
     record { has_given = (has_given old new a b was out 0 given chunk reads whole.0).0; whole = whole.1 }
 
-pub is_cut_in : (old new : IntakeState) (a b : Option (List ℕ)) (out : List ℕ) → ReadsBody a b old new out (Err Fault.Cut) → IsCutIn old a b
-is_cut_in old new a b out reads = (record { more = reads.0; read = reads.1; broken = reads.2.0 }, reads.2.1)
-
-pub fails_in : (old new : IntakeState) (a b : Option (List ℕ)) (out : List ℕ) → ReadsBody a b old new out (Err Fault.ReadFault) → FailsIn old a b
-fails_in old new a b out reads = record { more = reads.0; read = reads.1; broken = reads.2 }
-
-pub bad_chunk_in : (old new : IntakeState) (a b : Option (List ℕ)) (out : List ℕ) → ReadsBody a b old new out (Err Fault.BadChunk) → BreaksIn old a b End.BadChunk
-bad_chunk_in old new a b out reads = record { more = reads.0; read = reads.1; broken = reads.2 }
-
-pub too_large_in : (old new : IntakeState) (a b : Option (List ℕ)) (out : List ℕ) → ReadsBody a b old new out (Err Fault.BodyTooLarge) → BreaksIn old a b End.TooLarge
-too_large_in old new a b out reads = record { more = reads.0; read = reads.1; broken = reads.2 }
-
--- ---- several calls
-
 pub none_given : (old : IntakeState) (a : Option (List ℕ)) → old.failed ≡ None → HasGiven old old a a []
 none_given old a sound = record {
   more = [];
@@ -96,6 +86,27 @@ none_given old a sound = record {
   failed = sound;
   largest = refl;
 }
+
+-- nothing was given yet
+pub falls_here : (old : IntakeState) (a b : Option (List ℕ)) → old.failed ≡ None → FallsShort old a b → FallsBehind old a b []
+falls_here old a b sound falls = record { between = old; left = a; has_given = none_given old a sound; falls = falls }
+
+cut_behind : (old new : IntakeState) (a b : Option (List ℕ)) (out : List ℕ) → old.failed ≡ None → ReadsBody a b old new out (Err Fault.Cut) → FallsBehind old a b [] × IsAtEnd b
+cut_behind old new a b out sound reads = (falls_here old a b sound (record { more = reads.0; read = reads.1; broken = reads.2.0 }), reads.2.1)
+
+pub is_cut_in : (old new : IntakeState) (a b : Option (List ℕ)) (out : List ℕ) (fault : IntakeFault) → fault ≡ Fault.Cut → old.failed ≡ None → ReadsBody a b old new out (Err fault) → FallsBehind old a b [] × IsAtEnd b
+is_cut_in old new a b out fault is sound reads = cut_behind old new a b out sound (subst (λ f. ReadsBody a b old new out (Err f)) is reads)
+
+pub fails_in : (old new : IntakeState) (a b : Option (List ℕ)) (out : List ℕ) → ReadsBody a b old new out (Err Fault.ReadFault) → FailsIn old a b
+fails_in old new a b out reads = record { more = reads.0; read = reads.1; broken = reads.2 }
+
+pub bad_chunk_in : (old new : IntakeState) (a b : Option (List ℕ)) (out : List ℕ) → ReadsBody a b old new out (Err Fault.BadChunk) → BreaksIn old a b End.BadChunk []
+bad_chunk_in old new a b out reads = record { more = reads.0; read = reads.1; wrong = reads.2 }
+
+pub too_large_in : (old new : IntakeState) (a b : Option (List ℕ)) (out : List ℕ) → ReadsBody a b old new out (Err Fault.BodyTooLarge) → BreaksIn old a b End.TooLarge []
+too_large_in old new a b out reads = record { more = reads.0; read = reads.1; wrong = reads.2 }
+
+-- ---- several calls
 
 -- a body that was left
 pub left_given : (old new : IntakeState) (a b : Option (List ℕ)) → old.failed ≡ None → new ≡ old → Consumes a b [] → HasGiven old new a b []
@@ -109,27 +120,29 @@ left_given old new a b sound same read =
       largest = refl;
     })
 
--- a body that did not break off was begun
-has_begun : (fate : Fate) (old new : IntakeState) (a b : Option (List ℕ)) (body : List ℕ) → is_broken fate ≡ false → old.failed ≡ None → HasFate fate old new a b body → HasBegun old new a b
-has_begun read_whole old new a b body whole sound has = inl (body, has.has_given)
-has_begun (broken_off why) old new a b body whole sound has = let clash : true ≡ false = whole in absurd (cc)
-has_begun unread old new a b body whole sound has = inl ([], left_given old new a b sound has.1 has.2)
+-- a body of that fate came so far
+has_come_to : (fate : Fate) (old new : IntakeState) (a b : Option (List ℕ)) (body : List ℕ) → old.failed ≡ None → HasFate fate old new a b body → HasComeTo (body_at fate body).end old new a b body
+has_come_to read_whole old new a b body sound has = has
+has_come_to (broken_off why) old new a b body sound has = (why, has)
+has_come_to unread old new a b body sound has = subst (HasGiven old new a b) (sym has.0) (left_given old new a b sound has.1 has.2)
+
+-- the bytes of a body of that fate
+bytes_at : (fate : Fate) (old new : IntakeState) (a b : Option (List ℕ)) (body : List ℕ) → HasFate fate old new a b body → (body_at fate body).bytes ≡ body
+bytes_at read_whole old new a b body has = refl
+bytes_at (broken_off why) old new a b body has = refl
+bytes_at unread old new a b body has = sym has.0
 
 -- or it is left
-pub fate_begun : (plan : BodyUse) (fate : Fate) (old new : IntakeState) (a b : Option (List ℕ)) (body : List ℕ) → Suits plan fate → is_broken fate ≡ false → old.failed ≡ None → HasFate fate old new a b body → IsBegunOrLeft plan old new a b
-fate_begun Unread unread old new a b body suits whole sound has = (refl, has.1, has.2)
-fate_begun Unread fate old new a b body suits whole sound has = absurd suits
-fate_begun plan fate old new a b body suits whole sound has = has_begun fate old new a b body whole sound has
-
--- one that broke off was begun, and none that is left breaks off
-pub broken_begun : (plan : BodyUse) (why : BodyEnd) (old new : IntakeState) (a b : Option (List ℕ)) → Suits plan (broken_off why) → IsWrong why → BreaksIn old a b why → IsBegunOrLeft plan old new a b
-broken_begun Unread why old new a b suits wrong broken = absurd suits
-broken_begun plan why old new a b suits wrong broken = inr (why, wrong, broken)
+pub fate_come : (plan : BodyUse) (fate : Fate) (old new : IntakeState) (a b : Option (List ℕ)) (body : List ℕ) → Suits plan fate → old.failed ≡ None → HasFate fate old new a b body → HasCome plan old new a b (body_at fate body)
+fate_come Unread unread old new a b body suits sound has = ((refl, has.1, has.2), refl)
+fate_come Unread fate old new a b body suits sound has = absurd suits
+fate_come plan fate old new a b body suits sound has =
+    subst (HasComeTo (body_at fate body).end old new a b) (sym (bytes_at fate old new a b body has)) (has_come_to fate old new a b body sound has)
 
 -- nothing was read yet
-pub none_begun : (plan : BodyUse) (old : IntakeState) (a : Option (List ℕ)) → old.failed ≡ None → IsBegunOrLeft plan old old a a
-none_begun Unread old a sound = (refl, refl, Consumes-nil a)
-none_begun plan old a sound = inl ([], none_given old a sound)
+pub none_come : (plan : BodyUse) (old : IntakeState) (a : Option (List ℕ)) → old.failed ≡ None → HasCome plan old old a a (body_of [])
+none_come Unread old a sound = ((refl, refl, Consumes-nil a), refl)
+none_come plan old a sound = none_given old a sound
 
 module _ (start now : IntakeState) (a b c : Option (List ℕ)) (given more : List ℕ) where
   pub give_more : (next : IntakeState) → HasGiven start now a b given → HasGiven now next b c more → HasGiven start next a c (given ++ more)
@@ -147,42 +160,51 @@ module _ (start now : IntakeState) (a b c : Option (List ℕ)) (given more : Lis
   give_all next x y = record { has_given = give_more next x y.has_given; whole = y.whole }
 
 module _ (start now : IntakeState) (a b c : Option (List ℕ)) (given : List ℕ) where
-  pub break_behind : (why : BodyEnd) → HasGiven start now a b given → BreaksIn now b c why → BreaksIn start a c why
-  break_behind why x y = record {
+  pub break_behind : (why : BodyEnd) (came : List ℕ) → HasGiven start now a b given → BreaksIn now b c why came → BreaksIn start a c why (given ++ came)
+  break_behind why came x y = record {
     more = x.more ++ y.more;
     read = Consumes-trans a b c x.more y.more x.read y.read;
-    broken = subst (λ l. IsBroken start l why) (append_assoc start.buffer x.more y.more) (x.gives.broken y.more why y.broken);
+    wrong = subst (λ l. GoesWrong start l why (given ++ came)) (append_assoc start.buffer x.more y.more) (x.gives.wrong y.more why came y.wrong);
   }
 
-  pub end_behind : (next : IntakeState) (end : BodyEnd) → HasGiven start now a b given → ReadsTo now next b c [] end → ReadsTo start next a c (given ++ []) end
-  end_behind next End.Whole x y = give_all start now a b c given [] next x y
-  end_behind next End.Cut x y = (break_behind End.Cut x y.0, y.1)
-  end_behind next End.BadChunk x y = break_behind End.BadChunk x y
-  end_behind next End.TooLarge x y = break_behind End.TooLarge x y
+  pub short_behind : HasGiven start now a b given → FallsShort now b c → FallsShort start a c
+  short_behind x y = record {
+    more = x.more ++ y.more;
+    read = Consumes-trans a b c x.more y.more x.read y.read;
+    broken = subst (λ l. IsBroken start l End.Cut) (append_assoc start.buffer x.more y.more) (x.gives.broken y.more End.Cut y.broken);
+  }
+
+  pub fall_behind : (more : List ℕ) → HasGiven start now a b given → FallsBehind now b c more → FallsBehind start a c (given ++ more)
+  fall_behind more x y = record {
+    between = y.between;
+    left = y.left;
+    has_given = give_more start now a b y.left given more y.between x y.has_given;
+    falls = y.falls;
+  }
+
+  pub end_behind : (next : IntakeState) (more : List ℕ) (end : BodyEnd) → HasGiven start now a b given → ReadsTo now next b c more end → ReadsTo start next a c (given ++ more) end
+  end_behind next more End.Whole x y = give_all start now a b c given more next x y
+  end_behind next more End.Cut x y = (fall_behind more x y.0, y.1)
+  end_behind next more End.BadChunk x y = break_behind End.BadChunk more x y
+  end_behind next more End.TooLarge x y = break_behind End.TooLarge more x y
+
+-- what a body that fell short behind some bytes is in all
+pub falls_short : (old : IntakeState) (a b : Option (List ℕ)) (given : List ℕ) → FallsBehind old a b given → FallsShort old a b
+falls_short old a b given x = short_behind old x.between a x.left b given x.has_given x.falls
 
 -- a piece that was given leaves less
 pub some_left : (old new : IntakeState) (a b : Option (List ℕ)) (out : List ℕ) (n : ℕ) → HasGiven old new a b (take n out) → n ≤ length out → 0 < n → most_due new < most_due old
 some_left old new a b out n x fits some = omega (arith, x.due, length-take-le n out fits, some)
 
 -- a body whose chunks went wrong broke off
-pub breaks_so : (old new : IntakeState) (a b : Option (List ℕ)) (end : BodyEnd) → IsWrong end → DropsBody old new a b end → BreaksIn old a b end
+pub breaks_so : (old new : IntakeState) (a b : Option (List ℕ)) (end : BodyEnd) → IsWrong end → DropsBody old new a b end → (came : List ℕ) × BreaksIn old a b end came
 breaks_so old new a b End.Whole wrong drops = absurd wrong
 breaks_so old new a b End.Cut wrong drops = absurd wrong
-breaks_so old new a b End.BadChunk wrong drops = drops.1
-breaks_so old new a b End.TooLarge wrong drops = drops.1
+breaks_so old new a b End.BadChunk wrong drops = drops
+breaks_so old new a b End.TooLarge wrong drops = drops
 
 -- a body that is not in chunks does not break off so
-broken_unchunked : (old : IntakeState) (bytes : List ℕ) (end : BodyEnd) → IsUnchunked old → IsWrong end → IsBroken old bytes end → ⊥
-broken_unchunked old bytes End.Whole plain wrong broken = wrong
-broken_unchunked old bytes End.Cut plain wrong broken = wrong
-broken_unchunked old bytes End.BadChunk plain wrong broken =
-    let by = subst (λ b. IsBrokenBy b old bytes End.BadChunk) plain broken in
-    let clash : End.BadChunk ≡ End.Cut = by.0 in cc
-broken_unchunked old bytes End.TooLarge plain wrong broken =
-    let by = subst (λ b. IsBrokenBy b old bytes End.TooLarge) plain broken in
-    let clash : End.TooLarge ≡ End.Cut = by.0 in cc
-
 pub unbroken : (old new : IntakeState) (a b : Option (List ℕ)) (end : BodyEnd) → IsUnchunked old → IsWrong end → DropsBody old new a b end → ⊥
 unbroken old new a b end plain wrong drops =
     let breaks = breaks_so old new a b end wrong drops in
-    broken_unchunked old (old.buffer ++ breaks.more) end plain wrong breaks.broken
+    never_wrong old (old.buffer ++ breaks.1.more) end breaks.0 plain breaks.1.wrong

@@ -18,21 +18,22 @@ use Rattle.swift_requests.specs.declared.body.BodyUse.{BodyUse}
 use Rattle.swift_requests.specs.Bodies.{is_unread}
 use Rattle.task_words.specs.declared.asker.Asker.{Asker}
 use Rattle.task_words.specs.declared.outcome.Outcome.{Outcome}
+use Rattle.task_words.specs.Outcomes.{Body}
 use Rattle.task_words.specs.declared.outcome.Outcome.TheVariants.{BodyFailed}
 use Rattle.task_words.specs.declared.span.Span.{Span}
-use Rattle.call_words.specs.Bodies.{Fate, read_whole, broken_off, unread, is_broken, IsWrong, Suits}
-use Rattle.call_words.specs.Calls.{task, text_by, IsBorneOut}
+use Rattle.call_words.specs.Bodies.{Fate, read_whole, broken_off, unread, is_broken, Suits}
+use Rattle.call_words.specs.Calls.{task, text_by, body_at, IsBorneOut}
 use Rattle.call_words.specs.Texts.{told_reply, told_list, text_if}
 use Rattle.task_words.specs.Answers.{span_of}
-use Rattle.call_service.specs.Bodies.{BreaksIn, HasFate, IsBegunOrLeft, LeavesBody}
+use Rattle.call_service.specs.Bodies.{BreaksIn, HasFate, HasCome, LeavesBody}
 use Rattle.call_service.specs.declared.fault.ServeFault.{ServeFault}
 use Rattle.call_service.specs.declared.fault.ServeFault.TheVariants as faults
-use Rattle.call_service.specs.Serving.{Site, Side, is_by_end, AppendsFront, LeavesText, BearsOut, form_at, LeavesUnwritten, IsReplied, IsServed, IsInPart, IsLeft, IsBeforeReply, IsStopped}
+use Rattle.call_service.specs.Serving.{Site, Side, is_by_end, AppendsFront, LeavesText, BearsOut, BearsOutSoFar, body_of, form_at, LeavesUnwritten, IsReplied, IsServed, IsInPart, IsLeft, IsBeforeReply, IsStopped}
 use Rattle.door_moments.specs.Acts.{Asks}
 use Rattle.call_service.specs.declared.served.Served.TheVariants as services
-use Rattle.call_service.specs.Replying.{StopsEvent, IsUnwanted, Replies, IsPartly, stand, StopsReply}
+use Rattle.call_service.specs.Replying.{StopsEvent, IsUnwanted, IsUnwritten, Replies, IsPartly, stand, StopsReply}
 use Rattle.door_moments.proofs.Asking.{both_ask}
-use Rattle.call_service.proofs.Passing.{fate_begun, broken_begun}
+use Rattle.call_service.proofs.Passing.{fate_come, falls_here}
 use Rattle.call_service.specs.Faults.{fault_by_door}
 
 -- an event that a door refused was refused for its cause
@@ -93,27 +94,28 @@ module _ (stripe zone : ℕ) (asker : Asker) (body shown : List ℕ) (y : Accoun
 
 module _ (tells alone : Type 0) (site : Site) (form : ReplyForm) (asked : Asked) (plan : BodyUse) (found : List Event) (x y : Side) where
   -- the first event did not come
-  pub row_stops : (fault : ServeFault) → StopsEvent tells found fault → IsBegunOrLeft plan x.intake y.intake x.ends.left y.ends.left → LeavesUnwritten tells alone site true x y → IsStopped tells alone site form asked plan found x y fault
-  row_stops faults.OutOfMemory stops begun leaves = inl (begun, true, leaves)
-  row_stops faults.Worn stops begun leaves = (stops, inl (begun, true, leaves))
-  row_stops fault stops begun leaves = absurd stops
+  pub row_stops : (body : Body) (fault : ServeFault) → StopsEvent tells found fault → HasCome plan x.intake y.intake x.ends.left y.ends.left body → LeavesUnwritten tells alone site asked body true x y → IsStopped tells alone site form asked plan found x y fault
+  row_stops body faults.OutOfMemory stops came leaves = inl (body, came, true, leaves)
+  row_stops body faults.Worn stops came leaves = (stops, inl (body, came, true, leaves))
+  row_stops body fault stops came leaves = absurd stops
 
   -- a read failed
-  pub body_stops : (fault : ServeFault) → is_unread plan ≡ false → LeavesBody x.intake x.ends.left y.ends.left fault → LeavesUnwritten tells alone site false x y → IsStopped tells alone site form asked plan found x y fault
-  body_stops faults.ReadFault read stops leaves = (read, stops, leaves)
-  body_stops fault read stops leaves = absurd stops
+  pub body_stops : (fault : ServeFault) → is_unread plan ≡ false → (x.intake).failed ≡ None → LeavesBody x.intake x.ends.left y.ends.left fault → LeavesUnwritten tells alone site asked (body_of []) false x y → IsStopped tells alone site form asked plan found x y fault
+  body_stops faults.ReadFault read sound stops leaves = record { is_read = read; given = []; falls = falls_here x.intake x.ends.left y.ends.left sound stops; leaves = leaves }
+  body_stops fault read sound stops leaves = absurd stops
 
-  -- the body broke off, and the reply says how the task ended, or that it did
-  module _ (why : BodyEnd) (wrong : IsWrong why) (suits : Suits plan (broken_off why)) (broken : BreaksIn x.intake x.ends.left y.ends.left why) (outcome : Outcome)
+  -- the body broke off behind these bytes, and the reply says how the task ended, or that it did
+  module _ (why : BodyEnd) (suits : Suits plan (broken_off why)) (came : List ℕ) (broken : BreaksIn x.intake x.ends.left y.ends.left why came) (sound : (x.intake).failed ≡ None) (outcome : Outcome)
       (asks : Asks tells alone site.settings (is_by_end outcome) x.door y.door x.ends.told y.ends.told)
-      (right : tells → BearsOut site asked (broken_off why) [] outcome [] y.door) where
+      (right : tells → BearsOut site asked (broken_off why) came outcome [] y.door)
+      (so_far : tells → BearsOutSoFar site asked (body_at (broken_off why) came) y.door) where
     abbrev told : List ℕ
     told = text_by (form_at form (broken_off why)) asked (broken_off why) (task x.door.count outcome) []
 
     abbrev pub broken_replied : Appends x.ends.taken y.ends.taken told → IsReplied tells alone site form asked (broken_off why) x y
     broken_replied written = record {
-      body = [];
-      has_fate = (wrong, broken, refl);
+      body = came;
+      has_fate = broken;
       outcome = outcome;
       shown = [];
       written = written;
@@ -122,13 +124,18 @@ module _ (tells alone : Type 0) (site : Site) (form : ReplyForm) (asked : Asked)
     }
 
     pub broken_stops : (fault : ServeFault) → LeavesText x.ends.taken y.ends.taken told fault → IsStopped tells alone site form asked plan found x y fault
-    broken_stops faults.OutOfMemory leaves = inl (broken_begun plan why x.intake y.intake x.ends.left y.ends.left suits wrong broken, is_by_end outcome, record { unwritten = leaves; asks = asks })
+    broken_stops faults.OutOfMemory leaves = inl (
+      body_at (broken_off why) came,
+      fate_come plan (broken_off why) x.intake y.intake x.ends.left y.ends.left came suits sound broken,
+      is_by_end outcome,
+      record { unwritten = leaves; asks = asks; so_far = so_far },
+    )
     broken_stops faults.WriteFault leaves = (
       record {
         fate = broken_off why;
         suits = suits;
-        body = [];
-        has_fate = (wrong, broken, refl);
+        body = came;
+        has_fate = broken;
         outcome = outcome;
         shown = [];
         written = leaves;
@@ -170,11 +177,11 @@ module _ (tells alone : Type 0) (site : Site) (form : ReplyForm) (asked : Asked)
       asks = in_all more asks;
     }
 
-    unwritten : (more : Bool) → Asks tells alone site.settings more d y.door told y.ends.told → Appends x.ends.taken y.ends.taken [] → LeavesUnwritten tells alone site more x y
-    unwritten more asks none = record { unwritten = none; asks = in_all more asks }
+    unwritten : (more : Bool) → Asks tells alone site.settings more d y.door told y.ends.told → IsUnwritten tells site asked y.door x.ends.taken y.ends.taken → LeavesUnwritten tells alone site asked (body_at fate body) more x y
+    unwritten more asks none = record { unwritten = none.0; asks = in_all more asks; so_far = λ is. none.1 is (body_at fate body) }
 
     left_so : (more : Bool) → Asks tells alone site.settings more d y.door told y.ends.told → IsPartly tells site form asked y.door x.ends.taken y.ends.taken → IsLeft tells alone site form asked plan x y
-    left_so more asks (inl none) = inl (fate_begun plan fate x.intake y.intake x.ends.left y.ends.left body suits whole sound has, more, unwritten more asks none)
+    left_so more asks (inl none) = inl (body_at fate body, fate_come plan fate x.intake y.intake x.ends.left y.ends.left body suits sound has, more, unwritten more asks none)
     left_so more asks (inr part) = inr (in_part more asks part)
 
     -- the reply did not come whole
@@ -186,7 +193,7 @@ module _ (tells alone : Type 0) (site : Site) (form : ReplyForm) (asked : Asked)
     reply_stops (faults.Late read_at clock) stops = (stops.1, by_part stops.2)
       where
         by_part : IsPartly tells site form asked y.door x.ends.taken y.ends.taken
-            → IsBeforeReply tells alone site plan x y ⊎ ((part : IsInPart tells alone site form asked plan x y) × (part.more ≡ false))
+            → IsBeforeReply tells alone site asked plan x y ⊎ ((part : IsInPart tells alone site form asked plan x y) × (part.more ≡ false))
         by_part (inl none) = inl (record { fate = fate; suits = suits; whole = whole; body = body; has_fate = has; leaves = unwritten false stops.0 none })
         by_part (inr part) = inr (in_part false stops.0 part, refl)
 

@@ -1,14 +1,17 @@
 -- The body of a request, as it is read.
-use Rattle.std.specs.Prelude.{◌≡◌, ◌≢◌, ◌⊎◌, ℕ, ◌+◌, ◌<◌, ◌≤◌, Bool, true, false, List, [], ◌++◌, length, take, Option, None, Result, Err}
+use Rattle.std.specs.Prelude.{◌≡◌, ◌≢◌, ℕ, ◌+◌, ◌<◌, ◌≤◌, Bool, true, false, List, [], ◌++◌, length, take, Option, Some, None, Result, Err}
 use Rattle.std.specs.Io.KnownBytes.{Consumes, IsAtEnd}
 use Rattle.gw_io.specs.Outside.{Rose}
 use Rattle.http_chunks.specs.declared.body.BodyEnd.{BodyEnd}
 use Rattle.http_chunks.specs.declared.body.BodyEnd.TheVariants as End
-use Rattle.http_intake.specs.Grammar.{IsBroken, Gives}
+use Rattle.http_intake.specs.Grammar.{IsBroken, Gives, GoesWrong}
 use Rattle.http_intake.specs.Intake.{IntakeState, IsBetween}
 use Rattle.swift_requests.specs.declared.body.BodyUse.{BodyUse}
 use Rattle.swift_requests.specs.declared.body.BodyUse.TheVariants.{Dropped, Unread}
-use Rattle.call_words.specs.Bodies.{Fate, read_whole, broken_off, unread, IsWrong}
+use Rattle.task_words.specs.declared.command.BodyEnd.{BodyEnd as TaskBodyEnd}
+use Rattle.task_words.specs.declared.command.BodyEnd.TheVariants.{Whole, Failed}
+use Rattle.task_words.specs.Outcomes.{Body}
+use Rattle.call_words.specs.Bodies.{Fate, read_whole, broken_off, unread}
 use Rattle.call_service.specs.declared.body.Piece.{Piece}
 use Rattle.call_service.specs.declared.body.Piece.TheVariants as Pieces
 use Rattle.call_service.specs.declared.fault.ServeFault.{ServeFault}
@@ -40,36 +43,49 @@ pub record HasGivenAll (old now : IntakeState) (before after : Option (List ℕ)
   pub has_given : HasGiven old now before after given
   pub whole : IsBetween now
 
--- bytes were read, and what there is then breaks off so
-pub record BreaksIn (old : IntakeState) (before after : Option (List ℕ)) (why : BodyEnd) : Type 0 where
+-- bytes were read, and what there is then is chunks that go wrong, behind these bytes of the body
+pub record BreaksIn (old : IntakeState) (before after : Option (List ℕ)) (why : BodyEnd) (came : List ℕ) : Type 0 where
   pub more : List ℕ
   pub read : Consumes before after more
-  pub broken : IsBroken old (old.buffer ++ more) why
+  pub wrong : GoesWrong old (old.buffer ++ more) why came
+
+-- bytes were read, and what there is then is not all of the body
+pub record FallsShort (old : IntakeState) (before after : Option (List ℕ)) : Type 0 where
+  pub more : List ℕ
+  pub read : Consumes before after more
+  pub broken : IsBroken old (old.buffer ++ more) End.Cut
 
 -- the input ended inside the body
 abbrev pub IsCutIn : IntakeState → Option (List ℕ) → Option (List ℕ) → Type 0
-IsCutIn old before after = BreaksIn old before after End.Cut × IsAtEnd after
+IsCutIn old before after = FallsShort old before after × IsAtEnd after
 
 -- a read failed inside the body
 abbrev pub FailsIn : IntakeState → Option (List ℕ) → Option (List ℕ) → Type 0
-FailsIn old before after = BreaksIn old before after End.Cut
+FailsIn old before after = FallsShort old before after
 
--- the body had that fate, and these are its bytes
+-- these bytes of the body were given, and it fell short behind them
+pub record FallsBehind (old : IntakeState) (before after : Option (List ℕ)) (given : List ℕ) : Type 0 where
+  pub between : IntakeState
+  pub left : Option (List ℕ)
+  pub has_given : HasGiven old between before left given
+  pub falls : FallsShort between left after
+
+-- the body had that fate, and these are its bytes; of one that broke off, those that came before
 abbrev pub HasFate : Fate → IntakeState → IntakeState → Option (List ℕ) → Option (List ℕ) → List ℕ → Type 0
 HasFate read_whole old new before after body = HasGivenAll old new before after body
-HasFate (broken_off why) old new before after body = IsWrong why × BreaksIn old before after why × (body ≡ [])
+HasFate (broken_off why) old new before after body = BreaksIn old before after why body
 HasFate unread old new before after body = (body ≡ []) × (new ≡ old) × Consumes before after []
 
--- some of the body was given, or it broke off
-abbrev pub HasBegun : IntakeState → IntakeState → Option (List ℕ) → Option (List ℕ) → Type 0
-HasBegun old new before after =
-    ((given : List ℕ) × HasGiven old new before after given)
-    ⊎ ((why : BodyEnd) × IsWrong why × BreaksIn old before after why)
+-- so much of a body that is read came: some bytes; all of them; or those before its chunks went wrong
+abbrev pub HasComeTo : Option TaskBodyEnd → IntakeState → IntakeState → Option (List ℕ) → Option (List ℕ) → List ℕ → Type 0
+HasComeTo None old new before after bytes = HasGiven old new before after bytes
+HasComeTo (Some Whole) old new before after bytes = HasGivenAll old new before after bytes
+HasComeTo (Some Failed) old new before after bytes = (why : BodyEnd) × BreaksIn old before after why bytes
 
--- nothing of a body that is left was read; any other was begun
-abbrev pub IsBegunOrLeft : BodyUse → IntakeState → IntakeState → Option (List ℕ) → Option (List ℕ) → Type 0
-IsBegunOrLeft Unread old new before after = HasFate unread old new before after []
-IsBegunOrLeft plan old new before after = HasBegun old new before after
+-- so much of a body of that use came; nothing of one that is left
+abbrev pub HasCome : BodyUse → IntakeState → IntakeState → Option (List ℕ) → Option (List ℕ) → Body → Type 0
+HasCome Unread old new before after body = HasFate unread old new before after body.bytes × (body.end ≡ None)
+HasCome plan old new before after body = HasComeTo body.end old new before after body.bytes
 
 -- what becomes of a body that is not wanted, where it is read
 abbrev pub dropped_if : Bool → BodyUse
@@ -83,12 +99,12 @@ pub record ReadsAtFault {T : Type 0} (before now : ℕ) (result : Result T Serve
 
 -- ---- one call
 
--- the body ended so: it was given whole; or the input ended inside it; or its chunks went wrong
+-- the body ended so behind these bytes: it was given whole; or the input ended inside it; or its chunks went wrong
 abbrev pub ReadsTo : IntakeState → IntakeState → Option (List ℕ) → Option (List ℕ) → List ℕ → BodyEnd → Type 0
 ReadsTo old new before after given End.Whole = HasGivenAll old new before after given
-ReadsTo old new before after given End.Cut = IsCutIn old before after
-ReadsTo old new before after given End.BadChunk = BreaksIn old before after End.BadChunk
-ReadsTo old new before after given End.TooLarge = BreaksIn old before after End.TooLarge
+ReadsTo old new before after given End.Cut = FallsBehind old before after given × IsAtEnd after
+ReadsTo old new before after given End.BadChunk = BreaksIn old before after End.BadChunk given
+ReadsTo old new before after given End.TooLarge = BreaksIn old before after End.TooLarge given
 
 -- what a call for the next bytes came to: bytes at the front of the buffer, at least one; the end of the body; or a read that
 -- failed

@@ -1,4 +1,5 @@
 pub mod Bodies
+pub mod Connections
 pub mod Serving
 pub mod Replying
 pub mod Faults

@@ -8,11 +8,12 @@ use Rattle.realm_model.specs.declared.event.Event.{Event}
 use Rattle.swift_requests.specs.declared.asked.Asked.{Asked}
 use Rattle.swift_requests.specs.declared.asked.Asked.TheVariants.{Put}
 use Rattle.task_words.specs.declared.outcome.Outcome.{Outcome}
+use Rattle.task_words.specs.Outcomes.{Body}
 use Rattle.call_words.specs.Bodies.{read_whole}
 use Rattle.call_words.specs.Calls.{task, text_by}
 use Rattle.call_service.specs.declared.fault.ServeFault.{ServeFault}
 use Rattle.call_service.specs.declared.fault.ServeFault.TheVariants as faults
-use Rattle.call_service.specs.Serving.{Site, AppendsFront, BearsOut, IsLateIn, is_by_end}
+use Rattle.call_service.specs.Serving.{Site, AppendsFront, BearsOut, BearsOutSoFar, IsLateIn, is_by_end}
 use Rattle.door_moments.specs.Acts.{Asks}
 
 -- an event was refused: for want of memory, or since the realm has as many events as it may have
@@ -36,9 +37,13 @@ pub record Replies (tells : Type 0) (site : Site) (form : ReplyForm) (asked : As
   pub written : grown (text_by form asked read_whole (task e.count outcome) shown)
   pub right : tells → (body : List ℕ) → BearsOut site asked read_whole body outcome shown e
 
+-- nothing was written, and the events are those of the request so far, whatever body was sent
+abbrev pub IsUnwritten : Type 0 → Site → Asked → DoorView → Option (List ℕ) → Option (List ℕ) → Type 0
+IsUnwritten tells site asked e before now = Appends before now [] × (tells → (body : Body) → BearsOutSoFar site asked body e)
+
 -- nothing was written, or a front of a reply
 abbrev pub IsPartly : Type 0 → Site → ReplyForm → Asked → DoorView → Option (List ℕ) → Option (List ℕ) → Type 0
-IsPartly tells site form asked e before now = Appends before now [] ⊎ Replies tells site form asked e (AppendsFront before now)
+IsPartly tells site form asked e before now = IsUnwritten tells site asked e before now ⊎ Replies tells site form asked e (AppendsFront before now)
 
 -- ---- faults
 

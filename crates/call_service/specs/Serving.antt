@@ -1,7 +1,7 @@
 -- What serving one request on an object comes to: its reply, the events that it rests on, the moments that were told for
 -- them, and what a fault leaves.
-use Rattle.std.specs.Prelude.{◌≡◌, ◌≢◌, ◌⊎◌, ℕ, ◌^◌, ◌<◌, ◌≤◌, Bool, true, false, List, [], ◌∷◌, ◌++◌, length, Option, None, Result, Err}
-use Rattle.std.specs.Io.KnownBytes.{Appends}
+use Rattle.std.specs.Prelude.{◌≡◌, ◌≢◌, ◌⊎◌, ℕ, ◌^◌, ◌<◌, ◌≤◌, Bool, true, false, List, [], ◌++◌, length, Option, None, Result, Err}
+use Rattle.std.specs.Io.KnownBytes.{Appends, IsAtEnd}
 use Rattle.gw_io.specs.Ends.{EndsState}
 use Rattle.gw_io.specs.Outside.{Rose}
 use Rattle.http_chunks.specs.declared.body.BodyEnd.{BodyEnd}
@@ -11,11 +11,9 @@ use Rattle.realm_model.specs.Doors.{DoorView, actor_at}
 use Rattle.realm_model.specs.Histories.{Legal, account_of, phase_of}
 use Rattle.realm_model.specs.Accounts.{blank}
 use Rattle.realm_model.specs.Phases.{fresh}
-use Rattle.realm_model.specs.Owns.{OwnEvent, own_events}
+use Rattle.realm_model.specs.Owns.{own_events}
 use Rattle.realm_model.specs.Settings.{SettingsView}
 use Rattle.realm_model.specs.declared.event.Event.{Event}
-use Rattle.realm_model.specs.declared.event.Reply.TheVariants.{No}
-use Rattle.object_words.specs.declared.why.Why.TheVariants.{Gone}
 use Rattle.door_moments.specs.Acts.{Asks}
 use Rattle.swift_requests.specs.declared.asked.Asked.{Asked}
 use Rattle.swift_requests.specs.declared.asked.Asked.TheVariants.{BadHost, Refused, Put, Unfed}
@@ -25,12 +23,14 @@ use Rattle.task_words.specs.declared.outcome.Outcome.{Outcome}
 use Rattle.task_words.specs.declared.outcome.Outcome.TheVariants.{Done, BodyFailed, LateRead}
 use Rattle.task_words.specs.declared.reply.MapReply.TheVariants as Map
 use Rattle.task_words.specs.declared.reply.Refusal.TheVariants.{OtherEtag}
-use Rattle.task_words.specs.Outcomes.{IsGetOutcome}
+use Rattle.task_words.specs.Outcomes.{Body, IsGetOutcome}
+use Rattle.task_get.specs.Gets.{MissesTail}
 use Rattle.swift_requests.specs.Bodies.{is_unread}
 use Rattle.swift_requests.specs.declared.body.BodyUse.{BodyUse}
 use Rattle.call_words.specs.Bodies.{Fate, read_whole, broken_off, unread, is_left, is_broken, Suits}
-use Rattle.call_words.specs.Calls.{task, text_by, IsBorneOut}
-use Rattle.call_service.specs.Bodies.{IsCutIn, FailsIn, HasFate, IsBegunOrLeft}
+use Rattle.call_words.specs.Calls.{task, text_by, body_at, IsBorneOut, IsSoFar}
+use Rattle.call_service.specs.Connections.{Names}
+use Rattle.call_service.specs.Bodies.{FallsBehind, HasFate, HasCome}
 use Rattle.call_service.specs.declared.fault.ServeFault.{ServeFault}
 use Rattle.call_service.specs.declared.fault.ServeFault.TheVariants as faults
 use Rattle.call_service.specs.declared.served.Served.{Served}
@@ -90,6 +90,10 @@ pub record AppendsFront (old new : Option (List ℕ)) (bytes : List ℕ) : Type 
   pub grown : Appends old new front
   pub whole : bytes ≡ front ++ rest
 
+-- of a body that has not ended these bytes came
+abbrev pub body_of : List ℕ → Body
+body_of bytes = record { bytes = bytes; end = None }
+
 -- what a fault leaves of a text: nothing for want of memory, a front where a write failed
 abbrev pub LeavesText : Option (List ℕ) → Option (List ℕ) → List ℕ → ServeFault → Type 0
 LeavesText old new text faults.OutOfMemory = Appends old new []
@@ -107,6 +111,11 @@ abbrev pub BearsOut : Site → Asked → Fate → List ℕ → Outcome → List 
 BearsOut site asked fate body outcome shown e =
     IsBorneOut site.settings.stripe site.zone site.asker asked fate body outcome shown (account_of site.settings e.seen (actor_at e)) (own_events e.seen (actor_at e))
 
+-- they are those of such a request so far, of whose body so much came
+abbrev pub BearsOutSoFar : Site → Asked → Body → DoorView → Type 0
+BearsOutSoFar site asked body e =
+    IsSoFar site.settings.stripe site.zone site.asker asked body (account_of site.settings e.seen (actor_at e)) (own_events e.seen (actor_at e))
+
 -- ---- good ends
 
 -- the body had that fate, the task ended so, and its whole reply was written
@@ -119,15 +128,22 @@ pub record IsReplied (tells alone : Type 0) (site : Site) (form : ReplyForm) (as
   pub right : tells → BearsOut site asked fate body outcome shown y.door
   pub asks : Asks tells alone site.settings (is_by_end outcome) x.door y.door x.ends.told y.ends.told
 
--- nothing was written
-pub record LeavesUnwritten (tells alone : Type 0) (site : Site) (more : Bool) (x y : Side) : Type 0 where
+-- nothing was written for a request of whose body so much came
+pub record LeavesUnwritten (tells alone : Type 0) (site : Site) (asked : Asked) (body : Body) (more : Bool) (x y : Side) : Type 0 where
   pub unwritten : Appends x.ends.taken y.ends.taken []
   pub asks : Asks tells alone site.settings more x.door y.door x.ends.told y.ends.told
+  pub so_far : tells → BearsOutSoFar site asked body y.door
 
--- the input ended inside the body, and nothing was written
-abbrev pub IsCutOff : Type 0 → Type 0 → Site → BodyUse → Side → Side → Type 0
-IsCutOff tells alone site plan x y =
-    (is_unread plan ≡ false) × IsCutIn x.intake x.ends.left y.ends.left × LeavesUnwritten tells alone site false x y
+-- the body fell short behind these bytes, and nothing was written
+pub record StopsShort (tells alone : Type 0) (site : Site) (asked : Asked) (plan : BodyUse) (x y : Side) : Type 0 where
+  pub is_read : is_unread plan ≡ false
+  pub given : List ℕ
+  pub falls : FallsBehind x.intake x.ends.left y.ends.left given
+  pub leaves : LeavesUnwritten tells alone site asked (body_of given) false x y
+
+-- since the input ended
+abbrev pub IsCutOff : Type 0 → Type 0 → Site → Asked → BodyUse → Side → Side → Type 0
+IsCutOff tells alone site asked plan x y = StopsShort tells alone site asked plan x y × IsAtEnd y.ends.left
 
 -- how a request was served whose body is used so
 abbrev pub IsServed : Type 0 → Type 0 → Site → ReplyForm → Asked → BodyUse → Side → Side → Served → Type 0
@@ -140,7 +156,7 @@ IsServed tells alone site form asked plan x y services.Closed =
 IsServed tells alone site form asked plan x y services.Refused =
     (why : BodyEnd) × Suits plan (broken_off why)
     × (r : IsReplied tells alone site form asked (broken_off why) x y) × (r.outcome ≡ BodyFailed)
-IsServed tells alone site form asked plan x y services.Cut = IsCutOff tells alone site plan x y
+IsServed tells alone site form asked plan x y services.Cut = IsCutOff tells alone site asked plan x y
 
 -- ---- faults
 
@@ -161,26 +177,21 @@ pub record IsInPart (tells alone : Type 0) (site : Site) (form : ReplyForm) (ask
 -- clock may have been asked for the event that did not come
 abbrev pub IsLeft : Type 0 → Type 0 → Site → ReplyForm → Asked → BodyUse → Side → Side → Type 0
 IsLeft tells alone site form asked plan x y =
-    (IsBegunOrLeft plan x.intake y.intake x.ends.left y.ends.left × (more : Bool) × LeavesUnwritten tells alone site more x y)
+    ((body : Body) × HasCome plan x.intake y.intake x.ends.left y.ends.left body
+    × (more : Bool) × LeavesUnwritten tells alone site asked body more x y)
     ⊎ IsInPart tells alone site form asked plan x y
 
 -- a body that did not break off had a fate that suits its use, and nothing was written
-pub record IsBeforeReply (tells alone : Type 0) (site : Site) (plan : BodyUse) (x y : Side) : Type 0 where
+pub record IsBeforeReply (tells alone : Type 0) (site : Site) (asked : Asked) (plan : BodyUse) (x y : Side) : Type 0 where
   pub fate : Fate
   pub suits : Suits plan fate
   pub whole : is_broken fate ≡ false
   pub body : List ℕ
   pub has_fate : HasFate fate x.intake y.intake x.ends.left y.ends.left body
-  pub leaves : LeavesUnwritten tells alone site false x y
+  pub leaves : LeavesUnwritten tells alone site asked (body_at fate body) false x y
 
--- the last of these events was answered at this clock that the stripe is gone
-pub record MissesStripe (clock : ℕ) (events : List OwnEvent) : Type 0 where
-  pub front : List OwnEvent
-  pub last : OwnEvent
-  pub stands : events ≡ front ++ last ∷ []
-  pub missed : last.reply ≡ No (Gone clock)
-
--- a stripe of what the GET shows was gone
+-- A stripe of what the GET shows was gone: behind the reads of the row and, at the first clock, of the head, each tail of the
+-- range was read once, in order, up to the one that was gone at the second.
 abbrev pub IsLateIn : Site → Asked → DoorView → ℕ → ℕ → Type 0
 IsLateIn site BadHost e read_at clock = ⊥
 IsLateIn site (Refused why) e read_at clock = ⊥
@@ -188,12 +199,11 @@ IsLateIn site (Put c) e read_at clock = ⊥
 IsLateIn site (Unfed (Listing c listing)) e read_at clock = ⊥
 IsLateIn site (Unfed (Get c)) e read_at clock =
     IsGetOutcome site.zone site.asker c (LateRead read_at clock) (account_of site.settings e.seen (actor_at e))
-    × MissesStripe clock (own_events e.seen (actor_at e))
+    × MissesTail (record { zone = site.zone; asker = site.asker; get = c }) read_at clock (own_events e.seen (actor_at e))
 
 -- what a fault leaves of a request whose body is used so, where the door's last step found this history
 abbrev pub IsStopped : Type 0 → Type 0 → Site → ReplyForm → Asked → BodyUse → List Event → Side → Side → ServeFault → Type 0
-IsStopped tells alone site form asked plan found x y faults.ReadFault =
-    (is_unread plan ≡ false) × FailsIn x.intake x.ends.left y.ends.left × LeavesUnwritten tells alone site false x y
+IsStopped tells alone site form asked plan found x y faults.ReadFault = StopsShort tells alone site asked plan x y
 IsStopped tells alone site form asked plan found x y faults.OutOfMemory = IsLeft tells alone site form asked plan x y
 IsStopped tells alone site form asked plan found x y faults.Worn =
     (tells → length found ≡ 2 ^ 62) × IsLeft tells alone site form asked plan x y
@@ -201,7 +211,7 @@ IsStopped tells alone site form asked plan found x y faults.WriteFault =
     (part : IsInPart tells alone site form asked plan x y) × (part.more ≡ is_by_end part.outcome)
 IsStopped tells alone site form asked plan found x y (faults.Late read_at clock) =
     (tells → IsLateIn site asked y.door read_at clock)
-    × (IsBeforeReply tells alone site plan x y ⊎ ((part : IsInPart tells alone site form asked plan x y) × (part.more ≡ false)))
+    × (IsBeforeReply tells alone site asked plan x y ⊎ ((part : IsInPart tells alone site form asked plan x y) × (part.more ≡ false)))
 
 -- ---- counts of faults
 
@@ -235,16 +245,17 @@ pub record Stays (old new : Outside) : Type 0 where
   pub home : new.home ≡ old.home
   pub plan : new.plan ≡ old.plan
 
--- what stands around a call that serves a request: the ends of the connection, the door's settings and home, and how long
--- the buffer for pieces of the body is
+-- what stands around a call that serves a request: the ends of the connection, the door's settings and home, how long the
+-- buffer for pieces of the body is, and the borrows that the connection is made of
 pub record Around : Type 0 where
   pub ends : EndsState
   pub settings : SettingsView
   pub home : ℕ
   pub buffer : ℕ
+  pub names : Names
 
-abbrev pub around : EndsState → SettingsView → ℕ → ℕ → Around
-around ends settings home buffer = record { ends = ends; settings = settings; home = home; buffer = buffer }
+abbrev pub around : EndsState → SettingsView → ℕ → ℕ → Names → Around
+around ends settings home buffer names = record { ends = ends; settings = settings; home = home; buffer = buffer; names = names }
 
 -- each count of faults rose where its call failed, and all else stays
 pub record StaysAround {T : Type 0} (old new : Around) (result : Result T ServeFault) : Type 0 where
@@ -252,3 +263,4 @@ pub record StaysAround {T : Type 0} (old new : Around) (result : Result T ServeF
   pub settings : new.settings ≡ old.settings
   pub home : new.home ≡ old.home
   pub kept : new.buffer ≡ old.buffer
+  pub names : new.names ≡ old.names

@@ -4,19 +4,19 @@ use Rattle.std.specs.Prelude.{◌≡◌, ◌⊎◌, ℕ, Bool, true, false, List
 use Rattle.std.specs.Io.KnownBytes.{Consumes, Appends}
 use Rattle.http_model.specs.declared.reply.ReplyForm.{ReplyForm}
 use Rattle.realm_model.specs.Doors.{actor_at}
-use Rattle.realm_model.specs.Histories.{account_of}
+use Rattle.realm_model.specs.Owns.{own_events}
 use Rattle.realm_model.specs.declared.event.Event.{Event}
 use Rattle.swift_auth.specs.declared.policy.Deed.TheVariants.{ChangeThing}
 use Rattle.swift_requests.specs.declared.asked.Asked.TheVariants.{Put}
 use Rattle.swift_requests.specs.declared.body.BodyUse.TheVariants.{Fed, Unread}
 use Rattle.task_words.specs.declared.command.PutCommand.{PutCommand}
-use Rattle.task_words.specs.Outcomes.{Granted}
+use Rattle.call_words.specs.Calls.{ReadsRowAlone, ReadsRowFirst, first_refuses}
 use Rattle.call_words.specs.Texts.{continue_text}
 use Rattle.call_service.specs.declared.fault.ServeFault.{ServeFault}
 use Rattle.call_service.specs.declared.fault.ServeFault.TheVariants as faults
 use Rattle.call_service.specs.declared.served.Served.{Served}
 use Rattle.call_service.specs.declared.served.Served.TheVariants as services
-use Rattle.call_service.specs.Serving.{Site, Side, AppendsFront, IsServed, IsStopped}
+use Rattle.call_service.specs.Serving.{Site, Side, AppendsFront, BearsOutSoFar, body_of, IsServed, IsStopped}
 use Rattle.door_moments.specs.Acts.{Asks}
 
 -- the row of the container grants the PUT, and nothing of the body was read: of a 100 was written what this says
@@ -25,7 +25,9 @@ pub record Answers (tells alone : Type 0) (site : Site) (c : PutCommand) (x z : 
   pub intake : z.intake ≡ x.intake
   pub unread : Consumes x.ends.left z.ends.left []
   pub asks : Asks tells alone site.settings false x.door z.door x.ends.told z.ends.told
-  pub granted : tells → Granted site.zone site.asker c.container ChangeThing (account_of site.settings z.door.seen (actor_at z.door))
+  pub looks : tells → ReadsRowAlone site.zone c.container (own_events z.door.seen (actor_at z.door))
+  pub granted : tells → first_refuses site.asker ChangeThing (own_events z.door.seen (actor_at z.door)) ≡ false
+  pub so_far : tells → BearsOutSoFar site (Put c) (body_of []) z.door
 
 -- the 100 was written
 abbrev pub Continues : Type 0 → Type 0 → Site → PutCommand → Side → Side → Type 0
@@ -37,10 +39,16 @@ pub record IsBehindContinue (tells alone : Type 0) (site : Site) (c : PutCommand
   pub continues : Continues tells alone site c x between
   pub goes : Goes between
 
+-- the row of the container was read first, and refuses the PUT
+abbrev pub RefusesFirst : Type 0 → Site → PutCommand → Side → Type 0
+RefusesFirst tells site c y =
+    tells → ReadsRowFirst site.zone c.container (own_events y.door.seen (actor_at y.door))
+    × (first_refuses site.asker ChangeThing (own_events y.door.seen (actor_at y.door)) ≡ true)
+
 -- the body was left and the reply closes the connection; or it was served behind the 100
 abbrev pub IsServedWaiting : Type 0 → Type 0 → Site → ReplyForm → PutCommand → Side → Side → Served → Type 0
 IsServedWaiting tells alone site form c x y served =
-    ((served ≡ services.Closed) × IsServed tells alone site form (Put c) Unread x y services.Closed)
+    ((served ≡ services.Closed) × IsServed tells alone site form (Put c) Unread x y services.Closed × RefusesFirst tells site c y)
     ⊎ IsBehindContinue tells alone site c x (λ z. IsServed tells alone site form (Put c) Fed z y served)
 
 -- the fault came before the 100 was written, or behind it; or it was not written whole

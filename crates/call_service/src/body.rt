@@ -19,7 +19,7 @@ pub enum Piece {
 }
 
 /// Reads the next bytes of the present body to the front of a buffer.
-#[tactic(auto, using(crate::proofs::Passing::has_given, crate::proofs::Passing::has_given_all, crate::proofs::Passing::is_cut_in, crate::proofs::Passing::fails_in, crate::proofs::Passing::bad_chunk_in, crate::proofs::Passing::too_large_in))]
+#[tactic(auto, using(crate::proofs::Passing::has_given, crate::proofs::Passing::has_given_all, crate::proofs::Passing::fails_in, crate::proofs::Passing::bad_chunk_in, crate::proofs::Passing::too_large_in))]
 pub fn next_piece<S: Source>(intake: &mut Intake, source: &mut S, buffer: &mut [u8]) -> Piece
     requires room { 0 < length buffer.old }
     requires sound { intake.old.failed ≡ None }

@@ -3,11 +3,13 @@
 #![tactic(auto)]
 
 mod body;
+mod connection;
 mod fault;
 mod served;
 mod write;
 
 pub use body::{Piece, drop_body, next_piece};
+pub use connection::{Connected, Connection};
 pub use fault::{ServeFault, fault_of};
 pub use served::Served;
 pub use write::{closing, send, send_both, send_broken_body};

@@ -1,12 +1,13 @@
 -- Replies by what became of the body.
 use Rattle.std.proofs.Common.{◌≡◌, Option, refl}
 use Rattle.http_chunks.specs.declared.body.BodyEnd.{BodyEnd}
+use Rattle.http_intake.specs.Grammar.{IsWrong}
 use Rattle.http_chunks.specs.declared.body.BodyEnd.TheVariants as Body
 use Rattle.swift_reply.specs.declared.reply.ListingForm.{ListingForm}
 use Rattle.task_words.specs.declared.outcome.Outcome.{Outcome}
 use Rattle.task_words.specs.declared.outcome.Outcome.TheVariants.{Done, BodyFailed, Busy, MovedOften, RacedOften, LateTag, LateRead, NoSpace}
 use Rattle.task_words.specs.declared.span.Span.{Span}
-use Rattle.call_words.specs.Bodies.{read_whole, broken_off, IsWrong}
+use Rattle.call_words.specs.Bodies.{read_whole, broken_off}
 use Rattle.call_words.specs.Texts.{outcome_reply, list_reply, told_reply, told_list, HasReply}
 
 -- behind a whole body the end of the task alone tells

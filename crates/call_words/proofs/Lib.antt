@@ -1,2 +1,4 @@
 pub mod Fates
 pub mod Staying
+pub mod Reading
+pub mod EveryInput

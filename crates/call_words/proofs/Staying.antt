@@ -1,5 +1,5 @@
 -- Right replies stay right where the history grows by events of others.
-use Rattle.std.proofs.Common.{◌≡◌, ℕ, ◌≤◌, List, [], ◌∷◌, sym, ap, subst, arith}
+use Rattle.std.proofs.Common.{◌≡◌, ℕ, ◌≤◌, List, [], ◌∷◌, refl, sym, ap, subst, arith}
 use Rattle.realm_model.specs.Accounts.{Account}
 use Rattle.realm_model.specs.Histories.{Doings, account_of}
 use Rattle.realm_model.specs.Owns.{OwnEvent, own_events}
@@ -10,7 +10,7 @@ use Rattle.swift_requests.specs.declared.asked.Asked.{Asked}
 use Rattle.task_words.specs.declared.asker.Asker.{Asker}
 use Rattle.task_words.specs.declared.outcome.Outcome.{Outcome}
 use Rattle.call_words.specs.Bodies.{Fate}
-use Rattle.call_words.specs.Calls.{Ground, alone, task, Call, IsBorneOut, RestsOn, actor_after, IsOfNext, AreRight, AreSame}
+use Rattle.call_words.specs.Calls.{IsRight, IsLeftByRow, is_waiting, events_for, Ground, alone, task, Call, IsBorneOut, RestsOn, actor_after, IsOfNext, AreRight, AreSame}
 
 module _ (settings : SettingsView) (zone : ℕ) (asker : Asker) (pass : ℕ) (history later : List Event) where
   borne : (asked : Asked) (fate : Fate) (body shown : List ℕ) (actor : ℕ) (outcome : Outcome)
@@ -33,9 +33,11 @@ module _ (settings : SettingsView) (zone : ℕ) (asker : Asker) (pass : ℕ) (hi
       after next (task actor outcome) last low = omega (arith, low)
 
   one_stays : (next : ℕ) (call : Call) (last : ℕ) → AreSame settings pass history later next last → IsOfNext next call.ground
-      → actor_after next call.ground ≤ last → RestsOn settings zone asker pass history call.asked call.fate call.request.body call.shown call.ground
-      → RestsOn settings zone asker pass later call.asked call.fate call.request.body call.shown call.ground
-  one_stays next call last same of_next low rests = by_ground call.asked call.fate call.request.body call.shown call.ground next last same of_next low rests
+      → actor_after next call.ground ≤ last → IsRight settings zone asker pass history call → IsRight settings zone asker pass later call
+  one_stays next call last same of_next low right = (
+    by_ground call.asked call.fate call.request.body call.shown call.ground next last same of_next low right.0,
+    subst (IsLeftByRow zone asker call.asked (is_waiting call.asked call.request.head) call.fate) (sym (events_same call.ground next last same of_next low)) right.1,
+  )
     where
       by_ground : (asked : Asked) (fate : Fate) (body shown : List ℕ) (ground : Ground) (next last : ℕ) → AreSame settings pass history later next last
           → IsOfNext next ground → actor_after next ground ≤ last
@@ -44,6 +46,13 @@ module _ (settings : SettingsView) (zone : ℕ) (asker : Asker) (pass : ℕ) (hi
       by_ground asked fate body shown (task actor outcome) next last same of_next low rests =
           let e : actor ≡ next = of_next in
           borne asked fate body shown actor outcome (same actor (omega (arith, e)) (omega (arith, e, low))) rests
+
+      events_same : (ground : Ground) (next last : ℕ) → AreSame settings pass history later next last → IsOfNext next ground → actor_after next ground ≤ last
+          → events_for pass later ground ≡ events_for pass history ground
+      events_same alone next last same of_next low = refl
+      events_same (task actor outcome) next last same of_next low =
+          let e : actor ≡ next = of_next in
+          (same actor (omega (arith, e)) (omega (arith, e, low))).events
 
   pub stay : (next : ℕ) (calls : List Call) (last : ℕ) → AreSame settings pass history later next last
       → AreRight settings zone asker pass history next calls last → AreRight settings zone asker pass later next calls last

@@ -1,8 +1,8 @@
 -- What becomes of the body of a request (RFC 9112, sections 6, 7 and 9.6).
 use Rattle.std.specs.Prelude.{◌≡◌, ℕ, Bool, true, false, List, []}
 use Rattle.http_chunks.specs.declared.body.BodyEnd.{BodyEnd}
-use Rattle.http_chunks.specs.declared.body.BodyEnd.TheVariants as End
-use Rattle.http_intake.specs.Grammar.{IsBodyOf, HasNoBody}
+use Rattle.http_intake.specs.Grammar.{IsBodyOf, HasWrongBody}
+pub use Rattle.http_intake.specs.Grammar.{IsWrong}
 use Rattle.http_model.specs.declared.head.Framing.{Framing}
 use Rattle.swift_requests.specs.declared.body.BodyUse.{BodyUse}
 use Rattle.swift_requests.specs.declared.body.BodyUse.TheVariants.{Fed, Awaited, Dropped, Unread}
@@ -31,13 +31,6 @@ is_broken read_whole = false
 is_broken (broken_off why) = true
 is_broken unread = false
 
--- a chunk is none, or there is no room for it
-abbrev pub IsWrong : BodyEnd → Type 0
-IsWrong End.Whole = ⊥
-IsWrong End.Cut = ⊥
-IsWrong End.BadChunk = Unit {0}
-IsWrong End.TooLarge = Unit {0}
-
 -- a body of that use can have that fate
 abbrev pub Suits : BodyUse → Fate → Type 0
 Suits Fed read_whole = Unit {0}
@@ -53,8 +46,9 @@ Suits Unread read_whole = ⊥
 Suits Unread (broken_off why) = ⊥
 Suits Unread unread = Unit {0}
 
--- what follows a head with this framing is a body of that fate, and rest follows; one that is not read whole counts as none
+-- what follows a head with this framing is a body of that fate, and rest follows. Of one that broke off these are the bytes that
+-- came before; one that is not read counts as none
 abbrev pub IsBehind : ℕ → Framing → List ℕ → List ℕ → Fate → List ℕ → Type 0
 IsBehind largest framing after body read_whole rest = IsBodyOf largest framing after body rest
-IsBehind largest framing after body (broken_off why) rest = HasNoBody largest framing after why × (body ≡ []) × (rest ≡ after)
+IsBehind largest framing after body (broken_off why) rest = HasWrongBody largest framing after why body × (rest ≡ after)
 IsBehind largest framing after body unread rest = (body ≡ []) × (rest ≡ after)

@@ -4,3 +4,4 @@ pub mod Events
 pub mod Calls
 pub mod Made
 pub mod Streams
+pub mod Requests

@@ -5,5 +5,5 @@
 mod laws;
 mod reply;
 
-pub use laws::right_replies_stay_right;
+pub use laws::{every_input_has_a_named_end, right_replies_stay_right};
 pub use reply::{push_broken_body, push_list_outcome, push_map_reply, push_outcome};

@@ -1,3 +1,4 @@
 pub mod Deposits
 pub mod FreshHeads
 pub mod Within
+pub mod Left

@@ -3,7 +3,7 @@ ghost use Rattle.std.specs.Prelude.{◌≡◌, ◌≤◌, false, [], None, IsSom
 ghost use Rattle.realm_model.specs.Settings.{settings_of, second};
 ghost use Rattle.realm_model.specs.Suits.{Suits};
 
-use object_words::{HeadSeen, SeenSlot, ShardKey, Why};
+use object_words::{BucketNames, HeadSeen, SeenSlot, ShardKey, Why};
 use realm_door::{Answered, Door, Task, TaskTurn, handed_back};
 use realm_model::{Op, Reply};
 use std::alloc::Global;
@@ -17,12 +17,15 @@ struct SilentDoor {
     room: u64,
 }
 
-fn answer_to(op: &Op, number: u64) -> Reply
+fn answer_to(alloc: Global, op: &Op, number: u64) -> Reply
     ensures { Suits op.now result }
 {
     match op {
         Op::BucketRead { .. } => Reply::No(Why::Absent),
-        Op::Prepare { .. } | Op::Page { .. } | Op::Stats { .. } => Reply::No(Why::Closed),
+        Op::AccountPage { .. } | Op::BucketPage { .. } => Reply::Names(BucketNames::new(alloc)),
+        Op::Prepare { .. } | Op::Page { .. } | Op::Stats { .. } | Op::CloseShard { .. } => {
+            Reply::No(Why::Closed)
+        }
         Op::HeadRead { .. } => Reply::Head(
             HeadSeen {
                 version: number,
@@ -41,6 +44,8 @@ fn answer_to(op: &Op, number: u64) -> Reply
         | Op::Complete { .. }
         | Op::Cancel { .. }
         | Op::Suggest { .. }
+        | Op::Release { .. }
+        | Op::Shut { .. }
         | Op::TailMake { .. } => Reply::Done,
     }
 }
@@ -60,7 +65,7 @@ impl Door for SilentDoor {
 
     fn begin(&mut self) {}
 
-    fn step(&mut self, _alloc: Global, op: Op, _moment: u64) -> Result<Answered, Stopped<Op>> {
+    fn step(&mut self, alloc: Global, op: Op, _moment: u64) -> Result<Answered, Stopped<Op>> {
         if self.number >= self.room || self.number >= 1 << 62 {
             return Err(Stopped {
                 fault: DoorFault::Worn,
@@ -68,7 +73,7 @@ impl Door for SilentDoor {
             });
         }
         self.number += 1;
-        let reply = answer_to(&op, self.number);
+        let reply = answer_to(alloc, &op, self.number);
         Ok(Answered {
             number: self.number,
             clock: self.number,

@@ -19,15 +19,15 @@ use std::test::Fail;
 const LIFE: u64 = 120_000_000;
 
 /// When the first change of a name is prepared.
-const START: u64 = 1_000_000;
+pub const START: u64 = 1_000_000;
 
-fn name_of(alloc: Global, text: &str) -> Result<ObjectName, Fail> {
+pub fn name_of(alloc: Global, text: &str) -> Result<ObjectName, Fail> {
     let text = Text::from_str(alloc, text)?;
     Ok(ObjectName::new(text).ok().ok_or("no name")?)
 }
 
 /// A row of so many bytes, written at a moment in zone 1.
-fn row_of(alloc: Global, size: u64, micros: u64) -> Result<EntryRow, Fail>
+pub fn row_of(alloc: Global, size: u64, micros: u64) -> Result<EntryRow, Fail>
     ensures { IfOk result (λ row. row.size < 2 ^ 64) }
 {
     Ok(EntryRow {
@@ -40,7 +40,7 @@ fn row_of(alloc: Global, size: u64, micros: u64) -> Result<EntryRow, Fail>
 }
 
 /// Makes a shard where nothing is.
-fn begin(alloc: Global, shard: &mut Place<'_>) -> Result<(), OutOfMemory>
+pub fn begin(alloc: Global, shard: &mut Place<'_>) -> Result<(), OutOfMemory>
     requires { object_of shard.old ≡ nothing }
     ensures { IfOk result (λ _. (s : ShardOf) × IsShard (object_of shard.new) s × IsWithin 0 s) }
 {
@@ -49,7 +49,7 @@ fn begin(alloc: Global, shard: &mut Place<'_>) -> Result<(), OutOfMemory>
 
 /// The event of a number prepares a change of a name, and gives its tag and the tag's deadline. The last
 /// event had an earlier number.
-fn prepare_next(
+pub fn prepare_next(
     alloc: Global,
     shard: &mut Place<'_>,
     name: &ObjectName,
@@ -69,7 +69,7 @@ fn prepare_next(
 }
 
 /// The event after so many completes a change of a name.
-fn complete_next(
+pub fn complete_next(
     shard: &mut Place<'_>,
     name: &ObjectName,
     tag: u64,

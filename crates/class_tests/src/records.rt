@@ -5,10 +5,12 @@ ghost use Rattle.object_words.specs.Roots.{Root as RootOf};
 ghost use Rattle.cls_record.specs.RootObjects.{IsRoot};
 
 use crate::words::bucket_name;
-use cls_record::{OutOfMemory, decode_bucket, encode_bucket, read, swap};
+use cls_record::{
+    OutOfMemory, account_page, bucket_page, decode_bucket, encode_bucket, read, swap,
+};
 use index_entry::log_key;
 use object_pool::{Place, Pool};
-use object_words::{Bucket, BucketName, Busy, ClassFault, ShardCount, Why};
+use object_words::{Bucket, BucketName, BucketNames, Busy, ClassFault, ShardCount, Why};
 use rgw_types::{Key, Pairs, Text};
 use std::alloc::Global;
 use std::test::Fail;
@@ -285,6 +287,204 @@ fn other_zones_log_nothing(rt: HostRuntime) -> Result<(), Fail> {
     let new = bucket(alloc, 4, 7, "")?;
     let right = another_zone_logs_nothing(alloc, &mut pool, &name, &new);
     drop(new);
+    drop(pool);
+    assert!(rt; right?);
+    Ok(())
+}
+
+/// A row of a container of this account.
+fn owned_by(alloc: Global, owner: &str) -> Result<Bucket, OutOfMemory> {
+    let mut row = bucket(alloc, 4, 7, "")?;
+    row.owner = Text::from_str(alloc, owner)?;
+    Ok(row)
+}
+
+/// Whether these are the names of a page.
+fn are(page: &BucketNames, wanted: &[&str]) -> bool {
+    let names = page.as_slice();
+    for place in 0..names.len() {
+        let (Some(name), Some(other)) = (names.get(place), wanted.get(place)) else {
+            return false;
+        };
+        if !name.as_text().is(*other) {
+            return false;
+        }
+    }
+    names.len() == wanted.len()
+}
+
+/// Whether these are the first names above a text. The log has at most so many rows.
+fn lists(
+    alloc: Global,
+    root: &Place<'_>,
+    rows: u64,
+    after: &str,
+    limit: u32,
+    wanted: &[&str],
+) -> Result<bool, OutOfMemory>
+    requires { (r : RootOf) × IsRoot (object_of root.now) r × (r.log.last ≤ rows) }
+{
+    let after = Text::from_str(alloc, after)?;
+    let page = bucket_page(alloc, root, &after, limit)?;
+    Ok(are(&page, wanted))
+}
+
+/// Whether these are the first names above a text of an account's containers.
+fn lists_of(
+    alloc: Global,
+    root: &Place<'_>,
+    rows: u64,
+    account: &str,
+    after: &str,
+    limit: u32,
+    wanted: &[&str],
+) -> Result<bool, OutOfMemory>
+    requires { (r : RootOf) × IsRoot (object_of root.now) r × (r.log.last ≤ rows) }
+{
+    let account = Text::from_str(alloc, account)?;
+    let after = Text::from_str(alloc, after)?;
+    let page = account_page(alloc, root, &account, &after, limit)?;
+    Ok(are(&page, wanted))
+}
+
+/// The key of the account row of `dog` as a container of `a`: its length, it, and the name.
+const DOG_OF_A: [u8; 13] = [255, 0, 0, 0, 0, 0, 0, 0, 1, 97, 100, 111, 103];
+
+/// The same as a container of `ab`.
+const DOG_OF_AB: [u8; 14] = [255, 0, 0, 0, 0, 0, 0, 0, 2, 97, 98, 100, 111, 103];
+
+/// The greatest character that there is.
+const LAST: &str = "\u{10ffff}";
+
+/// The accounts `a` and `ab` make two containers each.
+fn makes_four(
+    alloc: Global,
+    root: &mut Place<'_>,
+    names: &[BucketName; 4],
+    rows: &[Bucket; 2],
+) -> Result<bool, OutOfMemory>
+    requires root { (r : RootOf) × IsRoot (object_of root.old) r × (r.log.last ≤ 0) }
+    ensures { (r : RootOf) × IsRoot (object_of root.new) r × (r.log.last ≤ 4) }
+{
+    let [dog, accented, begins, last] = names;
+    let [a, ab] = rows;
+    let one = step(alloc, root, 0, dog, 0, Some(a), true, 1);
+    let two = step(alloc, root, 1, accented, 0, Some(a), true, 2);
+    let three = step(alloc, root, 2, begins, 0, Some(ab), true, 3);
+    let four = step(alloc, root, 3, last, 0, Some(ab), true, 4);
+    let beside = root.row(&DOG_OF_A).is_some_and(|row| row.is_empty())
+        && root.row(&log_key(4)).is_some();
+    Ok(one?.is_none() && two?.is_none() && three?.is_none() && four?.is_none() && beside)
+}
+
+/// Pages of all four names.
+fn lists_four(alloc: Global, root: &Place<'_>) -> Result<bool, OutOfMemory>
+    requires { (r : RootOf) × IsRoot (object_of root.now) r × (r.log.last ≤ 4) }
+{
+    Ok(
+        lists(alloc, root, 4, "", 9, &["do", "dog", "é", LAST])?
+            && lists(alloc, root, 4, "", 4, &["do", "dog", "é", LAST])?
+            && lists(alloc, root, 4, "", 3, &["do", "dog", "é"])?
+            && lists(alloc, root, 4, "", 0, &[])?
+            && lists(alloc, root, 4, "\0", 1, &["do"])?
+            && lists(alloc, root, 4, "d", 1, &["do"])?
+            && lists(alloc, root, 4, "do", 1, &["dog"])?
+            && lists(alloc, root, 4, "dog", 9, &["é", LAST])?
+            && lists(alloc, root, 4, LAST, 9, &[])?,
+    )
+}
+
+/// Pages of the names of each account.
+fn lists_accounts(alloc: Global, root: &Place<'_>) -> Result<bool, OutOfMemory>
+    requires { (r : RootOf) × IsRoot (object_of root.now) r × (r.log.last ≤ 4) }
+{
+    Ok(
+        lists_of(alloc, root, 4, "a", "", 9, &["dog", "é"])?
+            && lists_of(alloc, root, 4, "a", "", 1, &["dog"])?
+            && lists_of(alloc, root, 4, "a", "do", 2, &["dog", "é"])?
+            && lists_of(alloc, root, 4, "a", "dog", 1, &["é"])?
+            && lists_of(alloc, root, 4, "a", "é", 9, &[])?
+            && lists_of(alloc, root, 4, "ab", "", 9, &["do", LAST])?
+            && lists_of(alloc, root, 4, "ab", "do", 9, &[LAST])?
+            && lists_of(alloc, root, 4, "ab", LAST, 9, &[])?
+            && lists_of(alloc, root, 4, "ab", "", 0, &[])?
+            && lists_of(alloc, root, 4, "abd", "", 9, &[])?
+            && lists_of(alloc, root, 4, "", "", 9, &[])?,
+    )
+}
+
+/// `dog` goes from `a` to `ab`, and the first of `ab` is taken away.
+fn moves_one(
+    alloc: Global,
+    root: &mut Place<'_>,
+    names: &[BucketName; 4],
+    rows: &[Bucket; 2],
+) -> Result<bool, OutOfMemory>
+    requires root { (r : RootOf) × IsRoot (object_of root.old) r × (r.log.last ≤ 4) }
+{
+    let [dog, _, begins, _] = names;
+    let [a, ab] = rows;
+    let raced = step(alloc, root, 4, dog, 9, Some(ab), true, 5)?;
+    let still = lists_of(alloc, root, 5, "a", "", 9, &["dog", "é"])?;
+    let moved = step(alloc, root, 5, dog, 1, Some(ab), true, 6)?;
+    let there = root.row(&DOG_OF_A).is_none()
+        && root.row(&DOG_OF_AB).is_some_and(|row| row.is_empty());
+    let left = lists_of(alloc, root, 6, "a", "", 9, &["é"])?;
+    let more = lists_of(alloc, root, 6, "ab", "", 9, &["do", "dog", LAST])?;
+    let same = step(alloc, root, 6, dog, 6, Some(ab), true, 7)?;
+    let taken = step(alloc, root, 7, begins, 3, None, true, 8)?;
+    let fewer = lists_of(alloc, root, 8, "ab", "", 9, &["dog", LAST])?;
+    let all = lists(alloc, root, 8, "", 9, &["dog", "é", LAST])?;
+    let back = step(alloc, root, 8, dog, 7, Some(a), true, 9)?;
+    let again = lists_of(alloc, root, 9, "a", "", 9, &["dog", "é"])?;
+    Ok(
+        raced == Some(1)
+            && still
+            && moved.is_none()
+            && there
+            && left
+            && more
+            && same.is_none()
+            && taken.is_none()
+            && fewer
+            && all
+            && back.is_none()
+            && again,
+    )
+}
+
+/// All of these, in a pool without objects.
+fn pages_of_two_accounts(
+    alloc: Global,
+    pool: &mut Pool,
+    names: &[BucketName; 4],
+    rows: &[Bucket; 2],
+) -> Result<bool, Fail>
+    requires empty { pool.old ≡ record { frame = 16; frames = 1; free = 1; slots = [] } }
+{
+    let mut root = pool.place(alloc, &Key::Root)?;
+    Ok(
+        makes_four(alloc, &mut root, names, rows)?
+            && lists_four(alloc, &root)?
+            && lists_accounts(alloc, &root)?
+            && moves_one(alloc, &mut root, names, rows)?,
+    )
+}
+
+#[test]
+fn pages_tell_names_and_those_of_an_account(rt: HostRuntime) -> Result<(), Fail> {
+    let alloc = rt.alloc();
+    let mut pool = Pool::new(alloc, 1, 16)?;
+    let names = [
+        bucket_name(alloc, "dog")?,
+        bucket_name(alloc, "é")?,
+        bucket_name(alloc, "do")?,
+        bucket_name(alloc, LAST)?,
+    ];
+    let rows = [owned_by(alloc, "a")?, owned_by(alloc, "ab")?];
+    let right = pages_of_two_accounts(alloc, &mut pool, &names, &rows);
+    drop(names);
+    drop(rows);
     drop(pool);
     assert!(rt; right?);
     Ok(())

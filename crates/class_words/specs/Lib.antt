@@ -1,3 +1,4 @@
 pub mod Works
 pub mod LogRows
 pub mod Shards
+pub mod Pages

@@ -1,7 +1,10 @@
 //! What calls on one object of a pool leave: the frame that each such call keeps, and when an object is a
-//! shard or has a log. The classes and the realm cite these words. The functions here are laws and do
-//! nothing.
+//! shard or has a log, with the small calls that several classes make. The classes and the realm cite these
+//! words. The functions without arguments are laws and do nothing.
 #![tactic(auto)]
+
+mod header;
+mod paging;
 
 ghost use Rattle.std.specs.Prelude.{◌≡◌, ◌≢◌, ◌<◌, ◌≤◌, ◌^◌, ◌+◌, ◌∷◌, ℕ, List, None, Some, IfSome, true, IsTrue};
 ghost use Rattle.std.specs.Ordering.{is_lt};
@@ -19,6 +22,9 @@ ghost use Rattle.index_entry.specs.LogRows.{IsWhat, log_key, what_bytes};
 ghost use Rattle.class_words.specs.Works.{Works, WorksOnRows, WorksWith};
 ghost use Rattle.class_words.specs.LogRows.{IsLog, logged_at};
 ghost use Rattle.class_words.specs.Shards.{HasEntry, HasRows, IsObjectName};
+
+pub use header::{check_serves, header_at, put_header};
+pub use paging::{later_of, look_up, name_in};
 
 /// What one call on a place leaves is what a call leaves, and so is what one leaves after another, or
 /// one that does nothing.

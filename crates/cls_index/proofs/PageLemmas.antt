@@ -1,103 +1,29 @@
 -- The rows of the entries above a name.
-use Rattle.std.proofs.Common.{◌≡◌, ℕ, zero, suc, ◌-◌, ◌<◌, ◌≤◌, ◌^◌, ◌==◌, nat_lt, nat_le, ◌&&◌, Bool, true, false, cond, true≢false, T, List, [], ◌∷◌, map, length, take, drop, get_or, replicate, append_assoc, append-nil, IsTrue, ◌↔◌, ◌++◌, Option, Some, None, option_map, IfSome, refl, sym, ap, ◌∙◌, subst, arith}
+use Rattle.std.proofs.Common.{◌≡◌, ℕ, zero, suc, ◌≤◌, nat_le, Bool, true, false, cond, true≢false, T, List, [], ◌∷◌, map, length, take, drop, get_or, append_assoc, append-nil, IsTrue, ◌↔◌, ◌++◌, Option, Some, None, option_map, IfSome, refl, sym, ap, ◌∙◌, subst, arith}
 use Rattle.std.specs.List.{AllByRecursion}
 use Rattle.std.specs.declared.cmp.Ordering.{Ordering}
 use Rattle.std.specs.declared.cmp.Ordering.TheVariants.{Less, Equal, Greater}
-use Rattle.std.specs.Ordering.{eq_by_cmp, is_eq, is_lt, nat_cmp, ordering_reverse, ordering_then}
-use Rattle.std.specs.Cmp.Lexicographic.{nat_list_cmp_total, slice_cmp}
-use Rattle.std.specs.FinMap.{nat_cmp-IsAntisymmetric, slice_cmp-IsAntisymmetric}
+use Rattle.std.specs.Ordering.{eq_by_cmp, is_eq, is_lt, ordering_reverse}
+use Rattle.std.specs.Cmp.Lexicographic.{nat_list_cmp_total}
 use Rattle.std.specs.FinMap.Entries.{below_all, find, find-where_key, is_sorted, is_sorted-where_key, same_entries}
 use Rattle.std.proofs.lemmas.List.{length-map, take-map}
 use Rattle.std.proofs.lemmas.Bool.Decides.{nat_tests}
 use Rattle.omap_pages.specs.Contents.{Contents}
 use Rattle.omap_pages.specs.Rows.{Rows, key_cmp, rows_after, value_at}
-use Rattle.object_words.specs.declared.log.LogRow.{LogRow}
 use Rattle.object_words.specs.Entries.{EntryView}
 use Rattle.object_words.specs.Names.{at, entries, name_cmp, where_name}
 use Rattle.object_words.specs.Shards.{Shard}
 use Rattle.object_words.specs.ShardCalls.{entries_after}
-use Rattle.index_entry.specs.Numbers.{number_bytes}
 use Rattle.index_entry.specs.Layouts.{IsEntry, entry_bytes}
-use Rattle.index_entry.specs.LogRows.{log_key}
-use Rattle.class_words.specs.LogRows.{log_rows, logged_at, or_logged}
+use Rattle.class_words.specs.LogRows.{logged_at, or_logged}
 use Rattle.class_words.specs.Shards.{HasRows, IsObjectName}
-use Rattle.class_words.proofs.LogLemmas.{name_itself, no_zero, same_name, other_name}
-use Rattle.cls_index.specs.Pages.{IsNamed, StartsAt, top, written}
-
-lower : (a b : ℕ) → a < b → nat_lt a b ≡ true
-lower a b h = grind (arith, nat_tests)
-
-not_lower : (x : ℕ) → x < 256 → nat_lt 255 x ≡ false
-not_lower x fits = grind (arith, nat_tests)
-
-never_above : (xs : List ℕ) → AllByRecursion (λ b. b < 256) xs → is_lt (slice_cmp nat_cmp (replicate (length xs) 255) xs) ≡ false
-never_above [] all = refl
-never_above (x ∷ xs) all =
-    rw (not_lower x all.0)
-    (elim (255 == x) as (λ b. is_lt (ordering_then (cond b Equal Greater) (slice_cmp nat_cmp (replicate (length xs) 255) xs)) ≡ false) [
-      | true ↦ never_above xs all.1
-      | false ↦ refl
-    ])
-
-bytes_fit : (n : ℕ) → AllByRecursion (λ b. b < 256) (number_bytes n)
-unfolding number_bytes
-bytes_fit n = (omega arith, (omega arith, (omega arith, (omega arith, (omega arith, (omega arith, (omega arith, (omega arith, tt))))))))
-
-most_bytes : number_bytes (2 ^ 64 - 1) ≡ replicate 8 255
-unfolding number_bytes
-most_bytes = refl
-
-long_bytes : (n : ℕ) → length (number_bytes n) ≡ 8
-unfolding number_bytes
-long_bytes n = refl
-
--- no key of a log is above the greatest
-log_low : (position : ℕ) → is_lt (key_cmp top (log_key position)) ≡ false
-log_low position =
-    ap (λ l. is_lt (slice_cmp nat_cmp l (number_bytes position))) (most_bytes ∙ sym (ap (λ n. replicate n 255) (long_bytes position)))
-    ∙ never_above (number_bytes position) (bytes_fit position)
-
-none_in : (rows : List LogRow) (q : List ℕ) → is_lt (key_cmp top q) ≡ true → find key_cmp q (log_rows rows) ≡ None
-none_in [] q above = refl
-none_in (row ∷ rows) q above =
-    let differs = other_name q (log_key row.position) (λ same. true≢false (sym above ∙ ap (λ k. is_lt (key_cmp top k)) same ∙ log_low row.position)) in
-    rw differs (none_in rows q above)
-
-name_above : (name : List ℕ) → IsObjectName name → is_lt (key_cmp top name) ≡ true
-name_above [] is = absurd (true≢false (sym is.0))
-name_above (zero ∷ rest) is = absurd (true≢false (sym (no_zero (0 ∷ rest) is)))
-name_above (suc n ∷ rest) is =
-    ap (λ b. is_lt (ordering_then (cond b Less (cond (0 == suc n) Equal Greater)) (slice_cmp nat_cmp (number_bytes (2 ^ 64 - 1)) rest))) (lower 0 (suc n) (omega arith))
-
-left_of : (a b : Bool) → T (a && b) → T a
-left_of true b p = tt
-left_of false b p = p
-
-right_of : (a b : Bool) → T (a && b) → T b
-right_of true b p = p
-right_of false b p = absurd p
-
-both_of : (a b : Bool) → T a → T b → T (a && b)
-both_of true b p q = q
-both_of false b p q = p
+use Rattle.class_words.proofs.AboveLog.{none_in, name_above, left_of, right_of, both_of, same_key, is_less, below_then}
+use Rattle.class_words.proofs.LogLemmas.{name_itself, same_name}
+use Rattle.class_words.specs.Pages.{StartsAt, written}
+use Rattle.class_words.proofs.PageLemmas.{find_written, sorted_written}
+use Rattle.cls_index.specs.Pages.{IsNamed}
 
 -- ---- rows and entries
-
-find_written : (q : List ℕ) (es : List (List ℕ × EntryView)) → find key_cmp q (map written es) ≡ option_map entry_bytes (find key_cmp q es)
-find_written q [] = refl
-find_written q (e ∷ es) =
-    elim (eq_by_cmp key_cmp q e.0) as (λ b. cond b (Some (entry_bytes e.1)) (find key_cmp q (map written es)) ≡ option_map entry_bytes (cond b (Some e.1) (find key_cmp q es))) [
-      | true ↦ refl
-      | false ↦ find_written q es
-    ]
-
-below_written : (x : List ℕ) (es : List (List ℕ × EntryView)) → T (below_all key_cmp x es) → T (below_all key_cmp x (map written es))
-below_written x [] h = tt
-below_written x (e ∷ es) h = both_of _ _ (left_of _ _ h) (below_written x es (right_of _ _ h))
-
-sorted_written : (es : List (List ℕ × EntryView)) → T (is_sorted key_cmp es) → T (is_sorted key_cmp (map written es))
-sorted_written [] h = tt
-sorted_written (e ∷ es) h = both_of _ _ (below_written e.0 es (left_of _ _ h)) (sorted_written es (right_of _ _ h))
 
 one_after : (c : Contents) (s : Shard) (after start q : List ℕ) → HasRows c s → StartsAt after start
     → cond (is_lt (key_cmp start q)) (value_at c.rows q) None ≡ option_map entry_bytes (cond (is_lt (key_cmp after q)) (at s.entries q) None)
@@ -111,9 +37,6 @@ one_after c s after start q has from =
             | false ↦ λ above. refl
           ] refl ∙ elim (is_lt (key_cmp after q)) as (λ b. None ≡ option_map entry_bytes (cond b None None)) [ true ↦ refl | false ↦ refl ]
     ] (has.named q)
-
-same_key : (q k : List ℕ) → key_cmp q k ≡ Equal → q ≡ k
-same_key = slice_cmp-IsAntisymmetric nat_cmp-IsAntisymmetric
 
 -- what the entries above a name have under a name
 after_at : (s : Shard) (after q : List ℕ) → find key_cmp q (entries_after s after) ≡ cond (is_lt (key_cmp after q)) (at s.entries q) None
@@ -129,32 +52,6 @@ rows_of_entries c s after start has order from =
     same_entries key_cmp nat_list_cmp_total same_key _ _ (is_sorted-where_key key_cmp (λ k. is_lt (key_cmp start k)) c.rows order) (sorted_written (entries_after s after) (after_sorted s after)) (λ q.
     find-where_key key_cmp (λ k. is_lt (key_cmp start k)) q (λ x tie. ap (λ n. is_lt (key_cmp start n)) (sym (same_key q x tie))) c.rows
     ∙ one_after c s after start q has from ∙ sym (find_written q (entries_after s after) ∙ ap (option_map entry_bytes) (after_at s after q)))
-
-is_less : (o : Ordering) → is_lt o ≡ true → o ≡ Less
-is_less Less below = refl
-is_less Equal below = absurd (true≢false (sym below))
-is_less Greater below = absurd (true≢false (sym below))
-
-below_then : (a b c : List ℕ) → key_cmp a b ≡ Less → key_cmp b c ≡ Less → is_lt (key_cmp a c) ≡ true
-below_then a b c p q = ap is_lt (nat_list_cmp_total.trans a b c p q)
-
--- from a name that is not below the end of the log, or else from that end
-pub starts_itself : (after : List ℕ) → is_lt (key_cmp after top) ≡ false → StartsAt after after
-starts_itself after high = record {
-  low = λ name is. refl;
-  log = λ q above.
-      elim (key_cmp after top) as (λ o. key_cmp after top ≡ o → is_lt o ≡ false → is_lt (key_cmp top q) ≡ true) [
-        | Less ↦ λ e not. absurd (true≢false not)
-        | Equal ↦ λ e not. subst (λ k. is_lt (key_cmp k q) ≡ true) (same_key after top e) above
-        | Greater ↦ λ e not. below_then top after q (nat_list_cmp_total.antisymm top after ∙ ap ordering_reverse e) (is_less _ above)
-      ] refl high;
-}
-
-pub starts_above_log : (after : List ℕ) → is_lt (key_cmp after top) ≡ true → StartsAt after top
-starts_above_log after low = record {
-  low = λ name is. let over = name_above name is in over ∙ sym (below_then after top name (is_less _ low) (is_less _ over));
-  log = λ q above. above;
-}
 
 -- ---- the entries above a name are named
 

@@ -14,18 +14,13 @@ use Rattle.object_words.specs.Tags.{with_tag}
 use Rattle.index_entry.specs.declared.entry.EntryFront.{EntryFront}
 use Rattle.index_entry.specs.Numbers.{number_bytes}
 use Rattle.index_entry.specs.Layouts.{IsEntry, IsTag, IsWritten, entry_bytes, front_bytes, front_of, row_bytes, tag_bytes}
+use Rattle.class_words.proofs.OptionLemmas.{some_same}
 use Rattle.index_entry.proofs.EntryLemmas.{length-entry_bytes, no_row_written}
 use Rattle.class_words.specs.Shards.{HasEntry}
 use Rattle.class_words.proofs.WorksLemmas.{works_on_rows_then}
 use Rattle.cls_index.specs.Rows.{KeepsToName}
 use Rattle.cls_index.proofs.RawLemmas.{raw, raw_count, raw_front, raw_less, raw_less_first, raw_more, raw_revision}
 use Rattle.cls_index.proofs.TagLemmas.{all_with, all_without, rise_less, rise_more}
-
-pub some_same : {X : Type 0} (x y : X) → Some x ≡ Some y → x ≡ y
-some_same x y e = ap (λ o. unwrap_or o x) e
-
-pub is_some_at : {X : Type 0} (o : Option X) (x : X) → o ≡ Some x → IsSome o
-is_some_at o x e = subst IsSome (sym e) refl
 
 -- what a splice of a row says
 abbrev pub Splices : Contents → Contents → List ℕ → ℕ → ℕ → List ℕ → Type 0

@@ -1,23 +1,21 @@
 ghost use Rattle.std.specs.Prelude.{◌≡◌, ℕ, List, IfOk, map};
 ghost use Rattle.std.specs.List.{AllByRecursion};
-ghost use Rattle.omap_pages.specs.Rows.{IsInOrder};
-ghost use Rattle.object_pool.specs.Places.{object_of, rows_of};
+ghost use Rattle.object_pool.specs.Places.{object_of};
 ghost use Rattle.object_words.specs.Answers.{Answers};
 ghost use Rattle.object_words.specs.Entries.{EntryView};
 ghost use Rattle.object_words.specs.Refusals.{fate_refusal};
 ghost use Rattle.object_words.specs.Shards.{Shard as ShardOf};
 ghost use Rattle.object_words.specs.ShardCalls.{page_of};
 ghost use Rattle.index_entry.specs.Layouts.{IsEntry, entry_bytes};
-ghost use Rattle.class_words.specs.Shards.{IsObjectName, IsShard};
-ghost use Rattle.cls_index.specs.Pages.{IsNamed, StartsAt, top, written};
+ghost use Rattle.class_words.specs.Shards.{IsShard};
+ghost use Rattle.class_words.specs.Pages.{written};
+ghost use Rattle.cls_index.specs.Pages.{IsNamed};
 
-use crate::header::{check_serves, header_at};
+use class_words::{check_serves, header_at, later_of, look_up, name_in};
 use index_entry::{log_key, read_entry};
 use object_pool::{Bytes, Place};
-use object_words::{ClassFault, Entries, EntryPage, ObjectName};
-use rgw_types::Text;
+use object_words::{ClassFault, Entries, EntryPage};
 use std::alloc::{AllocError, Global};
-use std::cmp::Ordering;
 
 /// The entries above a text in the order of their names, at most `limit` of them, and whether no further
 /// one follows. A shard that is held answers too. The text is any bytes.
@@ -50,24 +48,6 @@ pub fn page(
     Ok(EntryPage { rows, end, clock })
 }
 
-/// Of a text and the greatest key of a log the later one.
-fn later_of<'a>(after: &'a [u8], last: &'a [u8]) -> &'a [u8]
-    requires { last.now ≡ top }
-    ensures { StartsAt after.now result.now }
-{
-    match after.cmp(last) {
-        Ordering::Less => last,
-        Ordering::Equal | Ordering::Greater => after,
-    }
-}
-
-/// Looks at a row, which shows that the rows stand in the order of their keys.
-fn look_up(shard: &Place<'_>, key: &[u8])
-    ensures { IsInOrder (rows_of shard.now).rows }
-{
-    let _row = shard.row(key);
-}
-
 /// The entries that rows are, in the memory of their keys.
 fn entries_in(alloc: Global, rows: Vec<(Bytes, Bytes)>) -> Result<Entries, AllocError>
     requires { (es : List (List ℕ × EntryView)) × (rows.items ≡ map written es) × AllByRecursion IsNamed es }
@@ -80,14 +60,4 @@ fn entries_in(alloc: Global, rows: Vec<(Bytes, Bytes)>) -> Result<Entries, Alloc
         entries.push(entry)?;
     }
     Ok(Entries::from_vec(entries))
-}
-
-/// The name that a key is, in the key's own memory.
-fn name_in(key: Bytes) -> ObjectName
-    requires { IsObjectName key }
-    ensures { result ≡ key }
-{
-    // A name is text, so it is not tested again.
-    let text = unsafe { String::from_utf8_unchecked(key.into_vec()) };
-    ObjectName::new(Text::from_string(text)).unwrap()
 }

@@ -7,9 +7,10 @@ ghost use Rattle.object_words.specs.Tags.{guard_of, tag_of};
 ghost use Rattle.class_words.specs.Shards.{HasTagsBelow, IsShard, IsSmall};
 ghost use Rattle.class_words.specs.Works.{Works};
 
-use crate::header::{check_changes, header_at, put_header};
+use crate::header::check_changes;
 use crate::rows::add_tag;
 use crate::settling::bytes_of;
+use class_words::{header_at, put_header};
 use index_entry::ShardHeader;
 use object_pool::Place;
 use object_words::{ClassFault, Guard, ObjectName, Tag};

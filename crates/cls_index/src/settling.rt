@@ -15,8 +15,8 @@ ghost use Rattle.class_words.specs.Shards.{IsObjectName, IsShard};
 ghost use Rattle.class_words.specs.Works.{Works, WorksOnRows};
 ghost use Rattle.cls_index.specs.Rows.{IsLeft};
 
-use crate::header::put_header;
 use crate::rows::{drop_if_empty, put_front, put_revision};
+use class_words::put_header;
 use index_entry::{EntryFront, LOG_ROW_MOST, ShardHeader, log_key, write_name_row};
 use object_pool::Place;
 use object_words::{EntryRow, ObjectName};

@@ -5,7 +5,7 @@ ghost use Rattle.object_words.specs.Refusals.{fate_refusal};
 ghost use Rattle.object_words.specs.Shards.{Shard as ShardOf, stats_of};
 ghost use Rattle.class_words.specs.Shards.{IsShard};
 
-use crate::header::{check_serves, header_at};
+use class_words::{check_serves, header_at};
 use object_pool::Place;
 use object_words::{ShardStats, Why};
 

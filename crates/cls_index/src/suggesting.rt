@@ -7,10 +7,11 @@ ghost use Rattle.object_words.specs.Tags.{has_due};
 ghost use Rattle.class_words.specs.Shards.{IsShard, IsSmall};
 ghost use Rattle.class_words.specs.Works.{Works};
 
-use crate::header::{check_changes, header_at};
+use crate::header::check_changes;
 use crate::rows::front_at;
 use crate::settling::{bytes_of, settle};
 use crate::tags::{has_due, take_due};
+use class_words::header_at;
 use index_entry::EntryFront;
 use object_pool::Place;
 use object_words::{EntryRow, ObjectName, Why};

@@ -8,10 +8,11 @@ ghost use Rattle.class_words.specs.Shards.{IsShard, IsSmall};
 ghost use Rattle.class_words.specs.Works.{Works};
 ghost use Rattle.cls_index.specs.Rows.{IsLeft};
 
-use crate::header::{check_changes, header_at};
+use crate::header::check_changes;
 use crate::rows::take_tag;
 use crate::settling::bytes_of;
 use crate::tags::find_tag;
+use class_words::header_at;
 use index_entry::{EntryFront, ShardHeader};
 use object_pool::Place;
 use object_words::{ObjectName, Why};

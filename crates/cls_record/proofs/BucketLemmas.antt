@@ -1,8 +1,8 @@
 -- Rows of containers in bytes.
-use Rattle.std.proofs.Common.{◌≡◌, ◌≢◌, ℕ, ◌≤◌, ◌&&◌, ◌==◌, Bool, true, false, if◌then◌else◌, List, [], ◌∷◌, ◌++◌, length, get_or, drop, Option, Some, None, refl, sym, ap, ◌∙◌, arith, append-nil, length-append}
+use Rattle.std.proofs.Common.{◌≡◌, ◌≢◌, ℕ, ◌-◌, ◌≤◌, ◌&&◌, ◌==◌, Bool, true, false, if◌then◌else◌, List, [], ◌∷◌, ◌++◌, length, get_or, take, drop, Option, Some, None, refl, sym, ap, ◌∙◌, arith, append-nil, length-append}
 use Rattle.std.specs.Str.{bytes_eq}
 use Rattle.std.specs.Cmp.Lexicographic.{pointwise}
-use Rattle.std.proofs.lemmas.List.{length-drop}
+use Rattle.std.proofs.lemmas.List.{length-drop, take_all}
 use Rattle.std.proofs.lemmas.Bool.{false_from_ne_true, true≢false}
 use Rattle.std.proofs.lemmas.Bool.Decides.{nat_tests}
 use Rattle.std.proofs.lemmas.Slice.Eq.{bytes_eq-Decides}
@@ -12,7 +12,7 @@ use Rattle.object_words.specs.Roots.{is_same_pair, shares_all}
 use Rattle.object_words.proofs.KeyLemmas.{number_itself}
 use Rattle.index_entry.specs.Numbers.{number_bytes}
 use Rattle.index_entry.proofs.PieceLemmas.{behind, length-number_bytes}
-use Rattle.cls_record.specs.BucketRows.{IsBucket, IsShared, bucket_bytes, busy_kind, busy_number, pairs_bytes, shared_bytes, shared_then}
+use Rattle.cls_record.specs.BucketRows.{IsBucket, IsShared, bucket_bytes, busy_kind, busy_number, pairs_bytes, shared_bytes, shared_then, text_bytes}
 use Rattle.cls_record.specs.RootObjects.{same_shared}
 use Rattle.cls_record.proofs.PieceLemmas.{all_pairs, number_start, text_start}
 
@@ -42,6 +42,21 @@ row_read bs b here =
       at_10 = at_10;
       at_51 = at_51;
       long = omega (arith, length-drop 43 bs, ap length at_43, length-append (number_bytes b.shards) (shared_bytes b), length-number_bytes b.shards);
+    }
+
+-- where the owner is
+pub record OwnerRead (bs : List ℕ) (b : Bucket) : Type 0 where
+  pub rest : List ℕ
+  pub sliced : take (length bs - 59) (drop 59 bs) ≡ text_bytes b.owner ++ rest
+  pub long : 59 ≤ length bs
+
+pub owner_read : (bs : List ℕ) (b : Bucket) → bs ≡ bucket_bytes b → OwnerRead bs b
+owner_read bs b here =
+    let r = row_read bs b here in
+    record {
+      rest = _;
+      sliced = take_all (length bs - 59) (drop 59 bs) (omega (arith, length-drop 59 bs)) ∙ behind bs 51 8 59 (number_bytes b.id) _ r.at_51 (length-number_bytes b.id) refl;
+      long = omega (arith, r.long, length-drop 51 bs, ap length r.at_51, length-append (number_bytes b.id) (text_bytes b.owner ++ (text_bytes b.readers ++ (text_bytes b.writers ++ (number_bytes (length b.meta) ++ pairs_bytes b.meta)))), length-number_bytes b.id);
     }
 
 -- ---- one spelling

@@ -1,4 +1,9 @@
 pub mod PieceLemmas
 pub mod BucketLemmas
+pub mod KeyLemmas
 pub mod RootLemmas
+pub mod OwnerLemmas
 pub mod SwapLemmas
+pub mod FrontLemmas
+pub mod ListLemmas
+pub mod PageLemmas

@@ -1,7 +1,7 @@
 -- Numbers, texts and pairs that stand one after another.
-use Rattle.std.proofs.Common.{◌≡◌, ℕ, ◌^◌, ◌<◌, List, [], ◌∷◌, ◌++◌, length, take, drop, Option, Some, None, unwrap_or, refl, sym, ap, ◌∙◌, arith, append_assoc}
+use Rattle.std.proofs.Common.{◌≡◌, ℕ, ◌^◌, ◌<◌, List, [], ◌∷◌, ◌++◌, length, take, drop, Option, Some, None, Result, Ok, Err, OnErr, unwrap_or, refl, sym, ap, ◌∙◌, arith, append_assoc}
 use Rattle.std.specs.List.{AllByRecursion}
-use Rattle.std.specs.Option.{IsSomeAnd}
+use Rattle.std.specs.Option.{IsSome, IsSomeAnd}
 use Rattle.std.proofs.lemmas.List.{take_at, drop_at, append-nil}
 use Rattle.index_entry.specs.Numbers.{number_bytes}
 use Rattle.index_entry.proofs.PieceLemmas.{length-number_bytes}
@@ -18,14 +18,17 @@ number_start x y r s fx fy e = (
   sym (drop_at (number_bytes x) r 8 (length-number_bytes x)) ∙ ap (drop 8) e ∙ drop_at (number_bytes y) s 8 (length-number_bytes y),
 )
 
--- and so with texts
-pub text_start : (a b r s : List ℕ) → IsText a → IsText b → text_bytes a ++ r ≡ text_bytes b ++ s → (a ≡ b) × (r ≡ s)
-text_start a b r s ta tb e =
+-- and so with pieces of bytes after their lengths
+pub piece_start : (a b r s : List ℕ) → length a < 2 ^ 64 → length b < 2 ^ 64 → text_bytes a ++ r ≡ text_bytes b ++ s → (a ≡ b) × (r ≡ s)
+piece_start a b r s fa fb e =
     let flat = sym (append_assoc (number_bytes (length a)) a r) ∙ e ∙ append_assoc (number_bytes (length b)) b s in
-    let n = number_start (length a) (length b) (a ++ r) (b ++ s) ta.1 tb.1 flat in (
+    let n = number_start (length a) (length b) (a ++ r) (b ++ s) fa fb flat in (
       sym (take_at a r (length a) refl) ∙ ap (take (length a)) n.1 ∙ take_at b s (length a) (sym n.0),
       sym (drop_at a r (length a) refl) ∙ ap (drop (length a)) n.1 ∙ drop_at b s (length a) (sym n.0),
     )
+
+pub text_start : (a b r s : List ℕ) → IsText a → IsText b → text_bytes a ++ r ≡ text_bytes b ++ s → (a ≡ b) × (r ≡ s)
+text_start a b r s ta tb e = piece_start a b r s ta.1 tb.1 e
 
 pub pair_split : (p : List ℕ × List ℕ) (ps : List (List ℕ × List ℕ)) (r : List ℕ) → pairs_bytes (p ∷ ps) ++ r ≡ text_bytes p.0 ++ (text_bytes p.1 ++ (pairs_bytes ps ++ r))
 pair_split p ps r =
@@ -84,6 +87,14 @@ one_pair_written out xs p =
 pub not_some_and : {A : Type 0} (o : Option A) (P : A → Type 0) → ((x : A) → o ≡ Some x → ⊥) → IsSomeAnd o P → ⊥
 not_some_and None P other is = is
 not_some_and (Some x) P other is = other x refl
+
+pub some_of : {A : Type 0} (o : Option A) (P : A → Type 0) → IsSomeAnd o P → IsSome o
+some_of None P is = absurd is
+some_of (Some x) P is = refl
+
+pub err_holds : {T E : Type 0} (result : Result T E) (P : Type 0) → P → OnErr result P
+err_holds (Ok x) P p = tt
+err_holds (Err e) P p = p
 
 pub shared_flat : (o a b d e f g : List ℕ) → o ≡ [] → (((((o ++ a) ++ b) ++ d) ++ e) ++ f) ++ g ≡ a ++ (b ++ (d ++ (e ++ (f ++ g))))
 shared_flat o a b d e f g none = rw none (simp append_assoc refl)

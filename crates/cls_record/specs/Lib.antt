@@ -1,3 +1,4 @@
 pub mod BucketRows
 pub mod Changes
+pub mod Pages
 pub mod RootObjects

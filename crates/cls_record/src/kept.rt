@@ -1,5 +1,5 @@
 //! What a row that is kept says, read where it stands.
-ghost use Rattle.std.specs.Prelude.{◌≡◌, Some};
+ghost use Rattle.std.specs.Prelude.{◌≡◌, Some, option_map};
 ghost use Rattle.object_pool.specs.Places.{object_of};
 ghost use Rattle.object_words.specs.declared.bucket.Bucket.{Bucket as BucketOf};
 ghost use Rattle.object_words.specs.Names.{at};
@@ -8,7 +8,7 @@ ghost use Rattle.cls_record.specs.BucketRows.{IsBucket, IsShared, bucket_bytes, 
 ghost use Rattle.cls_record.specs.RootObjects.{IsBucketName, IsRoot, same_shared};
 
 use crate::codec::OWN_LEN;
-use crate::reader::number_in;
+use crate::reader::{Reader, number_in};
 use object_pool::Place;
 
 /// The version of the row that is kept under a name; 0 where there is none.
@@ -55,4 +55,29 @@ fn shared_in(row: &[u8], part: &[u8]) -> Option<u64>
         return None;
     }
     Some(number_in(&row[10..18]))
+}
+
+/// The owner of the container that is kept under a name, if there is one.
+pub(crate) fn kept_owner<'a>(root: &'a Place<'_>, name: &[u8]) -> Option<&'a str>
+    requires root { (r : RootOf) × IsRoot (object_of root.now) r }
+    requires name { IsBucketName name.now }
+    ensures { (r : RootOf) → IsRoot (object_of root.now) r
+        → option_map (λ owner. owner.now) result ≡ option_map (λ b. b.owner) (at r.buckets name.now) }
+{
+    match root.row(name) {
+        None => None,
+        Some(row) => Some(owner_in(row)),
+    }
+}
+
+/// The owner that a row names.
+fn owner_in(row: &[u8]) -> &str
+    requires { (b : BucketOf) × IsBucket b × (row.now ≡ bucket_bytes b) }
+    ensures { (b : BucketOf) → IsBucket b → row.now ≡ bucket_bytes b → result.now ≡ b.owner }
+{
+    // The id stands before the owner.
+    let mut reader = Reader {
+        rest: &row[OWN_LEN + 8..],
+    };
+    reader.text().unwrap()
 }

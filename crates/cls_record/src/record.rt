@@ -13,6 +13,7 @@ use crate::OutOfMemory;
 use crate::codec::{decode_bucket, row_with, shared_bytes};
 use crate::kept::{kept_shared, kept_version};
 use crate::log_rows::{add_log_row, ready_log};
+use crate::owned::{put_owned, take_owned};
 use object_pool::Place;
 use object_words::{Bucket, BucketName, ClassFault, Why};
 use rgw_types::Bytes;
@@ -105,10 +106,11 @@ fn put_bucket(
     let kept = kept_shared(root, key, part.as_slice());
     let shared = next_shared(kept, new.shared, master, number);
     let row = row_with(alloc, new, number, shared, part.as_slice())?;
+    let owner = new.owner.as_str();
     if master && kept.is_none() {
-        put_logged(alloc, root, name, row)
+        put_logged(alloc, root, name, owner, row)
     } else {
-        put_row(alloc, root, key, row)
+        put_owned(alloc, root, key, owner, row)
     }
 }
 
@@ -119,37 +121,23 @@ fn next_shared(kept: Option<u64>, new: u64, master: bool, number: u64) -> u64
     if master { kept.unwrap_or(number) } else { new }
 }
 
-/// Puts the bytes of a row under a name.
-fn put_row(alloc: Global, root: &mut Place<'_>, name: &[u8], row: Bytes) -> Result<(), OutOfMemory>
-    requires { IsBucketName name.now }
-    ensures works { Works root.old root.new }
-    ensures ok { OnOk result ((r : RootOf) (b : BucketOf) → IsRoot (object_of root.old) r → IsBucket b → row ≡ bucket_bytes b
-        → IsRoot (object_of root.new) (with_row r name.now (Some b))) }
-    ensures err { OnErr result ((r : RootOf) → IsRoot (object_of root.old) r → IsRoot (object_of root.new) r) }
-    ensures spare { (rows_of root.new).spare ≡ (rows_of root.old).spare }
-{
-    let key = Bytes::from_slice(alloc, name)?;
-    match root.put_row(alloc, key, row) {
-        Ok(()) => Ok(()),
-        Err(_) => Err(OutOfMemory),
-    }
-}
-
-/// Puts the bytes of a row under a name, and logs it.
+/// Puts the bytes of a row of this owner under a name, and logs it.
 fn put_logged(
     alloc: Global,
     root: &mut Place<'_>,
     name: &BucketName,
+    owner: &str,
     row: Bytes,
 ) -> Result<(), OutOfMemory>
-    requires { (r : RootOf) × (b : BucketOf) × IsRoot (object_of root.old) r × (r.log.last < 2 ^ 63) × IsBucket b × (row ≡ bucket_bytes b) }
+    requires { (r : RootOf) × (b : BucketOf) × IsRoot (object_of root.old) r × (r.log.last < 2 ^ 63) × IsBucket b × (row ≡ bucket_bytes b)
+        × (owner.now ≡ b.owner) }
     ensures works { Works root.old root.new }
     ensures ok { OnOk result ((r : RootOf) (b : BucketOf) → IsRoot (object_of root.old) r → r.log.last < 2 ^ 63 → IsBucket b → row ≡ bucket_bytes b
-        → IsRoot (object_of root.new) (with_log_row (with_row r name.now (Some b)) name.now)) }
+        → owner.now ≡ b.owner → IsRoot (object_of root.new) (with_log_row (with_row r name.now (Some b)) name.now)) }
     ensures err { OnErr result ((r : RootOf) → IsRoot (object_of root.old) r → IsRoot (object_of root.new) r) }
 {
     let next = ready_log(alloc, root)?;
-    put_row(alloc, root, key_of(name), row)?;
+    put_owned(alloc, root, key_of(name), owner, row)?;
     add_log_row(root, next, name);
     Ok(())
 }
@@ -170,20 +158,10 @@ fn take_bucket(
     let key = key_of(name);
     if master && root.row(key).is_some() {
         let next = ready_log(alloc, root)?;
-        take_row(root, key);
+        take_owned(alloc, root, key)?;
         add_log_row(root, next, name);
     } else {
-        take_row(root, key);
+        take_owned(alloc, root, key)?;
     }
     Ok(())
-}
-
-/// Takes the row under a name away, if there is one.
-fn take_row(root: &mut Place<'_>, name: &[u8])
-    requires { IsBucketName name.now }
-    ensures works { Works root.old root.new }
-    ensures root { (r : RootOf) → IsRoot (object_of root.old) r → IsRoot (object_of root.new) (with_row r name.now None) }
-    ensures spare { (rows_of root.new).spare ≡ (rows_of root.old).spare }
-{
-    root.take_row(name);
 }

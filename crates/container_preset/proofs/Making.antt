@@ -3,15 +3,16 @@ use Rattle.std.proofs.Common.{◌≡◌, ℕ, ◌+◌, ◌≤◌, ◌==◌, ◌&
 use Rattle.std.proofs.lemmas.Bool.Decides.{nat_tests}
 use Rattle.object_words.specs.declared.why.Why.{Why}
 use Rattle.object_words.specs.Keys.{is_key, put, shard_key}
+use Rattle.object_words.specs.Limits.{is_name, shard_limit}
 use Rattle.object_words.specs.Names.{at, none}
 use Rattle.object_words.specs.Roots.{version_of}
 use Rattle.object_words.proofs.KeyLemmas.{key_itself, number_itself}
 use Rattle.object_words.proofs.NameLemmas.{at-with_name, name_itself}
 use Rattle.realm_model.specs.Allowed.{allowed}
 use Rattle.realm_model.specs.Learnt.{first_after, learnt}
-use Rattle.realm_model.specs.Needs.{is_form, is_between}
+use Rattle.realm_model.specs.Needs.{bucket_limit, is_form, is_between}
 use Rattle.realm_model.specs.Phases.{FirstEvent, OwnShards, Phase, fresh}
-use Rattle.realm_model.specs.Settings.{SettingsView}
+use Rattle.realm_model.specs.Settings.{SettingsView, IsSettings}
 use Rattle.realm_model.specs.Tests.{is_so}
 use Rattle.realm_model.specs.declared.event.Reply.TheVariants.{Done, No}
 use Rattle.realm_model.specs.declared.op.Op.TheVariants.{BucketRead}
@@ -71,16 +72,21 @@ made_more p name id made number clock maker =
 same_first : (first : Option FirstEvent) (id clock : ℕ) → first ≡ Some (record { number = id; clock = clock }) → is_so first (λ f. f.number == id) ≡ true
 same_first first id clock is = ap (λ o. is_so o (λ f. f.number == id)) is ∙ number_itself id
 
-may_form : (p : Phase) (settings : SettingsView) (name owner : List ℕ) (id : ℕ) → IsMaker p name id settings.shards → is_form p 1 name None (Some (new_row settings owner id)) ≡ true
-may_form p settings name owner id maker =
+within_limit : (n : ℕ) → 1 ≤ n → n ≤ 1999 → is_between 1 shard_limit n ≡ true
+within_limit n least most = grind (arith, nat_tests)
+
+may_form : (p : Phase) (settings : SettingsView) (name owner : List ℕ) (id : ℕ) → IsSettings settings → is_name bucket_limit name ≡ true → IsMaker p name id settings.shards → is_form p 1 name None (Some (new_row settings owner id)) ≡ true
+may_form p settings name owner id good named maker =
     let first = same_first p.first id maker.first.0 maker.first.1 in
     let counted : (settings.shards == (p.shards 1 id).made) ≡ true = ap (λ n. settings.shards == n) maker.counts ∙ number_itself settings.shards in
     both (is_so p.first (λ f. f.number == id)) _ first
     (both (settings.shards == (p.shards 1 id).made) _ counted
-    (both (not (p.shards 1 id).placed) _ (ap not maker.placed) first))
+    (both (is_between 1 shard_limit settings.shards) _ (within_limit settings.shards (good.shards).least (good.shards).most)
+    (both (not (p.shards 1 id).placed) _ (ap not maker.placed)
+    (both (is_name bucket_limit name) _ named first))))
 
-pub may_swap : (settings : SettingsView) (p : Phase) (name owner : List ℕ) (id : ℕ) → 1 ≤ settings.zones → IsMaker p name id settings.shards → allowed settings p (row_op settings name owner id) ≡ true
-may_swap settings p name owner id some maker =
-    both (is_between 1 settings.zones 1) _ (zone_one settings some)
+pub may_swap : (settings : SettingsView) (p : Phase) (name owner : List ℕ) (id : ℕ) → IsSettings settings → is_name bucket_limit name ≡ true → IsMaker p name id settings.shards → allowed settings p (row_op settings name owner id) ≡ true
+may_swap settings p name owner id good named maker =
+    both (is_between 1 settings.zones 1) _ (zone_one settings (good.zones).least)
     (ap (λ o. is_so o (λ read. version_of read.row == 0 && is_form p 1 name read.row (Some (new_row settings owner id)))) maker.read.1
-    ∙ may_form p settings name owner id maker)
+    ∙ may_form p settings name owner id good named maker)

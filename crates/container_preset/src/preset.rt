@@ -1,10 +1,13 @@
 ghost use Rattle.std.specs.Prelude.{◌≡◌, ◌⊎◌, ◌+◌, ◌∷◌, ◌++◌, ◌^◌, [], None, Some, length, is_some, true, IfErr, IfOk, OnErr, OnOk};
 ghost use Rattle.container_preset.specs.Presets.{Finds, HasMade, HasMadeSome, IsFresh, IsMadeBy, IsThereBy, MakesOne, Stops, event_by, make, made_row, new_row, number_if_absent, preset, row_now};
 ghost use Rattle.object_words.specs.declared.bucket.Bucket.{Bucket as BucketOf};
+ghost use Rattle.object_words.specs.Limits.{is_name};
 ghost use Rattle.realm_door.specs.Steps.{Grows, MayStep};
 ghost use Rattle.realm_model.specs.Doors.{actor_at};
 ghost use Rattle.realm_model.specs.Histories.{Legal};
+ghost use Rattle.realm_model.specs.Needs.{bucket_limit};
 ghost use Rattle.realm_model.specs.Owns.{own_events};
+ghost use Rattle.realm_model.specs.Settings.{IsSettings};
 ghost use Rattle.realm_model.specs.declared.event.Reply.TheVariants.{Row};
 ghost use Rattle.realm_model.specs.declared.op.Op.TheVariants.{BucketRead};
 ghost use Rattle.turn_cell.specs.declared.machine.DoorFault.TheVariants.{Worn};
@@ -148,7 +151,8 @@ fn make_container<D: Door>(
     let Ok(row) = new_row(alloc, settings, owner, id) else {
         return Err(DoorFault::OutOfMemory);
     };
-    settings.has_zone_one();
+    has_bounds(settings);
+    has_name(bucket);
     make_shards(alloc, settings, door, bucket, id, moment)?;
     let swap = Op::BucketSwap {
         zone: 1,
@@ -158,6 +162,20 @@ fn make_container<D: Door>(
     };
     make_event(alloc, door, swap, moment)?;
     Ok(())
+}
+
+// The settings are within their bounds. It does nothing: it tells it to the proofs of its callers.
+fn has_bounds(settings: &Settings)
+    ensures { IsSettings settings.now }
+{
+    let _shards = settings.shards;
+}
+
+// The name is within the bounds of names, by its type. It does nothing: it tells it to the proofs of its callers.
+fn has_name(bucket: &BucketName)
+    ensures { is_name bucket_limit bucket.now ≡ true }
+{
+    let _text = bucket.as_text();
 }
 
 // Makes all shards.

@@ -66,7 +66,7 @@ module _ (tells alone : Type 0) (site : Site) (k : ℕ) (x z y : Side) (head : H
       ∙ shut_closes (form_before largest k head) fate (sym is_closing ∙ closed)
 
   pub served_cut : (s : Served) → s ≡ services.Cut → Served' s → ServesFrom tells alone site k x.intake.buffer x.door y.door x.ends y.ends 0 conn.Cut
-  served_cut s is served = cut_behind tells alone site k x z y head reads (served_by s services.Cut is served)
+  served_cut s is served = let cut = served_by s services.Cut is served in cut_behind tells alone site k x z y head reads cut.0 cut.1
 
   pub served_closed : (s : Served) (end : ConnEnd) → s ≡ services.Replied → close ≡ true → ((ground : Ground) → is_failing ground ≡ false → end ≡ closing_end asked ground)
       → Served' s → ServesFrom tells alone site k x.intake.buffer x.door y.door x.ends y.ends 1 end

@@ -20,7 +20,7 @@ use Rattle.task_list.specs.declared.request.ListRequest.{ListRequest}
 use Rattle.task_list.specs.Listed.{IsListReply, IsListOutcome}
 use Rattle.task_words.specs.Outcomes.{LookedUp, ByMap, Body, IsGetReply, IsGetOutcome, IsPutReply, IsPutOutcome}
 use Rattle.call_words.specs.Bodies.{Fate}
-use Rattle.call_words.specs.Calls.{body_at, IsUndecided, IsGetEnd, IsListEnd, IsBorneOut}
+use Rattle.call_words.specs.Calls.{body_at, IsGrantedAlone, IsGetEnd, IsListEnd, IsBorneOut}
 
 none_some : {X : Type 0} (x : X) → None ≡ Some x → ⊥
 none_some x e = absurd (cc)
@@ -90,21 +90,21 @@ list_outcome r MovedOften events x = no_look _ _ _ _ _ x.0
 list_outcome r outcome events x = x
 
 -- the row is not granted to it either
-undecided : (zone : ℕ) (asker : Asker) (container : List ℕ) (deed : Deed) → IsUndecided zone asker container deed blank → ⊥
-undecided zone asker container deed x = no_look _ _ _ _ _ x.0.by_row
+ungranted : (zone : ℕ) (asker : Asker) (container : List ℕ) (deed : Deed) (events : List OwnEvent) → IsGrantedAlone zone asker container deed blank events → ⊥
+ungranted zone asker container deed events x = no_look _ _ _ _ _ x.0.by_row
 
-get_end : (zone : ℕ) (asker : Asker) (c : GetCommand) (fate : Fate) (outcome : Outcome) → IsGetEnd zone asker c fate outcome blank → ⊥
-get_end zone asker c fate BodyFailed x = undecided zone asker c.container _ x
-get_end zone asker c fate (Done reply) x = get_outcome zone asker c (Done reply) x.0
-get_end zone asker c fate (Busy id) x = get_outcome zone asker c (Busy id) x.0
-get_end zone asker c fate MovedOften x = get_outcome zone asker c MovedOften x.0
-get_end zone asker c fate RacedOften x = get_outcome zone asker c RacedOften x.0
-get_end zone asker c fate LateTag x = get_outcome zone asker c LateTag x.0
-get_end zone asker c fate (LateRead read_at clock) x = get_outcome zone asker c (LateRead read_at clock) x.0
-get_end zone asker c fate (NoSpace free needed) x = get_outcome zone asker c (NoSpace free needed) x.0
+get_end : (zone : ℕ) (asker : Asker) (c : GetCommand) (fate : Fate) (outcome : Outcome) (events : List OwnEvent) → IsGetEnd zone asker c fate outcome blank events → ⊥
+get_end zone asker c fate BodyFailed events x = ungranted zone asker c.container _ events x
+get_end zone asker c fate (Done reply) events x = get_outcome zone asker c (Done reply) x.0
+get_end zone asker c fate (Busy id) events x = get_outcome zone asker c (Busy id) x.0
+get_end zone asker c fate MovedOften events x = get_outcome zone asker c MovedOften x.0
+get_end zone asker c fate RacedOften events x = get_outcome zone asker c RacedOften x.0
+get_end zone asker c fate LateTag events x = get_outcome zone asker c LateTag x.0
+get_end zone asker c fate (LateRead read_at clock) events x = get_outcome zone asker c (LateRead read_at clock) x.0
+get_end zone asker c fate (NoSpace free needed) events x = get_outcome zone asker c (NoSpace free needed) x.0
 
 list_end : (r : ListRequest) (fate : Fate) (outcome : Outcome) (events : List OwnEvent) → IsListEnd r fate outcome blank events → ⊥
-list_end r fate BodyFailed events x = no_look _ _ _ _ _ x.by_row
+list_end r fate BodyFailed events x = ungranted r.zone r.asker r.command.container _ events x
 list_end r fate (Done reply) events x = list_outcome r (Done reply) events x.0
 list_end r fate (Busy id) events x = list_outcome r (Busy id) events x.0
 list_end r fate MovedOften events x = list_outcome r MovedOften events x.0
@@ -118,5 +118,5 @@ pub not_blank : (stripe zone : ℕ) (asker : Asker) (asked : Asked) (fate : Fate
 not_blank stripe zone asker BadHost fate body shown outcome events x = x
 not_blank stripe zone asker (Refused why) fate body shown outcome events x = x
 not_blank stripe zone asker (Put c) fate body shown outcome events x = put_outcome zone asker c (body_at fate body) outcome events x.0
-not_blank stripe zone asker (Unfed (Get c)) fate body shown outcome events x = get_end zone asker c fate outcome x.0
+not_blank stripe zone asker (Unfed (Get c)) fate body shown outcome events x = get_end zone asker c fate outcome events x.0
 not_blank stripe zone asker (Unfed (Listing c l)) fate body shown outcome events x = list_end (record { zone = zone; asker = asker; command = c }) fate outcome events x.0

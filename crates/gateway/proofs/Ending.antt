@@ -22,9 +22,9 @@ use Rattle.http_intake.specs.Faults.{CountsFaults}
 use Rattle.gateway.specs.declared.turn.Turn.{Turn}
 use Rattle.gateway.specs.Texts.{end_text, end_replies, connection_end}
 use Rattle.gateway.specs.Calls.{MayBegin}
-use Rattle.gateway.specs.Serving.{ReadsOut, IsOpen, IsTidy, RepliesTo, ServesFrom, FailsReading, LeavesHead, StopsFrom, LeavesAt}
+use Rattle.gateway.specs.Serving.{ReadsOut, IsOpen, IsTidy, BreaksOff, RepliesTo, ServesFrom, FailsReading, LeavesHead, StopsFrom, LeavesAt}
 use Rattle.gateway.specs.Turns.{ComesTo, WritesFew, EndsHeads, end_for, EndsSo, LeavesSo}
-use Rattle.gateway.proofs.Growing.{advances_none, new_moments}
+use Rattle.gateway.proofs.Growing.{advances_none, new_actor, new_moments}
 use Rattle.gateway.proofs.Turning.{none_settled, same_left}
 
 pub heads_end : (all : List ℕ) (ended : Type 0) (fault : IntakeFault) → HasNoNext all ended fault → EndsHeads fault
@@ -37,21 +37,26 @@ heads_end all ended (intake.BadFraming b) x = tt
 heads_end all ended intake.BadChunk x = x
 heads_end all ended intake.BodyTooLarge x = x
 
+-- where the input ends there, it ends inside a head
+abbrev IsCutAtHead : List ℕ → CallsEnd → Type 0
+IsCutAtHead bytes (at_cut continued) = IsCutHead bytes
+IsCutAtHead bytes e = Unit {0}
+
 -- the end that the cause makes is that of the bytes
-end_comes : (largest : ℕ) (all : List ℕ) (after : Option (List ℕ)) (fault : IntakeFault) (e : CallsEnd) → HasNoNext all (IsAtEnd after) fault → end_for fault ≡ Some e → IsEnd largest all e × ReadsOut e after
+end_comes : (largest : ℕ) (all : List ℕ) (after : Option (List ℕ)) (fault : IntakeFault) (e : CallsEnd) → HasNoNext all (IsAtEnd after) fault → end_for fault ≡ Some e → IsEnd largest all e × ReadsOut e after × IsCutAtHead all e
 end_comes largest all after intake.OutOfMemory e x is = absurd (cc)
 end_comes largest all after intake.ReadFault e x is = absurd (cc)
-end_comes largest all after intake.Cut e x is = let same : at_cut false ≡ e = cc in subst (λ f. IsEnd largest all f × ReadsOut f after) same ((x.0, inl x.1), x.2)
-end_comes largest all after intake.BadHead e x is = let same : at_bad Word.Head false ≡ e = cc in subst (λ f. IsEnd largest all f × ReadsOut f after) same ((x, refl), tt)
-end_comes largest all after intake.HeadTooLarge e x is = let same : at_bad Word.Size false ≡ e = cc in subst (λ f. IsEnd largest all f × ReadsOut f after) same ((x, refl), tt)
-end_comes largest all after (intake.BadFraming b) e x is = let same : at_bad Word.Framing b ≡ e = cc in subst (λ f. IsEnd largest all f × ReadsOut f after) same (x, tt)
+end_comes largest all after intake.Cut e x is = let same : at_cut false ≡ e = cc in subst (λ f. IsEnd largest all f × ReadsOut f after × IsCutAtHead all f) same ((x.0, inl x.1), x.2, x.1)
+end_comes largest all after intake.BadHead e x is = let same : at_bad Word.Head false ≡ e = cc in subst (λ f. IsEnd largest all f × ReadsOut f after × IsCutAtHead all f) same ((x, refl), tt, tt)
+end_comes largest all after intake.HeadTooLarge e x is = let same : at_bad Word.Size false ≡ e = cc in subst (λ f. IsEnd largest all f × ReadsOut f after × IsCutAtHead all f) same ((x, refl), tt, tt)
+end_comes largest all after (intake.BadFraming b) e x is = let same : at_bad Word.Framing b ≡ e = cc in subst (λ f. IsEnd largest all f × ReadsOut f after × IsCutAtHead all f) same (x, tt, tt)
 end_comes largest all after intake.BadChunk e x is = absurd x
 end_comes largest all after intake.BodyTooLarge e x is = absurd x
 
 -- bytes of a cut head are those of an input that may end there, without a text
-open_blank : (largest : ℕ) (bytes blank : List ℕ) → skip_breaks bytes ≡ blank → IsCutHead bytes → (e : CallsEnd) × IsOpen e × IsEnd largest bytes e × (end_text e ≡ [])
-open_blank largest bytes [] is cut = (at_clean, tt, (cut.0, is), refl)
-open_blank largest bytes (b ∷ rest) is cut = (at_cut false, tt, (λ none. let clash : ◌∷◌ b rest ≡ [] = sym is ∙ none in absurd (cc), inl cut), refl)
+open_blank : (largest : ℕ) (bytes blank : List ℕ) → skip_breaks bytes ≡ blank → IsCutHead bytes → (e : CallsEnd) × IsOpen e × IsEnd largest bytes e × (end_text e ≡ []) × IsCutAtHead bytes e
+open_blank largest bytes [] is cut = (at_clean, tt, (cut.0, is), refl, tt)
+open_blank largest bytes (b ∷ rest) is cut = (at_cut false, tt, (λ none. let clash : ◌∷◌ b rest ≡ [] = sym is ∙ none in absurd (cc), inl cut), refl, cut)
 
 few_replies : (e : CallsEnd) → end_replies e ≤ 1
 few_replies at_clean = omega arith
@@ -67,9 +72,15 @@ module _ (tells alone : Type 0) (site : Site) (k : ℕ) (d : DoorView) (old_inta
   idle_tidy (at_cut continued) = λ is. sym (new_moments site.settings d (may is))
   idle_tidy (at_bad word bodiless) = (refl, λ is. refl)
 
-  end_replied : (e : CallsEnd) → IsEnd site.settings.largest (old_intake.buffer ++ more) e → Appends old.taken new.taken (end_text e)
+  idle_amid : (e : CallsEnd) → IsCutAtHead (old_intake.buffer ++ more) e → BreaksOff tells site k (old_intake.buffer ++ more) [] d d.pass (next_count d) new.left e
+  idle_amid at_clean cut = tt
+  idle_amid at_close cut = tt
+  idle_amid (at_cut continued) cut = (old_intake.buffer ++ more, refl, inl (cut, λ is. (new_actor site.settings d (may is)).events))
+  idle_amid (at_bad word bodiless) cut = tt
+
+  end_replied : (e : CallsEnd) → IsEnd site.settings.largest (old_intake.buffer ++ more) e → IsCutAtHead (old_intake.buffer ++ more) e → Appends old.taken new.taken (end_text e)
       → RepliesTo tells alone site k old_intake.buffer d d old new [] e
-  end_replied e ends written = record {
+  end_replied e ends cut written = record {
     read = more;
     consumed = consumed;
     asked = tt;
@@ -81,15 +92,16 @@ module _ (tells alone : Type 0) (site : Site) (k : ℕ) (d : DoorView) (old_inta
     asked_clock = told;
     told = refl;
     tidy = idle_tidy e;
+    amid = idle_amid e cut;
     settled = λ is. none_settled alone site d d (same_left alone site d d (may is) refl);
   }
 
-  pub end_served : (e : CallsEnd) → IsEnd site.settings.largest (old_intake.buffer ++ more) e → ReadsOut e new.left → Appends old.taken new.taken (end_text e)
+  pub end_served : (e : CallsEnd) → IsEnd site.settings.largest (old_intake.buffer ++ more) e → IsCutAtHead (old_intake.buffer ++ more) e → ReadsOut e new.left → Appends old.taken new.taken (end_text e)
       → ServesFrom tells alone site k old_intake.buffer d d old new (end_replies e) (connection_end [] e)
-  end_served e ends out written = record {
+  end_served e ends cut out written = record {
     calls = [];
     stream_end = e;
-    replied = end_replied e ends written;
+    replied = end_replied e ends cut written;
     read_out = out;
     counted = omega arith;
     ended = refl;
@@ -102,7 +114,7 @@ module _ (tells alone : Type 0) (site : Site) (k : ℕ) (d : DoorView) (old_inta
       record {
         calls = [];
         stream_end = o.0;
-        replied = end_replied o.0 o.2 (subst (Appends old.taken new.taken) (sym o.3) quiet);
+        replied = end_replied o.0 o.2 o.4 (subst (Appends old.taken new.taken) (sym o.3) quiet);
         waits = o.1;
       }
 
@@ -140,7 +152,7 @@ module _ (tells alone : Type 0) (site : Site) (k : ℕ) (d : DoorView) (old_inta
     end_ended cause turn none (e, is, same, written) =
         let ends = end_comes site.settings.largest (old_intake.buffer ++ more) new.left cause e none is in
         subst (λ (t : Turn). ComesTo tells alone site k found (side d old_intake old) (side d new_intake new) (Ok t) × WritesFew t) (sym same)
-        (end_served e ends.0 ends.1 written, few_replies e)
+        (end_served e ends.0 ends.2 ends.1 written, few_replies e)
 
     -- the turn in which the next head was not read for this cause
     pub end_comes_to : (cause : IntakeFault) (result : Result Turn ServeFault) → HasNoNext (old_intake.buffer ++ more) (IsAtEnd new.left) cause

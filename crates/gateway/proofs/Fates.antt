@@ -5,6 +5,7 @@ use Rattle.http_chunks.specs.declared.body.BodyEnd.{BodyEnd}
 use Rattle.http_chunks.specs.declared.body.BodyEnd.TheVariants as End
 use Rattle.http_chunks.specs.Chunks.{AreChunks, content_of}
 use Rattle.http_intake.specs.Grammar.{IsBodyOf, HasNoBody, IsLeft, IsLeftBy, IsBroken, IsBrokenBy}
+use Rattle.http_intake.proofs.WrongBodies.{wrong_body}
 use Rattle.http_intake.specs.Intake.{IntakeState, is_in_chunks}
 use Rattle.http_model.specs.declared.head.Framing.{Framing}
 use Rattle.http_model.specs.declared.head.Framing.TheVariants.{Empty, Length, Chunked}
@@ -259,8 +260,9 @@ module _ (largest : ℕ) (intake : IntakeState) (head : Head) (behind : IsBehind
         is_body bytes body new.buffer (subst₂ (λ l g. IsLeft intake l g new.buffer) (append-nil bytes) (append-nil body) left),
         λ is. refl,
       )
-  taken_body plan (broken_off why) new a b body (suits, (wrong, breaks, none)) =
+  taken_body plan (broken_off why) new a b body (suits, breaks) =
       let bytes = intake.buffer ++ breaks.more in
-      (breaks.more, bytes, breaks.read, (no_body bytes why breaks.broken, none, refl), λ is. let clash : broken_off why ≡ read_whole = is in absurd (cc))
+      let wrong = wrong_body largest intake behind.behind behind.room bytes why body head.framing behind.body_left behind.chunked breaks.wrong in
+      (breaks.more, bytes, breaks.read, (wrong, refl), λ is. let clash : broken_off why ≡ read_whole = is in absurd (cc))
   taken_body plan unread new a b body (suits, (none, same, read)) =
       ([], intake.buffer ++ [], read, (none, refl), λ is. let clash : unread ≡ read_whole = is in absurd (cc))

@@ -13,4 +13,3 @@ pub mod Connection
 pub mod Refusals
 pub mod Joining
 pub mod Behind
-pub mod Reading

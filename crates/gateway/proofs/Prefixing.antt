@@ -1,19 +1,22 @@
 -- One request, and what comes behind it.
-use Rattle.std.proofs.Common.{◌≡◌, ℕ, suc, ◌<◌, List, [], ◌∷◌, ◌++◌, refl, sym, ap, ◌∙◌, subst, append_assoc, arith}
+use Rattle.std.proofs.Common.{◌≡◌, inl, inr, ℕ, suc, ◌<◌, List, [], ◌∷◌, ◌++◌, Option, refl, sym, ap, ◌∙◌, subst, append_assoc, arith}
 use Rattle.std.specs.Prelude.{MatchBool}
 use Rattle.std.proofs.KnownBytes.{Consumes-trans, Appends-trans}
 use Rattle.std.specs.Io.KnownBytes.{Appends}
 use Rattle.gw_io.specs.Ends.{EndsState}
 use Rattle.http_model.proofs.StreamLaws.{more_head}
 use Rattle.realm_model.specs.Doors.{DoorView}
+use Rattle.realm_model.specs.Owns.{own_events}
+use Rattle.swift_requests.specs.Asks.{asked_of}
 use Rattle.realm_model.specs.declared.event.Event.{Event}
 use Rattle.realm_door.specs.Steps.{next_count, actor_of_pass, IsSame}
 use Rattle.http_intake.proofs.RequestLaws.{body_more}
 use Rattle.call_words.specs.Bodies.{read_whole, IsBehind}
 use Rattle.call_words.specs.Calls.{Ground, alone as by_itself, task, Call, whole_text, IsOfNext, IsRight, AreRight, AreSame, actor_after}
-use Rattle.call_words.specs.Streams.{form_of, CallsEnd, at_clean, at_close, at_cut, at_bad, Taken, TakesCall, IsStreamFrom}
+use Rattle.call_words.specs.Requests.{taken_of, requests_of}
+use Rattle.call_words.specs.Streams.{use_of, form_of, CallsEnd, at_clean, at_close, at_cut, at_bad, Taken, TakesCall, IsStreamFrom}
 use Rattle.call_words.proofs.Staying.{stay}
-use Rattle.call_service.specs.Serving.{Site, Side, is_by_end}
+use Rattle.call_service.specs.Serving.{Site, Side, is_by_end, body_of}
 use Rattle.door_moments.specs.Acts.{own_moments, Tells}
 use Rattle.call_service.specs.declared.fault.ServeFault.{ServeFault}
 use Rattle.call_service.specs.declared.fault.ServeFault.TheVariants as faults
@@ -21,8 +24,9 @@ use Rattle.gateway.specs.declared.serve.ConnEnd.{ConnEnd}
 use Rattle.gateway.specs.Moments.{AreToldFor, AreTold}
 use Rattle.call_words.specs.Made.{AreBy, AreMade}
 use Rattle.gateway.specs.Texts.{texts_from, end_text, connection_end}
-use Rattle.gateway.specs.Calls.{Advances, IsSettled, AreSettled}
-use Rattle.gateway.specs.Serving.{taken_of, requests_of, IsTidy, RepliesTo, ServesFrom, FailsReading, StopsFrom, LeavesAt}
+use Rattle.gateway.specs.Calls.{DoesSoFar, Advances, IsSettled, AreSettled}
+use Rattle.gateway.specs.Requests.{IsLetIn}
+use Rattle.gateway.specs.Serving.{IsTidy, EndsAmid, BreaksOff, RepliesTo, ServesFrom, FailsReading, StopsFrom, LeavesAt}
 use Rattle.gateway.specs.Turns.{GoesOn}
 use Rattle.gateway.proofs.Fates.{open_whole}
 use Rattle.gateway.proofs.Growing.{advances_both, older_moments}
@@ -58,6 +62,23 @@ told_moved tells seen p q same (call ∷ calls) moments later (first, others, wh
   told_for_moved tells seen seen p q call.ground first (λ actor outcome e is. ap (λ r. own_moments seen (actor_of_pass r actor)) (sym (same is))) one,
   told_moved tells seen p q same calls others later rest,
 )
+
+amid_moved : (tells : Type 0) (site : Site) (e : DoorView) (p q last : ℕ) (rest : List ℕ) (left : Option (List ℕ)) → (tells → p ≡ q) → EndsAmid tells site e p last rest left → EndsAmid tells site e q last rest left
+amid_moved tells site e p q last rest left same (inl (cut, none)) = inl (cut, λ is. subst (λ r. own_events e.seen (actor_of_pass r last) ≡ []) (same is) (none is))
+amid_moved tells site e p q last rest left same (inr x) = inr (record {
+  head = x.head;
+  after = x.after;
+  begins = x.begins;
+  is_read = x.is_read;
+  intake = x.intake;
+  before = x.before;
+  behind = x.behind;
+  given = x.given;
+  falls = x.falls;
+  is_after = x.is_after;
+  so_far = λ is. subst (λ r. DoesSoFar site (asked_of site.settings.largest x.head) (body_of x.given) r last e.seen) (same is) (x.so_far is);
+  let_in = λ is. subst (λ r. IsLetIn site (asked_of site.settings.largest x.head) (use_of site.settings.largest x.head) r last e.seen) (same is) (x.let_in is);
+})
 
 tidy_moved : (tells : Type 0) (e : DoorView) (p q last : ℕ) (later : List ℕ) → (tells → p ≡ q) → (end : CallsEnd) → IsTidy tells e p last later end → IsTidy tells e q last later end
 tidy_moved tells e p q last later same at_clean x = x
@@ -142,6 +163,14 @@ module _ (tells alone : Type 0) (site : Site) (k : ℕ) (x m : Side) (g : GoesOn
     told_moved tells e.seen m.door.pass x.door.pass same_pass calls moments later told,
   )
 
+  goes_amid : (e : DoorView) (last : ℕ) (left : Option (List ℕ)) (more : List ℕ) (requests : List Taken) (end : CallsEnd) → BreaksOff tells site (suc k) (m.intake.buffer ++ more) requests e m.door.pass last left end
+      → BreaksOff tells site k (x.intake.buffer ++ (g.replied.read ++ more)) (taken_of g.call ∷ requests) e x.door.pass last left end
+  goes_amid e last left more requests at_clean x = tt
+  goes_amid e last left more requests at_close x = tt
+  goes_amid e last left more requests (at_cut continued) (rest, front, amid) =
+      (rest, (m.intake.buffer ++ more, goes_takes more, g.stays_open, front), amid_moved tells site e m.door.pass x.door.pass last rest left same_pass amid)
+  goes_amid e last left more requests (at_bad word bodiless) x = tt
+
   goes_replies : (e : DoorView) (new : EndsState) (calls : List Call) (end : CallsEnd) → RepliesTo tells alone site (suc k) m.intake.buffer m.door e m.ends new calls end
       → RepliesTo tells alone site k x.intake.buffer x.door e x.ends new (g.call ∷ calls) end
   goes_replies e new calls end s =
@@ -164,6 +193,7 @@ module _ (tells alone : Type 0) (site : Site) (k : ℕ) (x m : Side) (g : GoesOn
         asked_clock = Appends-trans x.ends.told m.ends.told new.told g.replied.answered.moments s.moments g.replied.answered.asked_clock s.asked_clock;
         told = goes_told e calls s.last s.moments s.later s.settled s.told;
         tidy = tidy_moved tells e m.door.pass x.door.pass s.last s.later same_pass end s.tidy;
+        amid = goes_amid e s.last new.left s.read (requests_of calls) end s.amid;
         settled = λ is. more_settled alone site x.door m.door e g.call (g.replied.answered.settled is) calls s.last (s.settled is);
       }
 

@@ -7,7 +7,12 @@ use Rattle.gw_io.specs.Ends.{EndsState}
 use Rattle.http_intake.specs.Intake.{IntakeState}
 use Rattle.http_model.specs.declared.head.Head.{Head}
 use Rattle.http_model.specs.declared.reply.ReplyForm.{ReplyForm}
+use Rattle.realm_model.specs.Accounts.{Account}
+use Rattle.realm_model.specs.Histories.{account_of}
+use Rattle.realm_model.specs.Owns.{OwnEvent, own_events}
 use Rattle.realm_model.specs.Doors.{DoorView}
+use Rattle.realm_door.specs.Steps.{next_count, actor_of_pass}
+use Rattle.task_words.specs.Outcomes.{Body}
 use Rattle.realm_model.specs.declared.event.Event.{Event}
 use Rattle.swift_requests.specs.declared.asked.Asked.{Asked}
 use Rattle.swift_requests.specs.declared.asked.Asked.TheVariants.{BadHost, Refused, Put, Unfed}
@@ -15,19 +20,34 @@ use Rattle.swift_requests.specs.declared.body.BodyUse.{BodyUse}
 use Rattle.swift_requests.specs.Bodies.{body_use, is_unread, is_awaited}
 use Rattle.call_words.specs.Bodies.{Fate, read_whole, broken_off}
 use Rattle.call_words.specs.Texts.{continue_if}
-use Rattle.call_words.specs.Calls.{alone as by_itself, text_by, is_waiting, IsRefused}
-use Rattle.call_service.specs.Serving.{Site, side, form_at}
+use Rattle.call_words.specs.Calls.{alone as by_itself, text_by, is_waiting, IsRefused, IsSoFar}
+use Rattle.call_service.specs.Serving.{Site, side, form_at, body_of}
 use Rattle.call_service.specs.declared.fault.ServeFault.{ServeFault}
 use Rattle.call_service.specs.declared.fault.ServeFault.TheVariants as faults
 use Rattle.call_service.specs.declared.served.Served.{Served}
 use Rattle.call_service.specs.declared.served.Served.TheVariants as services
 use Rattle.gateway.specs.Calls.{MayBegin}
-use Rattle.gateway.specs.Requests.{IsUnanswered, Replies, RefusesAt, Refuses, LeavesRefusal, Serves, Stops, LeavesAsked, text_before}
+use Rattle.gateway.specs.Requests.{FallsIn, IsLetIn, FallsShort, IsUnanswered, Replies, RefusesAt, Refuses, LeavesRefusal, Serves, Stops, LeavesAsked, text_before}
 use Rattle.gateway.specs.Texts.{is_failing}
-use Rattle.gateway.proofs.Growing.{advances_none, new_moments}
+use Rattle.gateway.proofs.Growing.{advances_none, new_actor, new_moments}
+use Rattle.gateway.proofs.Tasks.{left_by_none}
 use Rattle.gateway.proofs.Turning.{same_left}
 use Rattle.gateway.proofs.Fates.{waits_so, refused_waits, read_suits, left_shut}
 use Rattle.gateway.proofs.Heads.{read_not_refusing}
+
+-- such a request makes no event
+nothing_done : (site : Site) (asked : Asked) → IsRefused asked → (body : Body) (y : Account) (events : List OwnEvent) → events ≡ [] → IsSoFar site.settings.stripe site.zone site.asker asked body y events
+nothing_done site BadHost refused body y events none = none
+nothing_done site (Refused why) refused body y events none = none
+nothing_done site (Put c) refused body y events none = absurd refused
+nothing_done site (Unfed u) refused body y events none = absurd refused
+
+-- and waits for no 100
+none_waited : (site : Site) (asked : Asked) → IsRefused asked → (plan : BodyUse) (pass count : ℕ) (history : List Event) → IsLetIn site asked plan pass count history
+none_waited site BadHost refused plan pass count history = tt
+none_waited site (Refused why) refused plan pass count history = tt
+none_waited site (Put c) refused plan pass count history = absurd refused
+none_waited site (Unfed u) refused plan pass count history = absurd refused
 
 module _ (tells alone : Type 0) (site : Site) (head : Head) (asked : Asked) (refused : IsRefused asked) (largest : ℕ) (plan : BodyUse) (is_plan : plan ≡ body_use largest head asked) (form : ReplyForm) (shut : is_unread plan ≡ true → form.close ≡ true)
     (d : DoorView) (old new : IntakeState) (before after : EndsState) (may : tells → MayBegin site.settings d) (same_told : after.told ≡ before.told) where
@@ -40,14 +60,18 @@ module _ (tells alone : Type 0) (site : Site) (head : Head) (asked : Asked) (ref
   quiet_plan : is_awaited plan ≡ false
   quiet_plan = ap is_awaited is_plan ∙ sym (waits_so largest head asked) ∙ no_wait
 
-  unanswered : Appends before.taken after.taken [] → IsUnanswered tells alone site (text_before plan) d d before.taken after.taken before.told after.told
-  unanswered quiet = record {
+  unanswered : (body : Body) → Appends before.taken after.taken [] → IsUnanswered tells alone site asked body (text_before plan) d d before.taken after.taken before.told after.told
+  unanswered body quiet = record {
+    so_far = λ is. nothing_done site asked refused body (account_of site.settings d.seen (actor_of_pass d.pass (next_count d))) (own_events d.seen (actor_of_pass d.pass (next_count d))) (new_actor site.settings d (may is)).events;
     written = subst (λ w. Appends before.taken after.taken (continue_if w read_whole)) (sym quiet_plan) quiet;
     moments = [];
     asked_clock = untold;
     each = λ is. sym (new_moments site.settings d (may is));
     left_by = λ is. same_left alone site d d (may is) refl;
   }
+
+  short : FallsIn plan old before.left after.left → Appends before.taken after.taken [] → FallsShort tells alone site asked plan (side d old before) (side d new after)
+  short (read, given, falls) quiet = record { is_read = read; given = given; falls = falls; let_in = λ is. none_waited site asked refused plan d.pass (next_count d) d.seen; unanswered = unanswered (body_of given) quiet }
 
   replies_at : (fate : Fate) → RefusesAt form asked plan fate old new before.left after.left (Appends before.taken after.taken)
       → (r : Replies tells alone site head asked plan form fate (side d old before) (side d new after)) × (is_failing r.ground ≡ false)
@@ -64,7 +88,7 @@ module _ (tells alone : Type 0) (site : Site) (head : Head) (asked : Asked) (ref
         each = refl;
         settled = λ is. record {
           of_next = tt;
-          right = (refused, refl);
+          right = ((refused, refl), left_by_none site.zone site.asker asked (is_waiting asked head) fate [] no_wait);
           last = refl;
           advances = advances_none site.settings d (may is);
           only = λ _. record { more = []; grows = sym (append-nil d.seen); made = refl };
@@ -84,7 +108,7 @@ module _ (tells alone : Type 0) (site : Site) (head : Head) (asked : Asked) (ref
       let read = ap is_unread (sym is_plan) ∙ read_suits plan why at.0.1.0 in
       (broken_off why, refl, read_not_refusing largest head asked read, r.0, r.1)
   refused_serves services.Refused x = absurd x
-  refused_serves services.Cut (used, quiet) = record { is_read = used.0; cut = used.1; unanswered = unanswered quiet }
+  refused_serves services.Cut ((falls, at_end), quiet) = (short falls quiet, at_end)
 
   module _ (found : List Event) where
     asked_leaves : (a : Asked) → IsRefused a → (fault : ServeFault) → LeavesRefusal form a plan old new before.left after.left before.taken after.taken fault
@@ -97,7 +121,7 @@ module _ (tells alone : Type 0) (site : Site) (head : Head) (asked : Asked) (ref
     refused_stops : (fault : ServeFault) → LeavesRefusal form asked plan old new before.left after.left before.taken after.taken fault
         → Stops tells alone site form asked plan found (side d old before) (side d new after) fault
     refused_stops faults.OutOfMemory x = inr (asked_leaves asked refused faults.OutOfMemory x)
-    refused_stops faults.ReadFault (left, quiet) = record { is_read = left.0; fails = left.1; unanswered = unanswered quiet }
+    refused_stops faults.ReadFault (falls, quiet) = short falls quiet
     refused_stops faults.WriteFault x = inr (asked_leaves asked refused faults.WriteFault x)
     refused_stops faults.Worn x = absurd x
     refused_stops (faults.Late read_at clock) x = absurd x

@@ -1,36 +1,38 @@
 -- A task of the next actor of a pass, as one request of a connection.
-use Rattle.std.proofs.Common.{◌≡◌, inl, inr, ℕ, Bool, true, false, List, [], ◌++◌, Option, None, Result, Ok, Err, refl, sym, ap, ◌∙◌, subst, subst₂, append-nil}
+use Rattle.std.proofs.Common.{◌≡◌, inl, inr, ℕ, ◌+◌, Bool, true, false, List, [], ◌++◌, length, Option, None, Result, Ok, Err, refl, sym, ap, ◌∙◌, subst, subst₂, append-nil}
 use Rattle.std.specs.Prelude.{IfOk, IfErr}
 use Rattle.std.proofs.KnownBytes.{Appends-trans}
 use Rattle.std.specs.Io.KnownBytes.{Consumes, Appends}
-use Rattle.http_chunks.specs.declared.body.BodyEnd.TheVariants as Body
 use Rattle.http_intake.specs.Intake.{IntakeState}
 use Rattle.http_model.specs.declared.head.Head.{Head}
 use Rattle.http_model.specs.declared.reply.ReplyForm.{ReplyForm}
 use Rattle.realm_model.specs.Accounts.{Account}
 use Rattle.realm_model.specs.Histories.{account_of}
-use Rattle.realm_model.specs.Owns.{own_events}
+use Rattle.realm_model.specs.Owns.{OwnEvent, own_from, own_events, clock_after}
 use Rattle.realm_model.specs.Phases.{ActorId}
 use Rattle.realm_model.specs.Doors.{DoorView, actor_at}
 use Rattle.realm_model.specs.declared.event.Event.{Event}
-use Rattle.realm_door.specs.Steps.{actor_of_pass, next_count, begun}
+use Rattle.realm_door.specs.Steps.{Grows, actor_of_pass, next_count, begun}
+use Rattle.realm_door.proofs.Others.{own-append}
 use Rattle.swift_requests.specs.declared.asked.Asked.{Asked}
 use Rattle.swift_requests.specs.Bodies.{is_unread, is_awaited}
-use Rattle.swift_requests.specs.declared.asked.Asked.TheVariants.{Put}
+use Rattle.swift_requests.specs.declared.asked.Asked.TheVariants.{BadHost, Refused, Put, Unfed}
 use Rattle.swift_requests.specs.declared.body.BodyUse.{BodyUse}
 use Rattle.swift_requests.specs.declared.body.BodyUse.TheVariants.{Fed, Awaited, Dropped, Unread}
 use Rattle.task_words.specs.declared.command.PutCommand.{PutCommand}
 use Rattle.task_words.specs.declared.outcome.Outcome.{Outcome}
 use Rattle.task_words.specs.declared.outcome.Outcome.TheVariants.{BodyFailed}
-use Rattle.call_words.specs.Bodies.{Fate, read_whole, broken_off, unread, is_left, Suits}
-use Rattle.call_words.specs.Calls.{task, text_by, is_waiting, IsBorneOut}
+use Rattle.task_words.specs.Outcomes.{Body}
+use Rattle.swift_auth.specs.declared.policy.Deed.TheVariants.{ChangeThing}
+use Rattle.call_words.specs.Bodies.{Fate, read_whole, broken_off, unread, is_left, stays_unread, Suits}
+use Rattle.call_words.specs.Calls.{task, text_by, is_waiting, IsBorneOut, IsSoFar, IsLeftByRow, ReadsRowAlone, ReadsRowFirst, first_refuses}
 use Rattle.call_words.specs.Texts.{continue_text, continue_if}
-use Rattle.call_service.specs.Bodies.{HasFate, BreaksIn}
+use Rattle.call_service.specs.Bodies.{HasFate, FallsBehind}
 use Rattle.call_service.specs.Waiting.{Continues, IsServedWaiting, IsStoppedWaiting, IsPutServed, IsPutStopped}
 use Rattle.door_moments.proofs.Asking.{both_ask}
-use Rattle.call_service.proofs.Passing.{left_given, give_all, break_behind}
+use Rattle.call_service.proofs.Passing.{left_given, give_all, break_behind, fall_behind}
 use Rattle.call_service.proofs.Replying.{any_actor}
-use Rattle.call_service.specs.Serving.{Site, Side, side, is_by_end, form_at, BearsOut, IsReplied, LeavesUnwritten, IsServed, IsStopped}
+use Rattle.call_service.specs.Serving.{Site, Side, side, is_by_end, form_at, body_of, BearsOut, BearsOutSoFar, IsReplied, LeavesUnwritten, StopsShort, IsServed, IsStopped}
 use Rattle.door_moments.specs.Acts.{own_moments, Acts, Asks, Tells}
 use Rattle.call_service.specs.declared.fault.ServeFault.{ServeFault}
 use Rattle.call_service.specs.declared.fault.ServeFault.TheVariants as faults
@@ -38,8 +40,8 @@ use Rattle.call_service.specs.declared.served.Served.{Served}
 use Rattle.call_service.specs.declared.served.Served.TheVariants as services
 use Rattle.realm_model.specs.Settings.{SettingsView}
 use Rattle.task_words.specs.declared.asker.Asker.{Asker}
-use Rattle.gateway.specs.Calls.{standard_asker, site_of, MayBegin, IsSettled}
-use Rattle.gateway.specs.Requests.{IsLeftBy, IsUnanswered, Replies, LeavesAsked, Serves, Stops, text_before}
+use Rattle.gateway.specs.Calls.{standard_asker, site_of, DoesSoFar, MayBegin, IsSettled}
+use Rattle.gateway.specs.Requests.{IsLeftBy, IsUnanswered, IsLetIn, FallsShort, Replies, LeavesAsked, Serves, Stops, text_before}
 use Rattle.gateway.proofs.Growing.{new_actor, new_moments, grown_count, grown_most, advances_one}
 use Rattle.gateway.specs.Texts.{is_failing, is_refusing}
 use Rattle.gateway.proofs.Deciding.{not_blank}
@@ -63,15 +65,23 @@ module _ (alone : Type 0) (site : Site) (d e : DoorView) (moments : List ℕ) (m
     only = λ is. let o = acts.only is in (o.more, o.grows, o.own);
   }
 
+  pub so_far_by : (asked : Asked) (body : Body) → BearsOutSoFar site asked body e → DoesSoFar site asked body d.pass (next_count d) e.seen
+  so_far_by asked body done =
+      subst (λ (a : ActorId). IsSoFar site.settings.stripe site.zone site.asker asked body (account_of site.settings e.seen a) (own_events e.seen a)) same_actor_at done
+
+  pub let_in_by : (asked : Asked) (plan : BodyUse) → IsLeftByRow site.zone site.asker asked (is_awaited plan) read_whole (own_events e.seen (actor_at e)) → IsLetIn site asked plan d.pass (next_count d) e.seen
+  let_in_by asked plan row = subst (λ (a : ActorId). IsLeftByRow site.zone site.asker asked (is_awaited plan) read_whole (own_events e.seen a)) same_actor_at row
+
   pub settled_by : (asked : Asked) (head : Head) (fate : Fate) (body shown : List ℕ) (outcome : Outcome) → BearsOut site asked fate body outcome shown e
+      → IsLeftByRow site.zone site.asker asked (is_waiting asked head) fate (own_events e.seen (actor_at e))
       → IsSettled alone site d e (record { request = record { head = head; body = body }; asked = asked; fate = fate; ground = task (next_count d) outcome; shown = shown })
-  settled_by asked head fate body shown outcome right =
+  settled_by asked head fate body shown outcome right row =
       let own = actor_of_pass d.pass (next_count d) in
       let there : IsBorneOut site.settings.stripe site.zone site.asker asked fate body outcome shown (account_of site.settings e.seen own) (own_events e.seen own) =
       subst (λ (a : ActorId). IsBorneOut site.settings.stripe site.zone site.asker asked fate body outcome shown (account_of site.settings e.seen a) (own_events e.seen a)) same_actor_at right in
       record {
         of_next = refl;
-        right = there;
+        right = (there, subst (λ (a : ActorId). IsLeftByRow site.zone site.asker asked (is_waiting asked head) fate (own_events e.seen a)) same_actor_at row);
         last = elim (grown_count site.settings d e acts.grows) [
           | inl next ↦ next
           | inr same ↦
@@ -83,6 +93,42 @@ module _ (alone : Type 0) (site : Site) (d e : DoorView) (moments : List ℕ) (m
         only = λ is. let o = acts.only is in record { more = o.more; grows = o.grows; made = o.own };
       }
 
+-- ---- bodies that are waited for
+
+-- nobody waits
+pub left_by_none : (zone : ℕ) (asker : Asker) (asked : Asked) (waits : Bool) (fate : Fate) (events : List OwnEvent) → waits ≡ false → IsLeftByRow zone asker asked waits fate events
+left_by_none zone asker asked waits fate events is = subst (λ w. IsLeftByRow zone asker asked w fate events) (sym is) (calm asked)
+  where
+    calm : (a : Asked) → IsLeftByRow zone asker a false fate events
+    calm BadHost = tt
+    calm (Refused why) = tt
+    calm (Put c) = tt
+    calm (Unfed u) = tt
+
+read_in : (fate : Fate) → IsReadIn fate → stays_unread fate ≡ false
+read_in read_whole some = refl
+read_in (broken_off why) some = refl
+read_in unread some = absurd some
+
+-- a PUT of that actor: its first event read the row, which says so of it
+abbrev SaysFirst : Site → PutCommand → Bool → DoorView → Type 0
+SaysFirst site c refuses d =
+    ReadsRowFirst site.zone c.container (own_events d.seen (actor_at d))
+    × (first_refuses site.asker ChangeThing (own_events d.seen (actor_at d)) ≡ refuses)
+
+-- what the row that was read first says stays so
+grants_more : (site : Site) (c : PutCommand) (d e : DoorView) → Grows site.settings d e → ReadsRowAlone site.zone c.container (own_events d.seen (actor_at d))
+    → first_refuses site.asker ChangeThing (own_events d.seen (actor_at d)) ≡ false → SaysFirst site c false e
+grants_more site c d e grows looks grants =
+    let same : actor_at e ≡ actor_at d = λ i. record { pass = grows.pass i; count = grows.count i } in
+    let later = own_from (0 + length d.seen) (clock_after 0 d.seen) grows.more (actor_at d) in
+    let events : own_events e.seen (actor_at e) ≡ own_events d.seen (actor_at d) ++ later =
+    ap (own_events e.seen) same ∙ ap (λ l. own_events l (actor_at d)) grows.grows ∙ own-append 0 0 d.seen grows.more (actor_at d) in
+    let begins = events ∙ ap (λ l. l ++ later) looks.alone in (
+      record { look = looks.look; others = later; begins = begins; op = looks.op },
+      ap (first_refuses site.asker ChangeThing) begins ∙ sym (ap (first_refuses site.asker ChangeThing) looks.alone) ∙ grants,
+    )
+
 -- ---- behind a 100
 
 -- what is so behind a 100 is so behind the head: nothing of the body was read before it
@@ -90,8 +136,8 @@ moved_fate : (fate : Fate) (old mid new : IntakeState) (a m b : Option (List ℕ
     → HasFate fate mid new m b body → HasFate fate old new a b body
 moved_fate read_whole old mid new a m b body some sound same quiet x =
     give_all old mid a m b [] body new (left_given old mid a m sound same quiet) x
-moved_fate (broken_off why) old mid new a m b body some sound same quiet (wrong, breaks, none) =
-    (wrong, break_behind old mid a m b [] why (left_given old mid a m sound same quiet) breaks, none)
+moved_fate (broken_off why) old mid new a m b body some sound same quiet breaks =
+    break_behind old mid a m b [] why body (left_given old mid a m sound same quiet) breaks
 moved_fate unread old mid new a m b body some sound same quiet x = absurd some
 
 -- a task ended so over a body of that fate, and its whole reply was written behind this text
@@ -131,18 +177,22 @@ module _ (tells alone : Type 0) (site : Site) (form : ReplyForm) (asked : Asked)
       asks = both_ask tells alone site.settings site.settings (is_by_end r.outcome) x.door m.door y.door x.ends.told m.ends.told y.ends.told refl went.asks r.asks;
     }
 
-    quiet_behind : LeavesUnwritten tells alone site false m y
+    quiet_behind : (body : Body) → LeavesUnwritten tells alone site asked body false m y
         → Appends x.ends.taken y.ends.taken continue_text × Asks tells alone site.settings false x.door y.door x.ends.told y.ends.told
-    quiet_behind u = (
+    quiet_behind body u = (
       subst (Appends x.ends.taken y.ends.taken) (append-nil continue_text)
           (Appends-trans x.ends.taken m.ends.taken y.ends.taken continue_text [] went.written u.unwritten),
       both_ask tells alone site.settings site.settings false x.door m.door y.door x.ends.told m.ends.told y.ends.told refl went.asks u.asks,
     )
 
-    cut_behind : BreaksIn m.intake m.ends.left y.ends.left Body.Cut → BreaksIn x.intake x.ends.left y.ends.left Body.Cut
-    cut_behind breaks =
-        break_behind x.intake m.intake x.ends.left m.ends.left y.ends.left [] Body.Cut
-        (left_given x.intake m.intake x.ends.left m.ends.left sound went.intake went.unread) breaks
+    falls_behind : (given : List ℕ) → FallsBehind m.intake m.ends.left y.ends.left given → FallsBehind x.intake x.ends.left y.ends.left given
+    falls_behind given falls =
+        fall_behind x.intake m.intake x.ends.left m.ends.left y.ends.left [] given
+        (left_given x.intake m.intake x.ends.left m.ends.left sound went.intake went.unread) falls
+
+    -- the row that was read first granted it
+    granted_first : (tells → Grows site.settings m.door y.door) → tells → SaysFirst site c false y.door
+    granted_first grows is = grants_more site c m.door y.door (grows is) (went.looks is) (went.granted is)
 
 -- ---- the next actor's task
 
@@ -152,8 +202,9 @@ module _ (tells alone : Type 0) (site : Site) (form : ReplyForm) (asked : Asked)
   acts_from is moments acts = subst (λ (d : DoorView). Acts alone site.settings d y.door moments) (begins is) acts
 
   replied : (head : Head) (plan : BodyUse) (fate : Fate) (text : List ℕ) → Suits plan fate → text ≡ continue_if (is_waiting asked head) fate
+      → (tells → IsLeftByRow site.zone site.asker asked (is_waiting asked head) fate (own_events y.door.seen (actor_at y.door)))
       → IsRepliedBehind tells alone site form asked text fate (side b z.intake z.ends) y → Replies tells alone site head asked plan form fate z y
-  replied head plan fate text suits is r = record {
+  replied head plan fate text suits is row r = record {
     body = r.body;
     taken = (suits, r.has_fate);
     ground = task (next_count z.door) r.outcome;
@@ -168,14 +219,15 @@ module _ (tells alone : Type 0) (site : Site) (form : ReplyForm) (asked : Asked)
       each = λ is. subst (Tells (is_by_end r.outcome) r.asks.clock)
           (all_own alone site z.door y.door r.asks.moments (may is) (acts_from is r.asks.moments (r.asks.acts is))) r.asks.each;
       settled = λ is. settled_by alone site z.door y.door r.asks.moments (may is) (acts_from is r.asks.moments (r.asks.acts is))
-          asked head fate r.body r.shown r.outcome (r.right is);
+          asked head fate r.body r.shown r.outcome (r.right is) (row is);
     };
   }
 
-  unanswered : (text : List ℕ) → Appends z.ends.taken y.ends.taken text → Asks tells alone site.settings false b y.door z.ends.told y.ends.told
-      → IsUnanswered tells alone site text z.door y.door z.ends.taken y.ends.taken z.ends.told y.ends.told
-  unanswered text written asks = record {
+  unanswered : (text : List ℕ) (body : Body) → Appends z.ends.taken y.ends.taken text → (tells → BearsOutSoFar site asked body y.door) → Asks tells alone site.settings false b y.door z.ends.told y.ends.told
+      → IsUnanswered tells alone site asked body text z.door y.door z.ends.taken y.ends.taken z.ends.told y.ends.told
+  unanswered text body written so_far asks = record {
     written = written;
+    so_far = λ is. so_far_by alone site z.door y.door asks.moments (may is) (acts_from is asks.moments (asks.acts is)) asked body (so_far is);
     moments = asks.clock;
     asked_clock = asks.asked_clock;
     each = λ is.
@@ -190,11 +242,18 @@ module _ (tells alone : Type 0) (site : Site) (form : ReplyForm) (asked : Asked)
     no_text fate = ap (λ w. continue_if w fate) (sym no_wait)
 
     plain : (fate : Fate) → Suits plan fate → IsReplied tells alone site form asked fate (side b z.intake z.ends) y → Replies tells alone site head asked plan form fate z y
-    plain fate suits r = replied head plan fate [] suits (no_text fate) (at_once tells alone site form asked fate (side b z.intake z.ends) y r)
+    plain fate suits r =
+        replied head plan fate [] suits (no_text fate) (λ is. left_by_none site.zone site.asker asked (is_waiting asked head) fate (own_events y.door.seen (actor_at y.door)) no_wait)
+        (at_once tells alone site form asked fate (side b z.intake z.ends) y r)
 
-    plainly : LeavesUnwritten tells alone site false (side b z.intake z.ends) y → IsUnanswered tells alone site (text_before plan) z.door y.door z.ends.taken y.ends.taken z.ends.told y.ends.told
-    plainly u =
-        unanswered (text_before plan) (subst (λ w. Appends z.ends.taken y.ends.taken (continue_if w read_whole)) (sym quiet) u.unwritten) u.asks
+    plainly : StopsShort tells alone site asked plan (side b z.intake z.ends) y → FallsShort tells alone site asked plan z y
+    plainly u = record {
+      is_read = u.is_read;
+      given = u.given;
+      falls = u.falls;
+      let_in = λ is. left_by_none site.zone site.asker asked (is_awaited plan) read_whole (own_events y.door.seen (actor_of_pass z.door.pass (next_count z.door))) quiet;
+      unanswered = unanswered (text_before plan) (body_of u.given) (subst (λ w. Appends z.ends.taken y.ends.taken (continue_if w read_whole)) (sym quiet) u.leaves.unwritten) u.leaves.so_far u.leaves.asks;
+    }
 
     module _ (not_refusing : is_refusing asked ≡ false) (shut : is_unread plan ≡ true → form.close ≡ true) where
       pub served : (s : Served) → IsServed tells alone site form asked plan (side b z.intake z.ends) y s → Serves tells alone site head asked plan form z y s
@@ -203,11 +262,11 @@ module _ (tells alone : Type 0) (site : Site) (form : ReplyForm) (asked : Asked)
           (fate, whole, left_shut plan fate form.close quiet suits whole shut, plain fate suits r, not_failing (next_count z.door) r.outcome not)
       served services.Closed (fate, suits, left, r, not) = (fate, left, not_refusing, plain fate suits r, not_failing (next_count z.door) r.outcome not)
       served services.Refused (why, suits, r, is) = (why, plain (broken_off why) suits r, ap (λ o. is_failing (task (next_count z.door) o)) is)
-      served services.Cut (read, cut, u) = record { is_read = read; cut = cut; unanswered = plainly u }
+      served services.Cut (short, at_end) = (plainly short, at_end)
 
     module _ (found : List Event) (lift : (fault : ServeFault) → IsStopped tells alone site form asked plan found (side b z.intake z.ends) y fault → LeavesAsked tells alone site form asked plan found z y fault) where
       pub stopped : (fault : ServeFault) → IsStopped tells alone site form asked plan found (side b z.intake z.ends) y fault → Stops tells alone site form asked plan found z y fault
-      stopped faults.ReadFault (read, fails, u) = record { is_read = read; fails = fails; unanswered = plainly u }
+      stopped faults.ReadFault short = plainly short
       stopped faults.OutOfMemory x = inr (lift faults.OutOfMemory x)
       stopped faults.WriteFault x = inr (lift faults.WriteFault x)
       stopped faults.Worn x = inr (lift faults.Worn x)
@@ -220,19 +279,23 @@ module _ (tells alone : Type 0) (site : Site) (form : ReplyForm) (c : PutCommand
   abbrev start : Side
   start = side b z.intake z.ends
 
+  by_row : (fate : Fate) → SaysFirst site c (stays_unread fate) y.door
+      → IsLeftByRow site.zone site.asker (Put c) (is_waiting (Put c) head) fate (own_events y.door.seen (actor_at y.door))
+  by_row fate is = subst (λ w. IsLeftByRow site.zone site.asker (Put c) w fate (own_events y.door.seen (actor_at y.door))) (sym waiting) (is.0, sym is.1)
+
   -- the body was left
-  left_so : (fate : Fate) → Suits Unread fate → is_left fate ≡ true → (r : IsReplied tells alone site form (Put c) fate start y) → (r.outcome ≡ BodyFailed → ⊥)
+  left_so : (tells → SaysFirst site c true y.door) → (fate : Fate) → Suits Unread fate → is_left fate ≡ true → (r : IsReplied tells alone site form (Put c) fate start y) → (r.outcome ≡ BodyFailed → ⊥)
       → Serves tells alone site head (Put c) Awaited form z y services.Closed
   unfolding replied at_once
-  left_so unread suits left r not = (
+  left_so refuses unread suits left r not = (
     unread,
     refl,
     refl,
-    replied tells alone site form (Put c) z b y may begins head Awaited unread [] tt (unread_quiet (is_waiting (Put c) head)) (at_once tells alone site form (Put c) unread start y r),
+    replied tells alone site form (Put c) z b y may begins head Awaited unread [] tt (unread_quiet (is_waiting (Put c) head)) (λ is. by_row unread (refuses is)) (at_once tells alone site form (Put c) unread start y r),
     not_failing (next_count z.door) r.outcome not,
   )
-  left_so read_whole suits left r not = absurd suits
-  left_so (broken_off why) suits left r not = absurd suits
+  left_so refuses read_whole suits left r not = absurd suits
+  left_so refuses (broken_off why) suits left r not = absurd suits
 
   continued : (fate : Fate) → IsReadIn fate → continue_text ≡ continue_if (is_waiting (Put c) head) fate
   continued read_whole some = ap (λ w. continue_if w read_whole) (sym waiting)
@@ -243,12 +306,21 @@ module _ (tells alone : Type 0) (site : Site) (form : ReplyForm) (c : PutCommand
     behind : (fate : Fate) → Suits Fed fate → IsReadIn fate → IsReplied tells alone site form (Put c) fate m y → Replies tells alone site head (Put c) Awaited form fate z y
     behind fate suits some r =
         replied tells alone site form (Put c) z b y may begins head Awaited fate continue_text (fed_suits fate suits) (continued fate some)
+        (λ is. by_row fate (subst (λ b. SaysFirst site c b y.door) (sym (read_in fate some)) (granted_first tells alone site form (Put c) c start m y sound went (λ told. (r.asks.acts told).grows) is)))
         (behind_continue tells alone site form (Put c) c start m y sound went fate some r)
 
-    quietly : LeavesUnwritten tells alone site false m y → IsUnanswered tells alone site (text_before Awaited) z.door y.door z.ends.taken y.ends.taken z.ends.told y.ends.told
+    quietly : StopsShort tells alone site (Put c) Fed m y → FallsShort tells alone site (Put c) Awaited z y
     quietly u =
-        let q = quiet_behind tells alone site form (Put c) c start m y sound went u in
-        unanswered tells alone site form (Put c) z b y may begins continue_text q.0 q.1
+        let q = quiet_behind tells alone site form (Put c) c start m y sound went (body_of u.given) u.leaves in
+        record {
+          is_read = refl;
+          given = u.given;
+          falls = falls_behind tells alone site form (Put c) c start m y sound went u.given u.falls;
+          let_in = λ is.
+              let grants = granted_first tells alone site form (Put c) c start m y sound went (λ told. (u.leaves.asks.acts told).grows) is in
+              let_in_by alone site z.door y.door q.1.moments (may is) (acts_from tells alone site form (Put c) z b y may begins is q.1.moments (q.1.acts is)) (Put c) Awaited (grants.0, sym grants.1);
+          unanswered = unanswered tells alone site form (Put c) z b y may begins continue_text (body_of u.given) q.0 u.leaves.so_far q.1;
+        }
 
     served_behind : (s : Served) → IsServed tells alone site form (Put c) Fed m y s → Serves tells alone site head (Put c) Awaited form z y s
     unfolding behind replied behind_continue
@@ -257,12 +329,11 @@ module _ (tells alone : Type 0) (site : Site) (form : ReplyForm) (c : PutCommand
     served_behind services.Closed (fate, suits, left, r, not) = (fate, left, refl, behind fate suits (fed_read fate suits) r, not_failing (next_count z.door) r.outcome not)
     served_behind services.Refused (why, suits, r, is) =
         (why, behind (broken_off why) suits tt r, ap (λ o. is_failing (task (next_count z.door) o)) is)
-    served_behind services.Cut (read, cut, u) =
-        record { is_read = refl; cut = (cut_behind tells alone site form (Put c) c start m y sound went cut.0, cut.1); unanswered = quietly u }
+    served_behind services.Cut (short, at_end) = (quietly short, at_end)
 
   pub served_waiting : (s : Served) → IsServedWaiting tells alone site form c start y s → Serves tells alone site head (Put c) Awaited form z y s
-  served_waiting s (inl (is, (fate, suits, left, r, not))) =
-      subst (λ t. Serves tells alone site head (Put c) Awaited form z y t) (sym is) (left_so fate suits left r not)
+  served_waiting s (inl (is, (fate, suits, left, r, not), refuses)) =
+      subst (λ t. Serves tells alone site head (Put c) Awaited form z y t) (sym is) (left_so refuses fate suits left r not)
   served_waiting s (inr x) = served_behind x.between x.continues s x.goes
 
   module _ (found : List Event) where
@@ -270,11 +341,10 @@ module _ (tells alone : Type 0) (site : Site) (form : ReplyForm) (c : PutCommand
     lifted fault x = (b, begins, x)
 
     pub stopped_waiting : (fault : ServeFault) → IsStoppedWaiting tells alone site form c found start y fault → Stops tells alone site form (Put c) Awaited found z y fault
-    stopped_waiting faults.ReadFault (inl (read, fails, u)) = absurd (cc)
+    stopped_waiting faults.ReadFault (inl short) = let clash : true ≡ false = short.is_read in absurd (cc)
     stopped_waiting faults.ReadFault (inr (inl (is, front))) = absurd (cc)
     stopped_waiting faults.ReadFault (inr (inr x)) =
-        let goes : IsStopped tells alone site form (Put c) Fed found x.between y faults.ReadFault = x.goes in
-        record { is_read = refl; fails = cut_behind tells alone site form (Put c) c start x.between y sound x.continues goes.1; unanswered = quietly x.between x.continues goes.2 }
+        quietly x.between x.continues x.goes
     stopped_waiting faults.OutOfMemory x = inr (lifted faults.OutOfMemory x)
     stopped_waiting faults.WriteFault x = inr (lifted faults.WriteFault x)
     stopped_waiting faults.Worn x = inr (lifted faults.Worn x)

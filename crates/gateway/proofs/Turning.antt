@@ -2,7 +2,7 @@
 use Rattle.std.proofs.Common.{◌≡◌, inl, inr, ℕ, suc, Bool, true, false, List, [], ◌∷◌, ◌++◌, Option, refl, sym, ap, ◌∙◌, subst, append_assoc, append-nil, arith}
 use Rattle.std.specs.Prelude.{MatchBool}
 use Rattle.std.proofs.KnownBytes.{Consumes-nil, Consumes-trans, Appends-nil}
-use Rattle.std.specs.Io.KnownBytes.{Consumes, Appends}
+use Rattle.std.specs.Io.KnownBytes.{Consumes, Appends, IsAtEnd}
 use Rattle.http_chunks.specs.declared.body.BodyEnd.TheVariants as Body
 use Rattle.http_intake.specs.Grammar.{IsBroken}
 use Rattle.http_model.specs.declared.head.Head.{Head}
@@ -22,8 +22,9 @@ use Rattle.swift_requests.specs.declared.body.BodyUse.{BodyUse}
 use Rattle.call_words.specs.Bodies.{Fate, read_whole, broken_off, unread}
 use Rattle.call_words.specs.Calls.{Ground, Call, whole_text, actor_after}
 use Rattle.call_words.specs.Streams.{use_of, form_of, at_close, at_cut, Taken, TakesCall, IsCutBody, IsCutRequest, IsEnd, IsStreamFrom}
-use Rattle.call_service.specs.Bodies.{BreaksIn}
-use Rattle.call_service.specs.Serving.{Site, Side, side, form_at, IsLeft, IsStopped}
+use Rattle.call_service.specs.Bodies.{FallsShort as FallsOf}
+use Rattle.task_words.specs.Outcomes.{Body}
+use Rattle.call_service.specs.Serving.{Site, Side, side, form_at, body_of, IsLeft, IsStopped}
 use Rattle.door_moments.specs.Acts.{Acts, Asks}
 use Rattle.call_service.specs.Waiting.{IsBehindContinue, IsStoppedWaiting, IsPutStopped}
 use Rattle.door_moments.proofs.Asking.{both_ask}
@@ -34,7 +35,7 @@ use Rattle.call_service.specs.declared.fault.ServeFault.TheVariants as faults
 use Rattle.gateway.specs.declared.serve.ConnEnd.TheVariants as conn
 use Rattle.gateway.specs.Texts.{form_before, closing_end}
 use Rattle.gateway.specs.Calls.{MayBegin, IsSettled, AreSettled}
-use Rattle.gateway.specs.Requests.{IsReady, TakesBody, IsAnswered, IsLeftBy, IsUnanswered, Replies, text_before, IsCut, IsFailed, LeavesAsked, LeavesRequest, Stops}
+use Rattle.gateway.specs.Requests.{IsReady, TakesBody, IsAnswered, IsLeftBy, IsUnanswered, Replies, text_before, IsLetIn, FallsShort, LeavesAsked, LeavesRequest, Stops}
 use Rattle.gateway.specs.Serving.{RepliesTo, ServesFrom, FailsReading, ReadsHead, StopsFrom, LeavesAt}
 use Rattle.gateway.specs.Turns.{TakesReply, GoesOn}
 use Rattle.gateway.proofs.Growing.{advances_none}
@@ -79,11 +80,11 @@ AsksSome tells alone site x y = (more : Bool) × Asks tells alone site.settings 
 
 module _ (tells alone : Type 0) (site : Site) (form : ReplyForm) (found : List Event) where
   left_asks : (asked : Asked) (plan : BodyUse) (x y : Side) → IsLeft tells alone site form asked plan x y → AsksSome tells alone site x y
-  left_asks asked plan x y (inl (begun, more, u)) = (more, u.asks)
+  left_asks asked plan x y (inl (body, came, more, u)) = (more, u.asks)
   left_asks asked plan x y (inr part) = (part.more, part.asks)
 
   pub stopped_asks : (asked : Asked) (plan : BodyUse) (x y : Side) (fault : ServeFault) → IsStopped tells alone site form asked plan found x y fault → AsksSome tells alone site x y
-  stopped_asks asked plan x y faults.ReadFault (read, fails, u) = (false, u.asks)
+  stopped_asks asked plan x y faults.ReadFault short = (false, short.leaves.asks)
   stopped_asks asked plan x y faults.OutOfMemory left = left_asks asked plan x y left
   stopped_asks asked plan x y faults.Worn (full, left) = left_asks asked plan x y left
   stopped_asks asked plan x y faults.WriteFault (part, all) = (part.more, part.asks)
@@ -216,6 +217,7 @@ module _ (tells alone : Type 0) (site : Site) (k : ℕ) (x z y : Side) (head : H
     asked_clock = t.answered.asked_clock;
     told = (t.answered.moments, [], sym (append-nil t.answered.moments), t.answered.each, refl);
     tidy = (refl, λ is. (t.answered.settled is).last);
+    amid = tt;
     settled = λ is. one_settled alone site x.door y.door call (t.answered.settled is);
   }
 
@@ -250,49 +252,78 @@ module _ (tells alone : Type 0) (site : Site) (k : ℕ) (x z y : Side) (head : H
             (head, z.intake.buffer ++ more, begins, is_read, refl, no_body site.settings.largest z.intake head reads.behind (z.intake.buffer ++ more) Body.Cut broken),
       )
 
-  cut_replies : BreaksIn z.intake z.ends.left y.ends.left Body.Cut → is_unread (use_of site.settings.largest head) ≡ false
-      → IsUnanswered tells alone site (text_before (use_of site.settings.largest head)) x.door y.door x.ends.taken y.ends.taken x.ends.told y.ends.told
-      → RepliesTo tells alone site k x.intake.buffer x.door y.door x.ends y.ends [] (at_cut waits_for)
-  cut_replies breaks is_read u = record {
-    read = reads.more ++ breaks.more;
-    consumed = Consumes-trans x.ends.left z.ends.left y.ends.left reads.more breaks.more reads.read breaks.read;
-    asked = tt;
-    stream = joined_cut breaks.more is_read breaks.broken;
-    written = u.written;
-    last = next_count x.door;
-    moments = u.moments;
-    later = u.moments;
-    asked_clock = u.asked_clock;
-    told = refl;
-    tidy = u.each;
-    settled = λ is. none_settled alone site x.door y.door (u.left_by is);
-  }
+  module _ (short : FallsShort tells alone site asks (use_of site.settings.largest head) z y) where
+    abbrev all_of : FallsOf z.intake z.ends.left y.ends.left
+    all_of = record {
+      more = short.falls.has_given.more ++ short.falls.falls.more;
+      read = Consumes-trans z.ends.left short.falls.left y.ends.left short.falls.has_given.more short.falls.falls.more short.falls.has_given.read short.falls.falls.read;
+      broken = subst (λ l. IsBroken z.intake l Body.Cut) (append_assoc z.intake.buffer short.falls.has_given.more short.falls.falls.more)
+          (short.falls.has_given.gives.broken short.falls.falls.more Body.Cut short.falls.falls.broken);
+    }
 
-  moved_unanswered : (text : List ℕ) → IsUnanswered tells alone site text z.door y.door z.ends.taken y.ends.taken z.ends.told y.ends.told
-      → IsUnanswered tells alone site text x.door y.door x.ends.taken y.ends.taken x.ends.told y.ends.told
-  moved_unanswered text u =
-      let one = subst (λ (d : DoorView). IsUnanswered tells alone site text d y.door z.ends.taken y.ends.taken z.ends.told y.ends.told) reads.door u in
-      let two = subst (λ (l : Option (List ℕ)). IsUnanswered tells alone site text x.door y.door l y.ends.taken z.ends.told y.ends.told) reads.taken one in
-      subst (λ (l : Option (List ℕ)). IsUnanswered tells alone site text x.door y.door x.ends.taken y.ends.taken l y.ends.told) reads.told two
+    moved_unanswered : (text : List ℕ) (body : Body) → IsUnanswered tells alone site asks body text z.door y.door z.ends.taken y.ends.taken z.ends.told y.ends.told
+        → IsUnanswered tells alone site asks body text x.door y.door x.ends.taken y.ends.taken x.ends.told y.ends.told
+    moved_unanswered text body u =
+        let one = subst (λ (d : DoorView). IsUnanswered tells alone site asks body text d y.door z.ends.taken y.ends.taken z.ends.told y.ends.told) reads.door u in
+        let two = subst (λ (l : Option (List ℕ)). IsUnanswered tells alone site asks body text x.door y.door l y.ends.taken z.ends.told y.ends.told) reads.taken one in
+        subst (λ (l : Option (List ℕ)). IsUnanswered tells alone site asks body text x.door y.door x.ends.taken y.ends.taken l y.ends.told) reads.told two
 
-  -- the input ended inside the body
-  pub cut_behind : IsCut tells alone site (use_of site.settings.largest head) z y → ServesFrom tells alone site k x.intake.buffer x.door y.door x.ends y.ends 0 conn.Cut
-  cut_behind c = record {
-    calls = [];
-    stream_end = at_cut waits_for;
-    replied = cut_replies c.cut.0 c.is_read (moved_unanswered (text_before (use_of site.settings.largest head)) c.unanswered);
-    read_out = c.cut.1;
-    counted = refl;
-    ended = refl;
-  }
+    cut_replies : RepliesTo tells alone site k x.intake.buffer x.door y.door x.ends y.ends [] (at_cut waits_for)
+    cut_replies =
+        let more = all_of.more in
+        let u = moved_unanswered (text_before (use_of site.settings.largest head)) (body_of short.given) short.unanswered in
+        record {
+          read = reads.more ++ more;
+          consumed = Consumes-trans x.ends.left z.ends.left y.ends.left reads.more more reads.read all_of.read;
+          asked = tt;
+          stream = joined_cut more short.is_read all_of.broken;
+          written = u.written;
+          last = next_count x.door;
+          moments = u.moments;
+          later = u.moments;
+          asked_clock = u.asked_clock;
+          told = refl;
+          tidy = u.each;
+          amid = (
+            x.intake.buffer ++ (reads.more ++ more),
+            refl,
+            inr (record {
+              head = head;
+              after = z.intake.buffer ++ more;
+              begins = subst (λ l. BeginsWith l head (z.intake.buffer ++ more)) (append_assoc x.intake.buffer reads.more more)
+                  (more_head (x.intake.buffer ++ reads.more) head z.intake.buffer more reads.begins);
+              is_read = short.is_read;
+              intake = z.intake;
+              before = z.ends.left;
+              behind = reads.behind;
+              given = short.given;
+              falls = short.falls;
+              is_after = refl;
+              so_far = u.so_far;
+              let_in = λ is. subst (λ (d : DoorView). IsLetIn site asks (use_of site.settings.largest head) d.pass (next_count d) y.door.seen) reads.door (short.let_in is);
+            }),
+          );
+          settled = λ is. none_settled alone site x.door y.door (u.left_by is);
+        }
 
-  fails_behind : IsFailed tells alone site (use_of site.settings.largest head) z y → FailsReading tells alone site k x.intake.buffer x.door y.door x.ends y.ends
-  fails_behind c = record {
-    calls = [];
-    stream_end = at_cut waits_for;
-    replied = cut_replies c.fails c.is_read (moved_unanswered (text_before (use_of site.settings.largest head)) c.unanswered);
-    waits = tt;
-  }
+    -- the input ended inside the body
+    pub cut_behind : IsAtEnd y.ends.left → ServesFrom tells alone site k x.intake.buffer x.door y.door x.ends y.ends 0 conn.Cut
+    cut_behind at_end = record {
+      calls = [];
+      stream_end = at_cut waits_for;
+      replied = cut_replies;
+      read_out = at_end;
+      counted = refl;
+      ended = refl;
+    }
+
+    fails_behind : FailsReading tells alone site k x.intake.buffer x.door y.door x.ends y.ends
+    fails_behind = record {
+      calls = [];
+      stream_end = at_cut waits_for;
+      replied = cut_replies;
+      waits = tt;
+    }
 
   module _ (found : List Event) (may : tells → MayBegin site.settings z.door) where
     stops_behind : (fault : ServeFault) → LeavesRequest tells alone site (form_before site.settings.largest k head) asks (use_of site.settings.largest head) found z y fault

@@ -13,6 +13,7 @@ use Rattle.swift_requests.specs.declared.body.BodyUse.TheVariants.{Fed, Awaited,
 use Rattle.call_words.specs.Bodies.{Fate, read_whole, broken_off, unread, is_broken, Suits}
 use Rattle.call_words.specs.Calls.{alone as by_itself, text_by, IsRefused}
 use Rattle.call_service.specs.Bodies.{DropsBody, LeavesBody as LeavesDropped}
+use Rattle.call_service.proofs.Passing.{falls_here}
 use Rattle.call_service.specs.Serving.{AppendsFront, LeavesText, form_at}
 use Rattle.call_service.specs.declared.fault.ServeFault.{ServeFault}
 use Rattle.call_service.specs.declared.fault.ServeFault.TheVariants as faults
@@ -22,9 +23,9 @@ use Rattle.gateway.proofs.Fates.{suits_read, suits_broken, shut_same, refused_te
 
 pub used : (plan : BodyUse) (old new : IntakeState) (a b : Option (List ℕ)) (end : BodyEnd) → is_unread plan ≡ false → DropsBody old new a b end → UsesBody plan old new a b (Some end)
 used plan old new a b End.Whole read x = (x.0, (suits_read plan read, x.1))
-used plan old new a b End.Cut read x = (read, x.1)
-used plan old new a b End.BadChunk read x = ([], (suits_broken plan End.BadChunk read tt, (tt, x.1, refl)))
-used plan old new a b End.TooLarge read x = ([], (suits_broken plan End.TooLarge read tt, (tt, x.1, refl)))
+used plan old new a b End.Cut read x = ((read, x.0, x.1.0), x.1.1)
+used plan old new a b End.BadChunk read x = (x.0, (suits_broken plan End.BadChunk read tt, x.1))
+used plan old new a b End.TooLarge read x = (x.0, (suits_broken plan End.TooLarge read tt, x.1))
 
 pub not_used : (plan : BodyUse) (intake : IntakeState) (a : Option (List ℕ)) → is_unread plan ≡ true → UsesBody plan intake intake a a None
 not_used Fed intake a is = absurd (cc)
@@ -32,12 +33,12 @@ not_used Awaited intake a is = absurd (cc)
 not_used Dropped intake a is = absurd (cc)
 not_used Unread intake a is = ([], (tt, (refl, refl, Consumes-nil a)))
 
-pub left : (plan : BodyUse) (old : IntakeState) (a b : Option (List ℕ)) (fault : ServeFault) → is_unread plan ≡ false → LeavesDropped old a b fault → LeavesBody plan old a b fault
-left plan old a b faults.ReadFault read x = (read, x)
-left plan old a b faults.OutOfMemory read x = x
-left plan old a b faults.WriteFault read x = x
-left plan old a b faults.Worn read x = x
-left plan old a b (faults.Late read_at clock) read x = x
+pub left : (plan : BodyUse) (old : IntakeState) (a b : Option (List ℕ)) (fault : ServeFault) → is_unread plan ≡ false → old.failed ≡ None → LeavesDropped old a b fault → LeavesBody plan old a b fault
+left plan old a b faults.ReadFault read sound x = (read, [], falls_here old a b sound x)
+left plan old a b faults.OutOfMemory read sound x = x
+left plan old a b faults.WriteFault read sound x = x
+left plan old a b faults.Worn read sound x = x
+left plan old a b (faults.Late read_at clock) read sound x = x
 
 -- ---- the refusal behind it
 

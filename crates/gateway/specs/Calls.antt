@@ -1,13 +1,16 @@
 -- What the history of the realm says of the calls of a connection.
 use Rattle.std.specs.Prelude.{◌≡◌, ℕ, ◌+◌, ◌<◌, ◌≤◌, List, ◌++◌, Some}
 use Rattle.realm_model.specs.Doors.{DoorView}
-use Rattle.realm_model.specs.Histories.{Legal}
+use Rattle.realm_model.specs.Histories.{Legal, account_of}
+use Rattle.realm_model.specs.Owns.{own_events}
 use Rattle.realm_model.specs.Settings.{SettingsView}
 use Rattle.realm_model.specs.declared.event.Event.{Event}
 use Rattle.realm_door.specs.Steps.{next_count, actor_of_pass, IsCounted, IsUnused, IsSame}
-use Rattle.swift_auth.specs.Users.{UserView, standard_user, account_of}
+use Rattle.swift_auth.specs.Users.{UserView, standard_user, account_of as user_account}
+use Rattle.swift_requests.specs.declared.asked.Asked.{Asked}
 use Rattle.task_words.specs.declared.asker.Asker.{Asker}
-use Rattle.call_words.specs.Calls.{Call, IsOfNext, IsRight, AreRight, actor_after}
+use Rattle.task_words.specs.Outcomes.{Body}
+use Rattle.call_words.specs.Calls.{Call, IsOfNext, IsRight, AreRight, IsSoFar, actor_after}
 use Rattle.call_service.specs.Serving.{Site}
 use Rattle.call_words.specs.Made.{AreBy, AreMadeFor, AreMade}
 
@@ -15,7 +18,7 @@ use Rattle.call_words.specs.Made.{AreBy, AreMadeFor, AreMade}
 
 -- the one user, under the own account
 abbrev pub standard_asker : Asker
-standard_asker = record { account = account_of standard_user; user = Some standard_user }
+standard_asker = record { account = user_account standard_user; user = Some standard_user }
 
 -- where a connection is served
 abbrev pub site_of : SettingsView → ℕ → Site
@@ -51,6 +54,14 @@ pub record Advances (settings : SettingsView) (d e : DoorView) : Type 0 where
   pub more : List Event
   pub grows : e.seen ≡ d.seen ++ more
   pub older : (count : ℕ) → count < next_count d → IsSame settings d.seen e.seen (actor_of_pass d.pass count)
+
+-- ---- one request
+
+-- in the history the pass's actor of this count does what such a request does so far, of whose body so much came
+abbrev pub DoesSoFar : Site → Asked → Body → ℕ → ℕ → List Event → Type 0
+DoesSoFar site asked body pass count history =
+    IsSoFar site.settings.stripe site.zone site.asker asked body
+    (account_of site.settings history (actor_of_pass pass count)) (own_events history (actor_of_pass pass count))
 
 -- ---- one call
 

@@ -1,12 +1,13 @@
 -- What serving one request comes to, from the moment when its head was read.
 use Rattle.std.specs.Prelude.{◌≡◌, ◌⊎◌, ℕ, ◌+◌, ◌≤◌, Bool, true, false, List, [], ◌++◌, Option, Some, None}
-use Rattle.std.specs.Io.KnownBytes.{Appends}
+use Rattle.std.specs.Io.KnownBytes.{Appends, IsAtEnd}
 use Rattle.http_intake.specs.Intake.{IntakeState, IsBetween, is_in_chunks}
 use Rattle.http_model.specs.declared.head.Head.{Head}
 use Rattle.http_model.specs.declared.reply.ReplyForm.{ReplyForm}
 use Rattle.http_model.specs.Forms.{content_length}
 use Rattle.http_model.specs.Framings.{framing_of}
 use Rattle.realm_model.specs.Doors.{DoorView}
+use Rattle.realm_model.specs.Owns.{own_events}
 use Rattle.realm_model.specs.declared.event.Event.{Event}
 use Rattle.realm_door.specs.Steps.{begun, next_count, actor_of_pass}
 use Rattle.swift_requests.specs.declared.asked.Asked.{Asked}
@@ -16,11 +17,12 @@ use Rattle.swift_requests.specs.Bodies.{is_unread, is_awaited}
 use Rattle.http_chunks.specs.declared.body.BodyEnd.{BodyEnd}
 use Rattle.http_chunks.specs.declared.body.BodyEnd.TheVariants as Body
 use Rattle.task_words.specs.declared.command.PutCommand.{PutCommand}
-use Rattle.call_words.specs.Calls.{Ground, alone as by_itself, Call, text_by, whole_text}
+use Rattle.task_words.specs.Outcomes.{Body as AskedBody}
+use Rattle.call_words.specs.Calls.{Ground, alone as by_itself, Call, IsLeftByRow, text_by, whole_text}
 use Rattle.call_words.specs.Bodies.{Fate, read_whole, broken_off, unread, is_left, is_broken, Suits}
 use Rattle.call_words.specs.Texts.{continue_if}
-use Rattle.call_service.specs.Bodies.{IsCutIn, FailsIn, HasFate}
-use Rattle.call_service.specs.Serving.{Site, Side, side, AppendsFront, form_at, IsStopped}
+use Rattle.call_service.specs.Bodies.{FallsBehind, HasFate}
+use Rattle.call_service.specs.Serving.{Site, Side, side, AppendsFront, form_at, body_of, IsStopped}
 use Rattle.door_moments.specs.Acts.{own_moments}
 use Rattle.call_service.specs.declared.fault.ServeFault.{ServeFault}
 use Rattle.call_service.specs.declared.fault.ServeFault.TheVariants as faults
@@ -30,7 +32,7 @@ use Rattle.gateway.specs.Moments.{AreToldFor}
 use Rattle.call_service.specs.Waiting.{IsPutStopped}
 use Rattle.gateway.specs.Texts.{is_failing, is_refusing}
 use Rattle.call_words.specs.Made.{AreBy}
-use Rattle.gateway.specs.Calls.{Advances, IsSettled}
+use Rattle.gateway.specs.Calls.{DoesSoFar, Advances, IsSettled}
 
 -- ---- the intake
 
@@ -63,14 +65,18 @@ abbrev pub is_cut : Option BodyEnd → Bool
 is_cut (Some Body.Cut) = true
 is_cut end = false
 
+-- a body that is read fell short behind some bytes
+abbrev pub FallsIn : BodyUse → IntakeState → Option (List ℕ) → Option (List ℕ) → Type 0
+FallsIn plan old before after = (is_unread plan ≡ false) × (given : List ℕ) × FallsBehind old before after given
+
 -- the body was used, or the input ended inside it
 abbrev pub UsesBody : BodyUse → IntakeState → IntakeState → Option (List ℕ) → Option (List ℕ) → Option BodyEnd → Type 0
-UsesBody plan old new before after (Some Body.Cut) = (is_unread plan ≡ false) × IsCutIn old before after
+UsesBody plan old new before after (Some Body.Cut) = FallsIn plan old before after × IsAtEnd after
 UsesBody plan old new before after end = (body : List ℕ) × TakesBody plan (fate_by end) old new before after body
 
 -- a read failed inside the body; nothing else ends it early
 abbrev pub LeavesBody : BodyUse → IntakeState → Option (List ℕ) → Option (List ℕ) → ServeFault → Type 0
-LeavesBody plan old before after faults.ReadFault = (is_unread plan ≡ false) × FailsIn old before after
+LeavesBody plan old before after faults.ReadFault = FallsIn plan old before after
 LeavesBody plan old before after fault = ⊥
 
 -- ---- refusals before any name is looked at
@@ -88,7 +94,7 @@ Refuses form asked plan old new left left' taken taken' services.Closed =
     (why : BodyEnd) × RefusesAt form asked plan (broken_off why) old new left left' (Appends taken taken')
 Refuses form asked plan old new left left' taken taken' services.Refused = ⊥
 Refuses form asked plan old new left left' taken taken' services.Cut =
-    ((is_unread plan ≡ false) × IsCutIn old left left') × Appends taken taken' []
+    (FallsIn plan old left left' × IsAtEnd left') × Appends taken taken' []
 
 -- the text was not made, or not written whole; or a read failed inside the body
 abbrev pub LeavesRefusal : ReplyForm → Asked → BodyUse → IntakeState → IntakeState → Option (List ℕ) → Option (List ℕ) → Option (List ℕ) → Option (List ℕ) → ServeFault → Type 0
@@ -117,9 +123,11 @@ pub record IsLeftBy (alone : Type 0) (site : Site) (d e : DoorView) : Type 0 whe
   pub advances : Advances site.settings d e
   pub only : alone → (more : List Event) × (e.seen ≡ d.seen ++ more) × AreBy d.pass (next_count d) more
 
--- of a request nothing but this was written; the moments that were told are those of the next actor's events
-pub record IsUnanswered (tells alone : Type 0) (site : Site) (text : List ℕ) (d e : DoorView) (taken taken' told told' : Option (List ℕ)) : Type 0 where
+-- of a request, of whose body so much came, nothing but this was written; the next actor's events are those of the request so
+-- far, and the moments that were told are theirs
+pub record IsUnanswered (tells alone : Type 0) (site : Site) (asked : Asked) (body : AskedBody) (text : List ℕ) (d e : DoorView) (taken taken' told told' : Option (List ℕ)) : Type 0 where
   pub written : Appends taken taken' text
+  pub so_far : tells → DoesSoFar site asked body d.pass (next_count d) e.seen
   pub moments : List ℕ
   pub asked_clock : Appends told told' moments
   pub each : tells → moments ≡ own_moments e.seen (actor_of_pass d.pass (next_count d))
@@ -138,11 +146,18 @@ pub record Replies (tells alone : Type 0) (site : Site) (head : Head) (asked : A
 abbrev pub text_before : BodyUse → List ℕ
 text_before plan = continue_if (is_awaited plan) read_whole
 
--- the input ended inside the body, and no reply was written
-pub record IsCut (tells alone : Type 0) (site : Site) (plan : BodyUse) (z y : Side) : Type 0 where
+-- where the client of a PUT waits for a 100, the row of its container was read first, and grants that the body is read
+abbrev pub IsLetIn : Site → Asked → BodyUse → ℕ → ℕ → List Event → Type 0
+IsLetIn site asked plan pass count history =
+    IsLeftByRow site.zone site.asker asked (is_awaited plan) read_whole (own_events history (actor_of_pass pass count))
+
+-- the body fell short behind these bytes, and no reply was written
+pub record FallsShort (tells alone : Type 0) (site : Site) (asked : Asked) (plan : BodyUse) (z y : Side) : Type 0 where
   pub is_read : is_unread plan ≡ false
-  pub cut : IsCutIn z.intake z.ends.left y.ends.left
-  pub unanswered : IsUnanswered tells alone site (text_before plan) z.door y.door z.ends.taken y.ends.taken z.ends.told y.ends.told
+  pub given : List ℕ
+  pub falls : FallsBehind z.intake z.ends.left y.ends.left given
+  pub let_in : tells → IsLetIn site asked plan z.door.pass (next_count z.door) y.door.seen
+  pub unanswered : IsUnanswered tells alone site asked (body_of given) (text_before plan) z.door y.door z.ends.taken y.ends.taken z.ends.told y.ends.told
 
 -- how a request was served
 abbrev pub Serves : Type 0 → Type 0 → Site → Head → Asked → BodyUse → ReplyForm → Side → Side → Served → Type 0
@@ -154,15 +169,9 @@ Serves tells alone site head asked plan form z y services.Closed =
     × (r : Replies tells alone site head asked plan form fate z y) × (is_failing r.ground ≡ false)
 Serves tells alone site head asked plan form z y services.Refused =
     (why : BodyEnd) × (r : Replies tells alone site head asked plan form (broken_off why) z y) × (is_failing r.ground ≡ true)
-Serves tells alone site head asked plan form z y services.Cut = IsCut tells alone site plan z y
+Serves tells alone site head asked plan form z y services.Cut = FallsShort tells alone site asked plan z y × IsAtEnd y.ends.left
 
 -- ---- faults
-
--- a read failed inside the body, and no reply was written
-pub record IsFailed (tells alone : Type 0) (site : Site) (plan : BodyUse) (z y : Side) : Type 0 where
-  pub is_read : is_unread plan ≡ false
-  pub fails : FailsIn z.intake z.ends.left y.ends.left
-  pub unanswered : IsUnanswered tells alone site (text_before plan) z.door y.door z.ends.taken y.ends.taken z.ends.told y.ends.told
 
 -- no actor began, and no moment was told
 pub record IsIdle (z y : Side) : Type 0 where
@@ -200,5 +209,5 @@ LeavesRequest tells alone site form asked plan found z y fault =
     ((fault ≡ faults.OutOfMemory) × (y ≡ z)) ⊎ LeavesAsked tells alone site form asked plan found z y fault
 
 abbrev pub Stops : Type 0 → Type 0 → Site → ReplyForm → Asked → BodyUse → List Event → Side → Side → ServeFault → Type 0
-Stops tells alone site form asked plan found z y faults.ReadFault = IsFailed tells alone site plan z y
+Stops tells alone site form asked plan found z y faults.ReadFault = FallsShort tells alone site asked plan z y
 Stops tells alone site form asked plan found z y fault = LeavesRequest tells alone site form asked plan found z y fault

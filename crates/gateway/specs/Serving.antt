@@ -1,7 +1,6 @@
 -- What serving the requests of a connection comes to, from the kth of them on: the reply texts of calls that the one history of
 -- the realm bears out (OpenStack Object Storage API v1; RFC 9112).
-use Rattle.std.specs.Prelude.{◌≡◌, ◌⊎◌, ℕ, ◌+◌, Bool, List, [], ◌++◌, length, map, ⊤, Option, Result, Err, IfOk}
-use Rattle.std.specs.List.{AllByRecursion}
+use Rattle.std.specs.Prelude.{◌≡◌, ◌⊎◌, ℕ, ◌+◌, Bool, false, List, [], ◌++◌, length, ⊤, Option, Result, Err, IfOk}
 use Rattle.std.specs.Io.KnownBytes.{IsAtEnd, Consumes, Appends}
 use Rattle.gw_io.specs.Ends.{EndsState}
 use Rattle.http_intake.specs.Intake.{IntakeState, fresh}
@@ -9,15 +8,18 @@ use Rattle.http_model.specs.declared.head.Head.{Head}
 use Rattle.http_model.specs.declared.reply.BadRequest.{BadRequest}
 use Rattle.http_model.specs.Heads.{BeginsWith}
 use Rattle.http_model.specs.Replies.{bad_request_text}
-use Rattle.http_model.specs.Streams.{BreaksGrammar}
-use Rattle.realm_model.specs.Settings.{SettingsView}
+use Rattle.http_model.specs.Streams.{IsCutHead, BreaksGrammar}
 use Rattle.realm_model.specs.Doors.{DoorView}
+use Rattle.realm_model.specs.Owns.{own_events}
 use Rattle.realm_model.specs.declared.event.Event.{Event}
 use Rattle.realm_door.specs.Steps.{next_count, actor_of_pass}
 use Rattle.swift_requests.specs.Asks.{asked_of}
+use Rattle.swift_requests.specs.Bodies.{is_unread}
 use Rattle.call_words.specs.Calls.{Call}
+use Rattle.call_words.specs.Requests.{requests_of, AreAsked}
 use Rattle.call_words.specs.Streams.{use_of, CallsEnd, at_clean, at_close, at_cut, at_bad, Taken, IsStreamFrom, IsFrontFrom}
-use Rattle.call_service.specs.Serving.{Site, Side, side, AppendsFront, HasServeCause}
+use Rattle.call_service.specs.Bodies.{FallsBehind}
+use Rattle.call_service.specs.Serving.{Site, Side, side, AppendsFront, body_of, HasServeCause}
 use Rattle.door_moments.specs.Acts.{own_moments}
 use Rattle.call_service.specs.declared.fault.ServeFault.{ServeFault}
 use Rattle.call_service.specs.declared.fault.ServeFault.TheVariants as faults
@@ -25,20 +27,8 @@ use Rattle.gateway.specs.declared.serve.ConnEnd.{ConnEnd}
 use Rattle.gateway.specs.declared.serve.Served.{Served}
 use Rattle.gateway.specs.Moments.{AreTold}
 use Rattle.gateway.specs.Texts.{form_before, texts_from, place_after, closing, end_text, end_replies, connection_end}
-use Rattle.gateway.specs.Calls.{Advances, AreSettled}
-use Rattle.gateway.specs.Requests.{IsBehindHead, IsIdle, LeavesRequest}
-
--- ---- calls
-
-abbrev pub taken_of : Call → Taken
-taken_of call = record { request = call.request; fate = call.fate }
-
-abbrev pub requests_of : List Call → List Taken
-requests_of calls = map taken_of calls
-
--- each call is what its head asks
-abbrev pub AreAsked : ℕ → List Call → Type 0
-AreAsked largest calls = AllByRecursion (λ call. call.asked ≡ asked_of largest call.request.head) calls
+use Rattle.gateway.specs.Calls.{DoesSoFar, Advances, AreSettled}
+use Rattle.gateway.specs.Requests.{IsBehindHead, IsIdle, IsLetIn, LeavesRequest}
 
 -- ---- ends
 
@@ -67,6 +57,36 @@ IsTidy tells e pass last later at_close = IsDone tells e last later
 IsTidy tells e pass last later (at_cut continued) = tells → later ≡ own_moments e.seen (actor_of_pass pass last)
 IsTidy tells e pass last later (at_bad word bodiless) = IsDone tells e last later
 
+-- ---- where the requests break off
+
+-- the input ended inside the body of this request, or a read failed there: the actor behind the calls does what it asks so far,
+-- and a row that it read first let a body in that is waited for
+pub record EndsInside (tells : Type 0) (site : Site) (e : DoorView) (pass last : ℕ) (rest : List ℕ) (left : Option (List ℕ)) : Type 0 where
+  pub head : Head
+  pub after : List ℕ
+  pub begins : BeginsWith rest head after
+  pub is_read : is_unread (use_of site.settings.largest head) ≡ false
+  pub intake : IntakeState
+  pub before : Option (List ℕ)
+  pub behind : IsBehindHead site.settings.largest intake head
+  pub given : List ℕ
+  pub falls : FallsBehind intake before left given
+  pub is_after : after ≡ intake.buffer ++ (falls.has_given.more ++ falls.falls.more)
+  pub so_far : tells → DoesSoFar site (asked_of site.settings.largest head) (body_of given) pass last e.seen
+  pub let_in : tells → IsLetIn site (asked_of site.settings.largest head) (use_of site.settings.largest head) pass last e.seen
+
+-- or inside a head, and no actor did anything for it
+abbrev pub EndsAmid : Type 0 → Site → DoorView → ℕ → ℕ → List ℕ → Option (List ℕ) → Type 0
+EndsAmid tells site e pass last rest left =
+    (IsCutHead rest × (tells → own_events e.seen (actor_of_pass pass last) ≡ [])) ⊎ EndsInside tells site e pass last rest left
+
+-- what is left behind the requests that were replied, the first of which is the kth of its connection, where the last one is not
+-- there whole
+abbrev pub BreaksOff : Type 0 → Site → ℕ → List ℕ → List Taken → DoorView → ℕ → ℕ → Option (List ℕ) → CallsEnd → Type 0
+BreaksOff tells site k bytes requests e pass last left (at_cut continued) =
+    (rest : List ℕ) × IsFrontFrom site.settings.largest k bytes requests rest × EndsAmid tells site e pass last rest left
+BreaksOff tells site k bytes requests e pass last left end = Unit {0}
+
 -- ---- served to an end
 
 -- What waited and what was read are the requests of these calls and that end; what was written are the texts of their replies;
@@ -83,6 +103,7 @@ pub record RepliesTo (tells alone : Type 0) (site : Site) (k : ℕ) (buffer : Li
   pub asked_clock : Appends old.told new.told moments
   pub told : AreTold tells e.seen d.pass calls moments later
   pub tidy : IsTidy tells e d.pass last later stream_end
+  pub amid : BreaksOff tells site k (buffer ++ read) (requests_of calls) e d.pass last new.left stream_end
   pub settled : tells → AreSettled alone site d e calls last
 
 -- the requests were served to their end
@@ -173,8 +194,3 @@ pub record ServesConnection (tells alone : Type 0) (site : Site) (found : List E
   pub served : IfOk result (IsServed tells alone site d e old new)
   pub left : (fault : ServeFault) → result ≡ Err fault → IsLeft tells alone site found d e old new fault
   pub cause : HasServeCause old new result
-
--- the door's settings and home stay
-pub record KeepsDoor (before now : SettingsView) (was is : ℕ) : Type 0 where
-  pub settings : now ≡ before
-  pub home : is ≡ was

@@ -11,15 +11,16 @@ use Rattle.realm_model.specs.Doors.{DoorView}
 use Rattle.realm_model.specs.declared.event.Event.{Event}
 use Rattle.swift_requests.specs.Asks.{asked_of}
 use Rattle.call_words.specs.Calls.{Call}
+use Rattle.call_words.specs.Requests.{taken_of}
 use Rattle.call_words.specs.Streams.{form_of, CallsEnd, at_cut, at_bad, TakesCall}
-use Rattle.call_service.specs.Serving.{Site, Side, AppendsFront, HasServeCause}
+use Rattle.call_service.specs.Serving.{Site, Side, Around, AppendsFront, HasServeCause}
 use Rattle.call_service.specs.declared.fault.ServeFault.{ServeFault}
 use Rattle.call_service.specs.declared.fault.ServeFault.TheVariants as faults
 use Rattle.gateway.specs.declared.turn.Turn.{Turn}
 use Rattle.gateway.specs.declared.turn.Turn.TheVariants.{Further, Over}
 use Rattle.gateway.specs.Requests.{IsReady, IsAnswered}
 use Rattle.gateway.specs.Texts.{closing, end_text, end_replies, connection_end}
-use Rattle.gateway.specs.Serving.{taken_of, ServesFrom, LeavesAt}
+use Rattle.gateway.specs.Serving.{ServesFrom, LeavesAt}
 
 -- one request was taken from the bytes and replied
 pub record TakesReply (tells alone : Type 0) (site : Site) (k : ℕ) (buffer left : List ℕ) (d e : DoorView) (old new : EndsState) (call : Call) : Type 0 where
@@ -39,6 +40,13 @@ abbrev pub ComesTo : Type 0 → Type 0 → Site → ℕ → List Event → Side 
 ComesTo tells alone site k found x y (Ok Further) = GoesOn tells alone site k x.intake.buffer y.intake.buffer x.door y.door x.ends y.ends × IsReady site.settings.largest y.intake
 ComesTo tells alone site k found x y (Ok (Over replies end)) = ServesFrom tells alone site k x.intake.buffer x.door y.door x.ends y.ends replies end
 ComesTo tells alone site k found x y (Err fault) = LeavesAt tells alone site k found x y fault
+
+-- the door's settings and home, how long the buffer for pieces is, and the borrows that the connection is made of stay
+pub record KeepsPlace (old new : Around) : Type 0 where
+  pub settings : new.settings ≡ old.settings
+  pub home : new.home ≡ old.home
+  pub kept : new.buffer ≡ old.buffer
+  pub names : new.names ≡ old.names
 
 -- a turn writes one reply at most
 abbrev pub WritesFew : Turn → Type 0

@@ -1,10 +1,10 @@
 //! One request whose head was read: its reply, and what it leaves of the connection.
-ghost use Rattle.std.specs.Prelude.{◌≡◌, ◌≤◌, ◌<◌, true, false, length, IfOk, IfErr};
+ghost use Rattle.std.specs.Prelude.{◌≡◌, ◌≤◌, true, false, IfOk, IfErr};
 ghost use Rattle.swift_requests.specs.Asks.{asked_of};
 ghost use Rattle.swift_requests.specs.Bodies.{is_unread};
 ghost use Rattle.call_words.specs.Streams.{use_of};
 ghost use Rattle.http_model.specs.Forms.{is_bodiless};
-ghost use Rattle.call_service.specs.Serving.{Side, StaysAround, around, side};
+ghost use Rattle.call_service.specs.Serving.{Side, StaysAround};
 ghost use Rattle.gateway.specs.Calls.{MayGoOn, site_of};
 ghost use Rattle.gateway.specs.Requests.{IsBehindHead, Serves, Stops};
 ghost use Rattle.gateway.specs.Serving.{ReadsHead};
@@ -16,9 +16,8 @@ use crate::ConnEnd;
 use crate::asker::asker_of;
 use crate::refusal::serve_refused;
 use crate::turn::Turn;
-use call_service::{ServeFault, Served};
-use gw_io::{Clock, Ends, Sink, Source};
-use http_intake::Intake;
+use call_service::{Connected, Connection, ServeFault, Served};
+use gw_io::{Clock, Sink, Source};
 use http_model::{Head, ReplyForm};
 use put_service::serve_put;
 use realm_door::Door;
@@ -40,7 +39,7 @@ fn closing_end(asked: &Asked) -> ConnEnd
 }
 
 /// Replies to what a request asks; what makes events is a task of the next actor of the pass.
-fn serve_asked<D: Door, S: Source, K: Sink, C: Clock>(
+fn serve_asked<'c, D: Door, C: Clock, S: Source, K: Sink>(
     alloc: Global,
     settings: &Settings,
     zone: u8,
@@ -49,30 +48,18 @@ fn serve_asked<D: Door, S: Source, K: Sink, C: Clock>(
     asked: Asked,
     plan: BodyUse,
     form: ReplyForm,
-    door: &mut D,
-    clock: &mut C,
-    intake: &mut Intake,
-    source: &mut S,
-    sink: &mut K,
-    buffer: &mut [u8],
-    out: &mut Vec<u8>,
+    connection: &mut Connection<'c, D, C, S, K>,
 ) -> Result<Served, ServeFault>
-    requires goes { MayGoOn D.tells settings.now (D.settings door.old) zone user.now (D.told door.old) (length buffer.old) }
-    requires behind { IsBehindHead settings.now.largest intake.old head.now }
+    requires goes { MayGoOn D.tells settings.now (⟦<Connection<'c, D, C, S, K> as Connected>⟧.around connection.old).settings zone user.now (⟦<Connection<'c, D, C, S, K> as Connected>⟧.side connection.old).door (⟦<Connection<'c, D, C, S, K> as Connected>⟧.around connection.old).buffer }
+    requires behind { IsBehindHead settings.now.largest (⟦<Connection<'c, D, C, S, K> as Connected>⟧.side connection.old).intake head.now }
     requires most { settings.now.largest ≤ 5368709120 }
     requires asks { asked ≡ asked_of settings.now.largest head.now }
     requires used { plan ≡ use_of settings.now.largest head.now }
     requires form { form.bodiless ≡ is_bodiless head.now.method }
     requires shut { is_unread (use_of settings.now.largest head.now) ≡ true → form.close ≡ true }
-    ensures served { IfOk result (Serves D.tells D.alone (site_of settings.now zone) head.now asked (use_of settings.now.largest head.now) form
-        (side (D.told door.old) intake.old (⟦<(S, K, C) as Ends>⟧.ends (source.old, sink.old, clock.old)))
-        (side (D.told door.new) intake.new (⟦<(S, K, C) as Ends>⟧.ends (source.new, sink.new, clock.new)))) }
-    ensures left { IfErr result (Stops D.tells D.alone (site_of settings.now zone) form asked (use_of settings.now.largest head.now) (D.found door.new)
-        (side (D.told door.old) intake.old (⟦<(S, K, C) as Ends>⟧.ends (source.old, sink.old, clock.old)))
-        (side (D.told door.new) intake.new (⟦<(S, K, C) as Ends>⟧.ends (source.new, sink.new, clock.new)))) }
-    ensures around { StaysAround
-        (around (⟦<(S, K, C) as Ends>⟧.ends (source.old, sink.old, clock.old)) (D.settings door.old) (D.home door.old) (length buffer.old))
-        (around (⟦<(S, K, C) as Ends>⟧.ends (source.new, sink.new, clock.new)) (D.settings door.new) (D.home door.new) (length buffer.new)) result }
+    ensures served { IfOk result (Serves D.tells D.alone (site_of settings.now zone) head.now asked (use_of settings.now.largest head.now) form (⟦<Connection<'c, D, C, S, K> as Connected>⟧.side connection.old) (⟦<Connection<'c, D, C, S, K> as Connected>⟧.side connection.new)) }
+    ensures left { IfErr result (Stops D.tells D.alone (site_of settings.now zone) form asked (use_of settings.now.largest head.now) (⟦<Connection<'c, D, C, S, K> as Connected>⟧.found connection.new) (⟦<Connection<'c, D, C, S, K> as Connected>⟧.side connection.old) (⟦<Connection<'c, D, C, S, K> as Connected>⟧.side connection.new)) }
+    ensures around { StaysAround (⟦<Connection<'c, D, C, S, K> as Connected>⟧.around connection.old) (⟦<Connection<'c, D, C, S, K> as Connected>⟧.around connection.new) result }
 {
     let read = !plan.is_unread();
     match asked {
@@ -82,25 +69,28 @@ fn serve_asked<D: Door, S: Source, K: Sink, C: Clock>(
                 return Err(ServeFault::OutOfMemory);
             };
             let waits = plan.is_awaited();
-            door.begin();
-            serve_put(
-                alloc, settings, zone, asker, put, form, waits, door, clock, intake, source, sink,
-                buffer, out,
-            )
+            connection.door.begin();
+            serve_put(alloc, settings, zone, asker, put, form, waits, connection)
         }
         Asked::Unfed(command) => {
             let Ok(asker) = asker_of(user) else {
                 drop(command);
                 return Err(ServeFault::OutOfMemory);
             };
-            door.begin();
-            serve_command(
-                alloc, zone, asker, command, form, read, door, clock, intake, source, sink, buffer,
-                out,
-            )
+            connection.door.begin();
+            serve_command(alloc, zone, asker, command, form, read, connection)
         }
         refused => {
-            let served = serve_refused(&refused, plan, form, intake, source, sink, buffer, out);
+            let served = serve_refused(
+                &refused,
+                plan,
+                form,
+                connection.intake,
+                connection.source,
+                connection.sink,
+                connection.buffer,
+                connection.out,
+            );
             drop(refused);
             served
         }
@@ -108,33 +98,23 @@ fn serve_asked<D: Door, S: Source, K: Sink, C: Clock>(
 }
 
 /// Replies to a request, the `k`th of its connection, and says whether another may follow.
-pub(crate) fn serve_request<D: Door, S: Source, K: Sink, C: Clock>(
+pub(crate) fn serve_request<'c, D: Door, C: Clock, S: Source, K: Sink>(
     alloc: Global,
     k: u64,
     settings: &Settings,
     zone: u8,
     user: &User,
     head: &Head,
-    door: &mut D,
-    clock: &mut C,
-    intake: &mut Intake,
-    source: &mut S,
-    sink: &mut K,
-    buffer: &mut [u8],
-    out: &mut Vec<u8>,
+    connection: &mut Connection<'c, D, C, S, K>,
 ) -> Result<Turn, ServeFault>
-    requires goes { MayGoOn D.tells settings.now (D.settings door.old) zone user.now (D.told door.old) (length buffer.old) }
-    requires behind { IsBehindHead settings.now.largest intake.old head.now }
+    requires goes { MayGoOn D.tells settings.now (⟦<Connection<'c, D, C, S, K> as Connected>⟧.around connection.old).settings zone user.now (⟦<Connection<'c, D, C, S, K> as Connected>⟧.side connection.old).door (⟦<Connection<'c, D, C, S, K> as Connected>⟧.around connection.old).buffer }
+    requires behind { IsBehindHead settings.now.largest (⟦<Connection<'c, D, C, S, K> as Connected>⟧.side connection.old).intake head.now }
 
     // Whatever was read before the head: with it, this is a turn.
-    ensures turn { (x : Side)
-        → ReadsHead settings.now.largest x (side (D.told door.old) intake.old (⟦<(S, K, C) as Ends>⟧.ends (source.old, sink.old, clock.old))) head.now
-        → ComesTo D.tells D.alone (site_of settings.now zone) k (D.found door.new) x
-        (side (D.told door.new) intake.new (⟦<(S, K, C) as Ends>⟧.ends (source.new, sink.new, clock.new))) result }
+    ensures turn { (x : Side) → ReadsHead settings.now.largest x (⟦<Connection<'c, D, C, S, K> as Connected>⟧.side connection.old) head.now
+        → ComesTo D.tells D.alone (site_of settings.now zone) k (⟦<Connection<'c, D, C, S, K> as Connected>⟧.found connection.new) x (⟦<Connection<'c, D, C, S, K> as Connected>⟧.side connection.new) result }
     ensures few { IfOk result WritesFew }
-    ensures around { StaysAround
-        (around (⟦<(S, K, C) as Ends>⟧.ends (source.old, sink.old, clock.old)) (D.settings door.old) (D.home door.old) (length buffer.old))
-        (around (⟦<(S, K, C) as Ends>⟧.ends (source.new, sink.new, clock.new)) (D.settings door.new) (D.home door.new) (length buffer.new)) result }
+    ensures around { StaysAround (⟦<Connection<'c, D, C, S, K> as Connected>⟧.around connection.old) (⟦<Connection<'c, D, C, S, K> as Connected>⟧.around connection.new) result }
 {
     let asked = match read_asked(alloc, settings.largest, head) {
         Ok(asked) => asked,
@@ -146,8 +126,7 @@ pub(crate) fn serve_request<D: Door, S: Source, K: Sink, C: Clock>(
     let form = ReplyForm { bodiless, close };
     let end = closing_end(&asked);
     match serve_asked(
-        alloc, settings, zone, user, head, asked, plan, form, door, clock, intake, source, sink,
-        buffer, out,
+        alloc, settings, zone, user, head, asked, plan, form, connection,
     ) {
         Err(fault) => Err(fault),
         Ok(Served::Cut) => Ok(Turn::Over(0, ConnEnd::Cut)),

@@ -1,11 +1,13 @@
-ghost use Rattle.std.specs.Prelude.{◌≡◌, ◌≤◌, ◌<◌, length};
+ghost use Rattle.std.specs.Prelude.{◌≡◌, ◌≤◌, length};
 ghost use Rattle.http_intake.specs.Intake.{fresh};
 ghost use Rattle.gateway.specs.Calls.{MayBegin, MayGoOn, site_of};
-ghost use Rattle.gateway.specs.Serving.{KeepsDoor, ServesConnection};
+ghost use Rattle.gateway.specs.Serving.{ServesConnection};
+ghost use Rattle.gateway.specs.Turns.{KeepsPlace};
 
 use crate::ServeFault;
 use crate::asker::standard_user;
 use crate::turn::{Turn, take_turn};
+use call_service::{Connected, Connection};
 use gw_io::{Clock, Ends, Sink, Source};
 use http_intake::Intake;
 use realm_door::Door;
@@ -72,7 +74,7 @@ pub fn serve_connection<D: Door, S: Source, K: Sink, C: Clock>(
         Ok(buffer) => buffer,
         Err(_) => return Err(ServeFault::OutOfMemory),
     };
-    serve_requests(
+    serve_parts(
         alloc,
         settings,
         zone,
@@ -86,8 +88,8 @@ pub fn serve_connection<D: Door, S: Source, K: Sink, C: Clock>(
     )
 }
 
-/// Serves the requests of a connection of which nothing was read.
-fn serve_requests<D: Door, S: Source, K: Sink, C: Clock>(
+/// Makes a connection of its parts, of which nothing was read, and serves its requests.
+fn serve_parts<D: Door, C: Clock, S: Source, K: Sink>(
     alloc: Global,
     settings: &Settings,
     zone: u8,
@@ -105,15 +107,32 @@ fn serve_requests<D: Door, S: Source, K: Sink, C: Clock>(
         (D.told door.old) (D.told door.new)
         (⟦<(S, K, C) as Ends>⟧.ends (source.old, sink.old, clock.old))
         (⟦<(S, K, C) as Ends>⟧.ends (source.new, sink.new, clock.new)) result }
-    ensures keeps { KeepsDoor (D.settings door.old) (D.settings door.new) (D.home door.old) (D.home door.new) }
+    ensures settings { D.settings door.new ≡ D.settings door.old }
+    ensures home { D.home door.new ≡ D.home door.old }
 {
     let mut out = Vec::new(alloc);
+    let mut connection = Connection::new(door, clock, intake, source, sink, buffer, &mut out);
+    serve_requests(alloc, settings, zone, user, &mut connection)
+}
+
+/// Serves the requests of a connection of which nothing was read.
+fn serve_requests<'c, D: Door, C: Clock, S: Source, K: Sink>(
+    alloc: Global,
+    settings: &Settings,
+    zone: u8,
+    user: &User,
+    connection: &mut Connection<'c, D, C, S, K>,
+) -> Result<Served, ServeFault>
+    requires goes { MayGoOn D.tells settings.now (⟦<Connection<'c, D, C, S, K> as Connected>⟧.around connection.old).settings zone user.now (⟦<Connection<'c, D, C, S, K> as Connected>⟧.side connection.old).door (⟦<Connection<'c, D, C, S, K> as Connected>⟧.around connection.old).buffer }
+    requires unread { (⟦<Connection<'c, D, C, S, K> as Connected>⟧.side connection.old).intake ≡ fresh settings.now.largest }
+    ensures served { ServesConnection D.tells D.alone (site_of settings.now zone) (⟦<Connection<'c, D, C, S, K> as Connected>⟧.found connection.new)
+        (⟦<Connection<'c, D, C, S, K> as Connected>⟧.side connection.old).door (⟦<Connection<'c, D, C, S, K> as Connected>⟧.side connection.new).door (⟦<Connection<'c, D, C, S, K> as Connected>⟧.side connection.old).ends (⟦<Connection<'c, D, C, S, K> as Connected>⟧.side connection.new).ends result }
+    ensures stays { KeepsPlace (⟦<Connection<'c, D, C, S, K> as Connected>⟧.around connection.old) (⟦<Connection<'c, D, C, S, K> as Connected>⟧.around connection.new) }
+{
     let mut done: u64 = 0;
     'requests: loop {
         let k = done + 1;
-        match take_turn(
-            alloc, k, settings, zone, user, door, clock, intake, source, sink, buffer, &mut out,
-        ) {
+        match take_turn(alloc, k, settings, zone, user, connection) {
             Ok(Turn::Further) => done = k,
             Ok(Turn::Over(replies, end)) => {
                 let requests = done + replies;

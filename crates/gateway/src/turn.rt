@@ -1,19 +1,20 @@
 //! One turn of a connection: the next request is read and replied to.
-ghost use Rattle.std.specs.Prelude.{◌≡◌, ◌<◌, length, IfOk, IfErr};
-ghost use Rattle.call_service.specs.Serving.{side, WritesAtFault, LeavesText};
+ghost use Rattle.std.specs.Prelude.{◌≡◌, IfOk, IfErr};
+ghost use Rattle.call_service.specs.Serving.{WritesAtFault, LeavesText};
 ghost use Rattle.std.specs.Io.KnownBytes.{Appends};
 ghost use Rattle.http_model.specs.Replies.{bad_request_text};
 ghost use Rattle.gateway.specs.declared.serve.ConnEnd.TheVariants as ends;
 ghost use Rattle.gateway.specs.Texts.{closing};
 ghost use Rattle.gateway.specs.Calls.{MayGoOn, site_of};
 ghost use Rattle.gateway.specs.Requests.{IsReady};
-ghost use Rattle.gateway.specs.Turns.{TakesTurn, EndsHeads, EndsSo, LeavesSo};
+ghost use Rattle.gateway.specs.Turns.{KeepsPlace, TakesTurn, EndsHeads, EndsSo, LeavesSo};
 
 use crate::refusal::send_bad_request;
 use crate::request::serve_request;
 use crate::{ConnEnd, ServeFault};
-use gw_io::{Clock, Ends, Sink, Source};
-use http_intake::{Intake, IntakeFault};
+use call_service::{Connected, Connection};
+use gw_io::{Clock, Sink, Source};
+use http_intake::IntakeFault;
 use http_model::BadRequest;
 use realm_door::Door;
 use realm_model::Settings;
@@ -68,34 +69,22 @@ fn end_heads<K: Sink>(
 }
 
 /// Reads the next request of a connection, its `k`th, and replies to it.
-pub(crate) fn take_turn<D: Door, S: Source, K: Sink, C: Clock>(
+pub(crate) fn take_turn<'c, D: Door, C: Clock, S: Source, K: Sink>(
     alloc: Global,
     k: u64,
     settings: &Settings,
     zone: u8,
     user: &User,
-    door: &mut D,
-    clock: &mut C,
-    intake: &mut Intake,
-    source: &mut S,
-    sink: &mut K,
-    buffer: &mut [u8],
-    out: &mut Vec<u8>,
+    connection: &mut Connection<'c, D, C, S, K>,
 ) -> Result<Turn, ServeFault>
-    requires goes { MayGoOn D.tells settings.now (D.settings door.old) zone user.now (D.told door.old) (length buffer.old) }
-    requires ready { IsReady settings.now.largest intake.old }
-    ensures turn { TakesTurn D.tells D.alone (site_of settings.now zone) k (D.found door.new)
-        (side (D.told door.old) intake.old (⟦<(S, K, C) as Ends>⟧.ends (source.old, sink.old, clock.old)))
-        (side (D.told door.new) intake.new (⟦<(S, K, C) as Ends>⟧.ends (source.new, sink.new, clock.new))) result }
-    ensures settings { D.settings door.new ≡ D.settings door.old }
-    ensures home { D.home door.new ≡ D.home door.old }
-    ensures kept { length buffer.new ≡ length buffer.old }
+    requires goes { MayGoOn D.tells settings.now (⟦<Connection<'c, D, C, S, K> as Connected>⟧.around connection.old).settings zone user.now (⟦<Connection<'c, D, C, S, K> as Connected>⟧.side connection.old).door (⟦<Connection<'c, D, C, S, K> as Connected>⟧.around connection.old).buffer }
+    requires ready { IsReady settings.now.largest (⟦<Connection<'c, D, C, S, K> as Connected>⟧.side connection.old).intake }
+    ensures turn { TakesTurn D.tells D.alone (site_of settings.now zone) k (⟦<Connection<'c, D, C, S, K> as Connected>⟧.found connection.new) (⟦<Connection<'c, D, C, S, K> as Connected>⟧.side connection.old) (⟦<Connection<'c, D, C, S, K> as Connected>⟧.side connection.new) result }
+    ensures stays { KeepsPlace (⟦<Connection<'c, D, C, S, K> as Connected>⟧.around connection.old) (⟦<Connection<'c, D, C, S, K> as Connected>⟧.around connection.new) }
 {
-    match intake.next(alloc, source) {
-        Ok(Some(head)) => serve_request(
-            alloc, k, settings, zone, user, &head, door, clock, intake, source, sink, buffer, out,
-        ),
+    match connection.intake.next(alloc, connection.source) {
+        Ok(Some(head)) => serve_request(alloc, k, settings, zone, user, &head, connection),
         Ok(None) => Ok(Turn::Over(0, ConnEnd::Clean)),
-        Err(fault) => end_heads(sink, out, fault),
+        Err(fault) => end_heads(connection.sink, connection.out, fault),
     }
 }

@@ -6,6 +6,7 @@ pub mod Texts
 pub mod Chunks
 pub mod Given
 pub mod BodyGrammar
+pub mod WrongBodies
 pub mod RequestLaws
 pub mod Places
 pub mod Lines

@@ -30,6 +30,20 @@ HasNoBody largest (Length n) after why = (why ≡ End.Cut) × (length after < n)
 HasNoBody largest Chunked after why =
     (why ≢ End.Whole) × (contents : List (List ℕ)) × (rest : List ℕ) × AreChunks false largest after contents why rest
 
+-- a chunk is none, or there is no room for it
+abbrev pub IsWrong : BodyEnd → Type 0
+IsWrong End.Whole = ⊥
+IsWrong End.Cut = ⊥
+IsWrong End.BadChunk = Unit {0}
+IsWrong End.TooLarge = Unit {0}
+
+-- what follows a head with this framing is chunks that go wrong for that cause, behind these bytes of the body
+abbrev pub HasWrongBody : ℕ → Framing → List ℕ → BodyEnd → List ℕ → Type 0
+HasWrongBody largest Empty after why came = ⊥
+HasWrongBody largest (Length n) after why came = ⊥
+HasWrongBody largest Chunked after why came =
+    IsWrong why × (contents : List (List ℕ)) × (rest : List ℕ) × AreChunks false largest after contents why rest × (came ≡ content_of contents)
+
 -- the bytes begin with that request, and rest follows
 pub record TakesWhole (largest : ℕ) (bytes : List ℕ) (request : Request) (rest : List ℕ) : Type 0 where
   pub after : List ℕ
@@ -81,13 +95,25 @@ IsBrokenBy true intake bytes why =
 abbrev pub IsBroken : IntakeState → List ℕ → BodyEnd → Type 0
 IsBroken intake bytes why = IsBrokenBy intake.chunked intake bytes why
 
+-- what is left of the body, which comes in chunks or not, goes wrong for that cause, behind these bytes of it
+abbrev pub GoesWrongBy : Bool → IntakeState → List ℕ → BodyEnd → List ℕ → Type 0
+GoesWrongBy false intake bytes why came = ⊥
+GoesWrongBy true intake bytes why came =
+    IsWrong why × (piece : List ℕ) × (next : List ℕ) × (contents : List (List ℕ)) × (rest : List ℕ) × (bytes ≡ piece ++ next)
+    × (length piece ≡ intake.body_left) × AreChunks intake.behind intake.room next contents why rest × (came ≡ piece ++ content_of contents)
+
+abbrev pub GoesWrong : IntakeState → List ℕ → BodyEnd → List ℕ → Type 0
+GoesWrong intake bytes why came = GoesWrongBy intake.chunked intake bytes why came
+
 -- The bytes went in and that was given: whatever follows, it and what is left now are what was left, and where that is broken,
--- this was.
+-- this was. Where that goes wrong behind some bytes, this did behind what was given and them.
 pub record Gives (old new : IntakeState) (bytes given : List ℕ) : Type 0 where
   pub whole : (later body rest : List ℕ) → IsLeft new (new.buffer ++ later) body rest → IsLeft old (bytes ++ later) (given ++ body) rest
   pub broken : (later : List ℕ) (why : BodyEnd) → IsBroken new (new.buffer ++ later) why → IsBroken old (bytes ++ later) why
+  pub wrong : (later : List ℕ) (why : BodyEnd) (came : List ℕ) → GoesWrong new (new.buffer ++ later) why came → GoesWrong old (bytes ++ later) why (given ++ came)
 
--- why the bytes, the last of an input that has ended, if it has, are not all that is left
+-- Why the bytes, the last of an input that has ended, if it has, are not all that is left. Where chunks go wrong, all that came
+-- before was given by then.
 abbrev pub BreaksBody : IntakeState → List ℕ → Type 0 → IntakeFault → Type 0
 BreaksBody intake bytes ended OutOfMemory = ⊥
 BreaksBody intake bytes ended ReadFault = IsBroken intake bytes End.Cut
@@ -95,8 +121,8 @@ BreaksBody intake bytes ended Cut = IsBroken intake bytes End.Cut × ended
 BreaksBody intake bytes ended BadHead = ⊥
 BreaksBody intake bytes ended HeadTooLarge = ⊥
 BreaksBody intake bytes ended (BadFraming bodiless) = ⊥
-BreaksBody intake bytes ended BadChunk = IsBroken intake bytes End.BadChunk
-BreaksBody intake bytes ended BodyTooLarge = IsBroken intake bytes End.TooLarge
+BreaksBody intake bytes ended BadChunk = GoesWrong intake bytes End.BadChunk []
+BreaksBody intake bytes ended BodyTooLarge = GoesWrong intake bytes End.TooLarge []
 
 -- bytes were read, and they and those that waited are the next of the body, which stand in out now; or they break it
 abbrev pub ReadsBody : Option (List ℕ) → Option (List ℕ) → IntakeState → IntakeState → List ℕ → Result ℕ IntakeFault → Type 0

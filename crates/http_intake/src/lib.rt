@@ -15,4 +15,7 @@ mod scan;
 pub use fault::IntakeFault;
 pub use http_model::{Framing, Head};
 pub use intake::Intake;
-pub use laws::{a_later_byte_changes_no_whole_request, requests_have_one_reading};
+pub use laws::{
+    a_body_goes_wrong_where_its_bytes_do, a_later_byte_changes_no_whole_request,
+    a_wrong_body_has_one_reading, requests_have_one_reading,
+};

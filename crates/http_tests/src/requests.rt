@@ -112,3 +112,20 @@ fn an_object_with_metadata(rt: HostRuntime) -> Result<(), Fail> {
     assert!(rt; right);
     Ok(())
 }
+
+/// Whether a connection is closed behind its 99999th request, and whether behind its 100000th.
+fn closes_late(head: &Head) -> [bool; 2] {
+    [closes(99_999, head, false), closes(100_000, head, false)]
+}
+
+#[test]
+fn a_connection_is_closed_behind_100000_requests(rt: HostRuntime) -> Result<(), Fail> {
+    let head = head_of(
+        rt.alloc(),
+        b"GET /swift/v1/AUTH_acme/box/k HTTP/1.1\r\nHost: h\r\n\r\n",
+    )?;
+    let closed = closes_late(&head);
+    drop(head);
+    assert_eq!(rt; closed, [false, true]);
+    Ok(())
+}

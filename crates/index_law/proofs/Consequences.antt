@@ -1,5 +1,5 @@
 -- What follows from the parts for those who read.
-use Rattle.std.proofs.Common.{◌≡◌, ⊎_elim, ℕ, ◌+◌, ◌==◌, ◌||◌, not, ◌<◌, ◌^◌, true, false, cond, List, [], ◌∷◌, ◌++◌, length, Option, Some, None, refl, sym, subst, ap, ◌∙◌, arith, Bool}
+use Rattle.std.proofs.Common.{◌≡◌, ⊎_elim, ℕ, ◌+◌, ◌==◌, ◌||◌, not, ◌<◌, ◌≤◌, ◌^◌, true, false, cond, List, [], ◌∷◌, ◌++◌, length, Option, Some, None, refl, sym, subst, ap, ◌∙◌, arith, Bool}
 use Rattle.std.specs.Prelude.{IfSome, IsSomeAnd, is_some, unwrap_or}
 use Rattle.rgw_types.specs.declared.pool_key.Key.{Key}
 use Rattle.rgw_types.specs.declared.stamp.Stamp.{Stamp}
@@ -24,7 +24,7 @@ use Rattle.object_words.specs.Refusals.{unless_refused, fate_refusal}
 use Rattle.object_words.specs.Rows.{RowView, no_row}
 use Rattle.object_words.specs.Shards.{Shard, object_count, byte_count, stats_of}
 use Rattle.object_words.specs.Tags.{has_tag}
-use Rattle.realm_model.specs.Containers.{with_id, row_at_home, row_in, entry_in, key_of_name, entry_of_name, Shows, is_settled}
+use Rattle.realm_model.specs.Containers.{with_id, row_at_home, row_in, is_standing, entry_in, key_of_name, entry_of_name, Shows, is_settled}
 use Rattle.realm_model.specs.Counts.{live_count, live_bytes}
 use Rattle.realm_model.specs.Facts.{Home}
 use Rattle.realm_model.specs.Histories.{world_of, state_of, Legal}
@@ -39,14 +39,15 @@ use Rattle.realm_model.specs.declared.event.Reply.TheVariants.{Changed, Stats}
 use Rattle.realm_model.specs.declared.op.Op.{Op}
 use Rattle.realm_model.specs.declared.op.Op.TheVariants.{HeadWrite, Stats as stats_op}
 use Rattle.realm_model.proofs.Agreeing.{heads_agree}
+use Rattle.object_words.proofs.KeyLemmas.{number_itself}
 use Rattle.realm_model.proofs.ObjectLemmas.{number_same}
 use Rattle.realm_model.proofs.Rising.{bounded, rising}
 use Rattle.realm_model.proofs.Runs.{legal_front, last_is_next, state-next}
-use Rattle.index_law.specs.Tables.{rows_of, heads_of, IsPlaced}
+use Rattle.index_law.specs.Tables.{rows_of, heads_of, IsPlaced, StandsIn}
 use Rattle.index_law.specs.Invariants.{IndexHolds}
 use Rattle.rgw_model.specs.declared.slot.Slot.{Slot}
 use Rattle.index_law.specs.Stamps.{IsReached, StampsGiven}
-use Rattle.index_law.specs.Serving.{IsHeld, IsServing, ShardsServe}
+use Rattle.index_law.specs.Serving.{IsHeld, HoldsEntries, ShardsServe}
 use Rattle.index_law.proofs.Stamping.{above_zone, stamps_given}
 use Rattle.index_law.proofs.Shards.{shards_serve}
 use Rattle.index_law.proofs.Puts.{head_here}
@@ -85,12 +86,44 @@ row_is_of w zone container row is = by_home (w.rows.homes container) is where
   by_home None none = cc
   by_home (Some home) some = by_row home (rows_of w.state.root zone home.name) refl some
 
+-- and it has a shard at least
+pub row_has_shards : (settings : SettingsView) (history : List Event) (zone container : ℕ) (row : Bucket) → IsSettings settings → Legal settings history → row_in (world_of settings history).rows (state_of settings history) zone container ≡ Some row → 1 ≤ row.shards
+row_has_shards settings history zone container row good legal is =
+    let r = row_is_of (world_of settings history) zone container row is in
+    ((holds settings history good legal).rows_stand.kept zone (r.home).name row r.kept).named.some
+
+-- a container that stands has its row in zone 1
+pub stands_of : (w : World) (container : ℕ) → is_standing w.rows w.state container ≡ true → StandsIn w container
+stands_of w container is = by_home (w.rows.homes container) refl is where
+  by_row : (home : Home) (o : Option Bucket) → w.rows.homes container ≡ Some home → rows_of w.state.root 1 home.name ≡ o → is_some (with_id o container) ≡ true → StandsIn w container
+  by_row home None made kept none = cc
+  by_row home (Some r) made kept some =
+      elim (r.id == container) as (λ b. (r.id == container) ≡ b → is_some (cond b (Some r) None) ≡ true → StandsIn w container) [
+        | true ↦ λ same here. record { home = home; made = made; row = r; kept = kept; id_is = number_same r.id container same }
+        | false ↦ λ other none. absurd cc
+      ] refl some
+
+  by_home : (o : Option Home) → w.rows.homes container ≡ o → is_some (row_at_home o w.state 1 container) ≡ true → StandsIn w container
+  by_home None made none = cc
+  by_home (Some home) made some = by_row home (rows_of w.state.root 1 home.name) made refl some
+
+pub standing_of : (w : World) (container : ℕ) → StandsIn w container → is_standing w.rows w.state container ≡ true
+standing_of w container s =
+    ap (λ o. is_some (row_at_home o w.state 1 container)) s.made
+    ∙ ap (λ o. is_some (with_id o container)) s.kept
+    ∙ ap (λ c. is_some (cond (c == container) (Some s.row) None)) s.id_is
+    ∙ ap (λ b. is_some (cond b (Some s.row) None)) (number_itself container)
+
+-- and the row in zone 1 says that it stands
+pub stands_by_row : (w : World) (container : ℕ) (row : Bucket) → row_in w.rows w.state 1 container ≡ Some row → is_standing w.rows w.state container ≡ true
+stands_by_row w container row is = ap (λ o. is_some o) is
+
 no_tag_left : (tags : List Tag) (tag : ℕ) → (length tags == 0) ≡ true → has_tag tag tags ≡ true → ⊥
 no_tag_left [] tag none has = cc
 no_tag_left (t ∷ ts) tag none has = let zero = number_same (length (t ∷ ts)) 0 none in omega (arith, zero)
 
 module _ (settings : SettingsView) (history : List Event) (zone container : ℕ) (name : List ℕ) (row : Bucket) (good : IsSettings settings) (legal : Legal settings history)
-    (is : row_in (world_of settings history).rows (state_of settings history) zone container ≡ Some row) (settled : is_settled (entry_of_name (state_of settings history) zone row name) ≡ true) where
+    (is : row_in (world_of settings history).rows (state_of settings history) zone container ≡ Some row) (stands : is_standing (world_of settings history).rows (state_of settings history) container ≡ true) (settled : is_settled (entry_of_name (state_of settings history) zone row name) ≡ true) where
   abbrev w : World
   w = world_of settings history
 
@@ -101,7 +134,7 @@ module _ (settings : SettingsView) (history : List Event) (zone container : ℕ)
       let n = (j.rows_stand.kept zone (r.home).name row r.kept).named in
       let key = key_of_name row name in
       let placed : IsPlaced w.rows.instances zone key name = record { instance = n.instance; placed = n.placed; key_is = ap (λ count. shard_key row.id row.instance (shard_of name count)) (sym n.shards_are) } in
-      let a = j.agreements zone key name placed in
+      let a = j.agreements zone key name placed (subst (StandsIn w) (sym r.id_is) (stands_of w container stands)) in
       let slot : slot_at (heads history zone container) name ≡ (w.state.heads zone (head_key row.id name)).slot =
       heads_agree settings history legal zone container name ∙ ap (λ c. (w.state.heads zone (head_key c name)).slot) (sym r.id_is) in
       ⊎_elim (λ l. absurd (no_tag_left (entry_of_name w.state zone row name).tags l.tag settled l.there)) (λ s. s.0 ∙ ap row_of (sym slot)) a.agree
@@ -126,36 +159,24 @@ module _ (settings : SettingsView) (history : List Event) (zone container : ℕ)
   live_is (Live new stamp) = refl
   live_is (Mark stamp) = refl
 
-  found_live : (o : Option EntryView) (slot : SeenSlot) → ((e : EntryView) → o ≡ Some e → IsHeld e) → is_settled (entry_of o) ≡ true → Shows (entry_of o) slot → is_some o ≡ is_live slot
+  found_live : (o : Option EntryView) (slot : SeenSlot) → ((e : EntryView) → o ≡ Some e → IsHeld name e) → is_settled (entry_of o) ≡ true → Shows (entry_of o) slot → is_some o ≡ is_live slot
   found_live None slot held none shows = ap (λ (r : RowView). r.exists) shows ∙ live_is slot
   found_live (Some e) slot held none shows = sym (kept_exists e.row.exists e.tags (held e refl).kept none) ∙ ap (λ (r : RowView). r.exists) shows ∙ live_is slot
 
-  in_shard : (o : Option Shard) (slot : SeenSlot) → ((s : Shard) → o ≡ Some s → IsServing s) → is_settled (entry_in o name) ≡ true → Shows (entry_in o name) slot → is_some (found_in o name) ≡ is_live slot
+  in_shard : (o : Option Shard) (slot : SeenSlot) → ((s : Shard) → o ≡ Some s → HoldsEntries s) → is_settled (entry_in o name) ≡ true → Shows (entry_in o name) slot → is_some (found_in o name) ≡ is_live slot
   in_shard None slot serving none shows = found_live None slot (λ e is. absurd cc) none shows
-  in_shard (Some s) slot serving none shows = found_live (at s.entries name) slot ((serving s refl).held name) none shows
+  in_shard (Some s) slot serving none shows = found_live (at s.entries name) slot (serving s refl name) none shows
 
   pub listed : is_some (found_in ((state_of settings history).shards zone (key_of_name row name)) name) ≡ is_live (slot_at (heads history zone container) name)
   listed =
       in_shard ((state_of settings history).shards zone (key_of_name row name)) (slot_at (heads history zone container) name)
-      ((shards_serve settings history legal).serving zone (key_of_name row name)) settled shown
+      ((shards_serve settings history legal).held zone (key_of_name row name)) settled shown
 
   pub counted : object_count (entry_of_name (state_of settings history) zone row name) ≡ live_count (slot_at (heads history zone container) name)
   counted = counted_as (slot_at (heads history zone container) name) (entry_of_name (state_of settings history) zone row name) shown
 
   pub sized : byte_count (entry_of_name (state_of settings history) zone row name) ≡ live_bytes (slot_at (heads history zone container) name)
   sized = sized_as (slot_at (heads history zone container) name) (entry_of_name (state_of settings history) zone row name) shown
-
--- ---- the shards of a row
-
-pub row_shards_serve : (settings : SettingsView) (history : List Event) (zone container shard : ℕ) (row : Bucket) → Legal settings history → row_in (world_of settings history).rows (state_of settings history) zone container ≡ Some row → shard < row.shards
-    → IsSomeAnd ((state_of settings history).shards zone (shard_key container row.instance shard)) IsServing
-row_shards_serve settings history zone container shard row legal is less =
-    let w = world_of settings history in
-    let j = shards_serve settings history legal in
-    let r = row_is_of w zone container row is in
-    let m = j.of_rows zone (r.home).name row shard r.kept less in
-    let there : w.state.shards zone (shard_key container row.instance shard) ≡ Some m.shard = ap (λ c. w.state.shards zone (shard_key c row.instance shard)) (sym r.id_is) ∙ m.there in
-    subst (λ o. IsSomeAnd o IsServing) (sym there) (j.serving zone (shard_key container row.instance shard) m.shard there)
 
 -- ---- statistics
 

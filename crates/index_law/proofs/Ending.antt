@@ -20,7 +20,7 @@ use Rattle.realm_model.specs.States.{clock_at, put_in}
 use Rattle.realm_model.specs.Worlds.{World, put_actor, ended_note}
 use Rattle.realm_model.specs.declared.op.Op.{Op}
 use Rattle.realm_model.specs.declared.event.Reply.TheVariants.{Done}
-use Rattle.index_law.specs.Tables.{entries_of, heads_of, rows_of, Notes, changes_of, change_in, IsPlaced}
+use Rattle.index_law.specs.Tables.{entries_of, heads_of, rows_of, Notes, changes_of, change_in, IsPlaced, StandsIn}
 use Rattle.index_law.specs.Tags.{IsNoted}
 use Rattle.index_law.specs.Agreements.{Agreement}
 use Rattle.index_law.specs.Invariants.{Index, IndexHolds}
@@ -37,6 +37,7 @@ use Rattle.index_law.proofs.Events.{clock_rises, count_rises, changes_calm, entr
 module _ (w : World) (j : IndexHolds w) (me : ActorId) (moment : ℕ) (op : Op) (zone : ℕ) (key : Key) (name : List ℕ) (s : Shard) (as_before : (n : List ℕ) → entry_at s n ≡ entry_in (w.state.shards zone key) n)
     (tag : ℕ) (o : OwnsTag (w.phases me) zone name tag) (has : has_tag tag (entries_of w.state.shards zone key name).tags ≡ true)
     (rows : (learnt (w.phases me) op Done (w.state.count + 1) (clock_at w.state.clock moment)).rows ≡ (w.phases me).rows)
+    (work : (learnt (w.phases me) op Done (w.state.count + 1) (clock_at w.state.clock moment)).work ≡ (w.phases me).work)
     (seen : (learnt (w.phases me) op Done (w.state.count + 1) (clock_at w.state.clock moment)).seen ≡ (w.phases me).seen)
     (is_over : (learnt (w.phases me) op Done (w.state.count + 1) (clock_at w.state.clock moment)).tag ≡ at_stage (w.phases me).tag over) where
   abbrev number : ℕ
@@ -66,7 +67,7 @@ module _ (w : World) (j : IndexHolds w) (me : ActorId) (moment : ℕ) (op : Op) 
 
   -- an entry without the tag: its version is not below what it was, and where the tag is that of the last change, not below
   -- what was read before it
-  ended : (e : EntryView) → e.tags ≡ without_tag tag before.tags → e.revision ≡ next before.revision → IsNumbered number (kept_entry e) → (Agreement old head last before → Agreement old head last e) → before.version ≤ e.version
+  ended : (e : EntryView) → e.tags ≡ without_tag tag before.tags → e.revision ≡ next before.revision → IsNumbered number (kept_entry e) → (StandsIn w (container_of key) → Agreement old head last before → Agreement old head last e) → before.version ≤ e.version
       → ((version : ℕ) → version < head.version → last ≡ Some tag → version ≤ e.version) → Left e
   ended e tags_are revision_is numbered agrees rises mine =
       let calm = calm_ended w.index.tags tag in
@@ -84,21 +85,21 @@ module _ (w : World) (j : IndexHolds w) (me : ActorId) (moment : ℕ) (op : Op) 
       (λ q note is still early h. kept_has e q (others q (open_is_other w.index.tags tag q note is still) h)))
       (changes_calm w.index.tags tags (heads_of w.state.heads) w.index.last calm j.changes) agrees
       (λ x is.
-      safe_changed w.state.count w.state.clock number now w.index.tags tags head last before e x (count_rises w j me moment op Done) (clock_rises w j me moment op Done) calm.keeps (fewer (is_due x.moment))
-      (λ version l note above last_is there late has_l.
+      safe_changed (StandsIn w (container_of key)) w.state.count w.state.clock number now w.index.tags tags head last before e x (count_rises w j me moment op Done) (clock_rises w j me moment op Done) calm.keeps (fewer (is_due x.moment))
+      (λ stands version l note above last_is there late has_l.
       elim (ℕ_discrete l tag) [
         | yes same ↦ inr (mine version above (last_is ∙ ap (λ n. Some n) same))
         | no n ↦ ⊎_elim (λ h. inl (others l n h)) (λ v. inr (omega (arith, v, rises))) has_l
       ]) is)
       (λ x past room was due. let below = (j.numbers.entries_below zone key name).1 in
       stays_changed w.state.count before e x (omega (arith, room)) below (revision_is ∙ next_is w.state.count before.revision below room) (fewer (is_due x.moment)) was due)
-      rows seen where
-        was_open : Calm w.index.tags tags → (q : ℕ) (note : TagNote) → tags q ≡ Some note → note.ended ≡ false → now < note.deadline → (z : ℕ) (k : Key) (n : List ℕ) → note.zone ≡ z → note.key ≡ k → note.name ≡ n → has_tag q (entries_of w.state.shards z k n).tags ≡ true
-        was_open calm q note is still early z k n a b c =
+      rows work seen where
+        was_open : Calm w.index.tags tags → (q : ℕ) (note : TagNote) → tags q ≡ Some note → StandsIn w (container_of note.key) → note.ended ≡ false → now < note.deadline → (z : ℕ) (k : Key) (n : List ℕ) → note.zone ≡ z → note.key ≡ k → note.name ≡ n → has_tag q (entries_of w.state.shards z k n).tags ≡ true
+        was_open calm q note is stands still early z k n a b c =
             let x = calm.back q note is in
             let deadline = x.same.deadline in
             let rises = clock_rises w j me moment op Done in
-            let there = at_place (λ z k n. has_tag q (entries_of w.state.shards z k n).tags ≡ true) x.note note x.same (j.open_tags q x.note x.there (x.still_open still) (omega (arith, early, deadline, rises))) in
+            let there = at_place (λ z k n. has_tag q (entries_of w.state.shards z k n).tags ≡ true) x.note note x.same (j.open_tags q x.note x.there (subst (λ k. StandsIn w (container_of k)) (x.same).key stands) (x.still_open still) (omega (arith, early, deadline, rises))) in
             subst (λ z. has_tag q (entries_of w.state.shards z k n).tags ≡ true) a (subst (λ k. has_tag q (entries_of w.state.shards note.zone k n).tags ≡ true) b (subst (λ n. has_tag q (entries_of w.state.shards note.zone note.key n).tags ≡ true) c there))
 
   -- ---- a cancel
@@ -109,7 +110,7 @@ module _ (w : World) (j : IndexHolds w) (me : ActorId) (moment : ℕ) (op : Op) 
       let no_change : old tag ≡ None = ap change_in (ap w.index.tags (sym o.tag_is) ∙ own.there) ∙ own.change_is ∙ none in
       let not_last : (l : ℕ) → last ≡ Some l → l ≢ tag = λ l last_is same. let c = last_changed w j zone key name l last_is in let bad = ap old (sym same) ∙ c.1 in cc in
       ended (with_tags before (without_tag tag before.tags)) refl refl (tags_numbered w.state.count before (without_tag tag before.tags) (j.numbers.entries_below zone key name))
-      (cancel_agrees old head last before tag not_last) (omega arith) (λ version above last_is. absurd (not_last tag last_is refl))
+      (λ stands. cancel_agrees old head last before tag not_last) (omega arith) (λ version above last_is. absurd (not_last tag last_is refl))
 
   -- ---- a completion
 
@@ -124,5 +125,5 @@ module _ (w : World) (j : IndexHolds w) (me : ActorId) (moment : ℕ) (op : Op) 
       let both = not_below version before.version in
       ended (stored_if_newer (with_tags before (without_tag tag before.tags)) version row) refl refl
       (stored_numbered w.state.count before (without_tag tag before.tags) version row (omega (arith, not_above, most)) (j.numbers.entries_below zone key name))
-      (complete_agrees old head last before tag version row has made below.positive not_above below.same_row (told_below w j zone key name) mine) both.1
+      (λ stands. complete_agrees old head last before tag version row has made below.positive not_above below.same_row (told_below w j zone key name) mine) both.1
       (λ v above last_is. let at_head = mine last_is in let high = both.0 in omega (arith, above, at_head, high))

@@ -225,30 +225,30 @@ safe_still tags tags' h last e e' moment read keeps stays (inr l) =
     })
 
 -- an entry that changed: no tag is due that was not, and what made a suggestion safe stays
-pub safe_changed : (count clock count' clock' : ℕ) (tags tags' : Notes) (h : Head) (last : Option ℕ) (e e' : EntryView) (s : Sighting) → count ≤ count' → clock ≤ clock' → Keeps tags tags'
+pub safe_changed : (S : Type 0) (count clock count' clock' : ℕ) (tags tags' : Notes) (h : Head) (last : Option ℕ) (e e' : EntryView) (s : Sighting) → count ≤ count' → clock ≤ clock' → Keeps tags tags'
     → (has_due s.moment e'.tags ≡ true → has_due s.moment e.tags ≡ true)
-    → ((version tag : ℕ) (note : TagNote) → version < h.version → last ≡ Some tag → tags tag ≡ Some note → s.moment < note.deadline → (has_tag tag e.tags ≡ true) ⊎ (version ≤ e.version) → (has_tag tag e'.tags ≡ true) ⊎ (version ≤ e'.version))
-    → IsSafe count clock tags h last e s → IsSafe count' clock' tags' h last (kept_entry e') s
-safe_changed count clock count' clock' tags tags' h last e e' s more later keeps due stays is =
+    → (S → (version tag : ℕ) (note : TagNote) → version < h.version → last ≡ Some tag → tags tag ≡ Some note → s.moment < note.deadline → (has_tag tag e.tags ≡ true) ⊎ (version ≤ e.version) → (has_tag tag e'.tags ≡ true) ⊎ (version ≤ e'.version))
+    → IsSafe S count clock tags h last e s → IsSafe S count' clock' tags' h last (kept_entry e') s
+safe_changed S count clock count' clock' tags tags' h last e e' s more later keeps due stay is =
     let past = is.past in
     record {
       past = omega (arith, past, later);
       read_below = λ read there. let under = is.read_below read there in omega (arith, under, more);
-      safe = λ was read there.
+      safe = λ stands was read there.
           let kept = kept_due e' s.moment was in
-          let before = is.safe (due (subst (λ x. has_due s.moment x.tags ≡ true) kept was)) read there in
-          subst (λ x. Still h read ⊎ Later tags' h last x s.moment read.version) (sym kept) (safe_still tags tags' h last e e' s.moment read keeps stays before);
+          let before = is.safe stands (due (subst (λ x. has_due s.moment x.tags ≡ true) kept was)) read there in
+          subst (λ x. Still h read ⊎ Later tags' h last x s.moment read.version) (sym kept) (safe_still tags tags' h last e e' s.moment read keeps (stay stands) before);
     }
 
 -- and an entry that did not
-pub safe_same : (count clock count' clock' : ℕ) (tags tags' : Notes) (h : Head) (last : Option ℕ) (e : EntryView) (s : Sighting) → count ≤ count' → clock ≤ clock' → Keeps tags tags'
-    → IsSafe count clock tags h last e s → IsSafe count' clock' tags' h last e s
-safe_same count clock count' clock' tags tags' h last e s more later keeps is =
+pub safe_same : (S : Type 0) (count clock count' clock' : ℕ) (tags tags' : Notes) (h : Head) (last : Option ℕ) (e : EntryView) (s : Sighting) → count ≤ count' → clock ≤ clock' → Keeps tags tags'
+    → IsSafe S count clock tags h last e s → IsSafe S count' clock' tags' h last e s
+safe_same S count clock count' clock' tags tags' h last e s more later keeps is =
     let past = is.past in
     record {
       past = omega (arith, past, later);
       read_below = λ read there. let under = is.read_below read there in omega (arith, under, more);
-      safe = λ was read there. safe_still tags tags' h last e e s.moment read keeps (λ version tag note above last_is noted late stays. stays) (is.safe was read there);
+      safe = λ stands was read there. safe_still tags tags' h last e e s.moment read keeps (λ version tag note above last_is noted late stays. stays) (is.safe stands was read there);
     }
 
 -- the revision of an entry that changed is above all that was seen of it

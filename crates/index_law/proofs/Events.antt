@@ -3,7 +3,6 @@ use Rattle.std.proofs.Common.{◌≡◌, ◌⊎◌, inr, ℕ, ◌+◌, ◌<◌, 
 use Rattle.std.specs.List.{AllByRecursion}
 use Rattle.rgw_types.specs.declared.pool_key.Key.{Key}
 use Rattle.object_words.specs.Keys.{put, container_of}
-use Rattle.object_words.specs.Names.{entries as names_of}
 use Rattle.object_words.specs.Tags.{has_tag, has_due}
 use Rattle.object_words.specs.Entries.{EntryView, no_entry}
 use Rattle.object_words.specs.Shards.{Shard, entry_at, with_entry}
@@ -16,9 +15,9 @@ use Rattle.realm_model.specs.Worlds.{World, same_actor, put_actor}
 use Rattle.realm_model.specs.declared.op.Op.{Op}
 use Rattle.realm_model.specs.declared.event.Reply.{Reply}
 use Rattle.realm_model.proofs.ObjectLemmas.{put_actor_cases}
-use Rattle.index_law.specs.Tables.{Entries, entries_of, Heads, heads_of, rows_of, Notes, Lasts, changes_of, IsPlaced}
+use Rattle.index_law.specs.Tables.{Entries, entries_of, Heads, heads_of, rows_of, Notes, Lasts, changes_of, IsPlaced, StandsIn}
 use Rattle.index_law.specs.Numbers.{IsNumbered}
-use Rattle.index_law.specs.Rows.{ReadIsNamed}
+use Rattle.index_law.specs.Rows.{Knows}
 use Rattle.index_law.specs.Tags.{IsNoted, IsOwn, TagsOfPrepare, OpenTags}
 use Rattle.index_law.specs.Changes.{IsBelow, ChangesBelow}
 use Rattle.index_law.specs.Agreements.{Agreement, Agreements}
@@ -28,7 +27,7 @@ use Rattle.index_law.specs.Invariants.{Index, IndexHolds}
 use Rattle.index_law.proofs.Puts.{kept_entry, entry_cases, phase_cases}
 use Rattle.index_law.proofs.NoteLemmas.{Keeps, noted_more, all_map, Calm, at_place, change_stays}
 use Rattle.index_law.proofs.NumberLaws.{entries_more, heads_more, tags_more, homes_more, instances_more, numbers_after}
-use Rattle.index_law.proofs.RowLaws.{rows_stay}
+use Rattle.index_law.proofs.RowLaws.{knows_same, rows_stay}
 use Rattle.index_law.proofs.EntryLaws.{kept_all, kept_agrees, safe_same}
 
 -- ---- notes that keep their changes
@@ -82,13 +81,13 @@ module _ (w : World) (j : IndexHolds w) (me : ActorId) (moment : ℕ) (op : Op) 
 
   -- what holds of a sighting after the event
   pub record Sees (tags : Notes) (entries : Entries) (zone : ℕ) (key : Key) (name : List ℕ) (s : Sighting) : Type 0 where
-    pub safe : IsSafe number now tags (heads_of w.state.heads zone (container_of key) name) (w.index.last zone (container_of key) name) (entries zone key name) s
+    pub safe : IsSafe (StandsIn w (container_of key)) number now tags (heads_of w.state.heads zone (container_of key) name) (w.index.last zone (container_of key) name) (entries zone key name) s
     pub stays : number < 2 ^ 62 → has_due s.moment (entries zone key name).tags ≡ true → StaysTrue (entries zone key name) s
 
   -- a sighting of an entry that did not change
   pub sees_same : (tags : Notes) → Keeps w.index.tags tags → (a : ActorId) (zone : ℕ) (key : Key) (name : List ℕ) (s : Sighting) → (w.phases a).seen zone key name ≡ Some s → Sees tags (entries_of w.state.shards) zone key name s
   sees_same tags keeps a zone key name s is = record {
-    safe = safe_same w.state.count w.state.clock number now w.index.tags tags (heads_of w.state.heads zone (container_of key) name) (w.index.last zone (container_of key) name) (entries_of w.state.shards zone key name) s count_rises clock_rises keeps (j.sights a zone key name s is);
+    safe = safe_same (StandsIn w (container_of key)) w.state.count w.state.clock number now w.index.tags tags (heads_of w.state.heads zone (container_of key) name) (w.index.last zone (container_of key) name) (entries_of w.state.shards zone key name) s count_rises clock_rises keeps (j.sights a zone key name s is);
     stays = λ room due. j.reads a zone key name s is (omega (arith, room)) due;
   }
 
@@ -96,11 +95,11 @@ module _ (w : World) (j : IndexHolds w) (me : ActorId) (moment : ℕ) (op : Op) 
   module _ (tags : Notes) (entries : Entries)
       (entries_below : (zone : ℕ) (key : Key) (name : List ℕ) → IsNumbered number (entries zone key name))
       (tags_below : (tag : ℕ) (note : TagNote) → tags tag ≡ Some note → tag ≤ number)
-      (rows : (zone : ℕ) → AllByRecursion (ReadIsNamed w.rows.homes w.rows.instances zone) (names_of (phase.rows zone)))
+      (knows : Knows number w.rows.homes w.rows.instances (rows_of w.state.root) phase)
       (tags_of_prepare : TagsOfPrepare tags w.rows.instances entries phases)
-      (open_tags : OpenTags now tags entries)
+      (open_tags : OpenTags (StandsIn w) now tags entries)
       (changes : ChangesBelow tags (heads_of w.state.heads) w.index.last)
-      (agreements : Agreements (changes_of tags) w.rows.instances entries (heads_of w.state.heads) w.index.last)
+      (agreements : Agreements (StandsIn w) (changes_of tags) w.rows.instances entries (heads_of w.state.heads) w.index.last)
       (mine : (zone : ℕ) (key : Key) (name : List ℕ) (s : Sighting) → phase.seen zone key name ≡ Some s → Sees tags entries zone key name s)
       (others : (a : ActorId) (zone : ℕ) (key : Key) (name : List ℕ) (s : Sighting) → (w.phases a).seen zone key name ≡ Some s → Sees tags entries zone key name s) where
     sees : (a : ActorId) (zone : ℕ) (key : Key) (name : List ℕ) (s : Sighting) → (phases a).seen zone key name ≡ Some s → Sees tags entries zone key name s
@@ -110,7 +109,7 @@ module _ (w : World) (j : IndexHolds w) (me : ActorId) (moment : ℕ) (op : Op) 
     pub index_after : Index number now entries (heads_of w.state.heads) (rows_of w.state.root) tags w.index.last w.rows.homes w.rows.instances (put w.stripes.by number me) phases
     index_after = record {
       numbers = numbers_after w j moment me op reply entries (heads_of w.state.heads) tags w.rows.homes w.rows.instances entries_below (heads_more w j moment) tags_below (homes_more w j moment) (instances_more w j moment);
-      rows_stand = rows_stay w j me moment op reply rows;
+      rows_stand = rows_stay w j me moment op reply knows;
       tags_of_prepare = tags_of_prepare;
       open_tags = open_tags;
       changes = changes;
@@ -123,28 +122,28 @@ module _ (w : World) (j : IndexHolds w) (me : ActorId) (moment : ℕ) (op : Op) 
 
   -- no object changed, and each note keeps its change
   pub quiet : (tags : Notes) → Calm w.index.tags tags
-      → ((zone : ℕ) → AllByRecursion (ReadIsNamed w.rows.homes w.rows.instances zone) (names_of (phase.rows zone)))
+      → Knows number w.rows.homes w.rows.instances (rows_of w.state.root) phase
       → ((t : OwnTag) → phase.tag ≡ Some t → IsOwn tags me t)
       → ((a : ActorId) (t : OwnTag) → same_actor a me ≡ false → (w.phases a).tag ≡ Some t → IsOwn tags a t)
       → ((zone : ℕ) (key : Key) (name : List ℕ) (s : Sighting) → phase.seen zone key name ≡ Some s → Sees tags (entries_of w.state.shards) zone key name s)
       → Index number now (entries_of w.state.shards) (heads_of w.state.heads) (rows_of w.state.root) tags w.index.last w.rows.homes w.rows.instances (put w.stripes.by number me) phases
-  quiet tags calm rows own own_others mine =
+  quiet tags calm knows own own_others mine =
       let t = j.tags_of_prepare in
       index_after tags (entries_of w.state.shards) (entries_more w j moment)
-      (λ tag note is. let b = calm.back tag note is in tags_more w j moment tag b.note b.there) rows
+      (λ tag note is. let b = calm.back tag note is in tags_more w j moment tag b.note b.there) knows
       (record {
         in_entries = λ zone key name. all_map _ _ (λ x. noted_more w.index.tags tags calm.keeps zone key name x) _ (t.in_entries zone key name);
         placed = λ tag note is. let b = calm.back tag note is in at_place (IsPlaced w.rows.instances) b.note note b.same (t.placed tag b.note b.there);
         held = t.held;
         own = phase_cases (λ a p. (x : OwnTag) → p.tag ≡ Some x → IsOwn tags a x) w.phases me phase own (λ a apart x is. own_others a x apart is);
       })
-      (λ tag note is still early.
+      (λ tag note is stands still early.
       let b = calm.back tag note is in
       let deadline = b.same.deadline in
       let rises = clock_rises in
-      at_place (λ z k n. has_tag tag (entries_of w.state.shards z k n).tags ≡ true) b.note note b.same (j.open_tags tag b.note b.there (b.still_open still) (omega (arith, early, deadline, rises))))
+      at_place (λ z k n. has_tag tag (entries_of w.state.shards z k n).tags ≡ true) b.note note b.same (j.open_tags tag b.note b.there (subst (λ k. StandsIn w (container_of k)) (b.same).key stands) (b.still_open still) (omega (arith, early, deadline, rises))))
       (changes_calm w.index.tags tags (heads_of w.state.heads) w.index.last calm j.changes)
-      (subst (λ c. Agreements c w.rows.instances (entries_of w.state.shards) (heads_of w.state.heads) w.index.last) (sym calm.changes) j.agreements)
+      (subst (λ c. Agreements (StandsIn w) c w.rows.instances (entries_of w.state.shards) (heads_of w.state.heads) w.index.last) (sym calm.changes) j.agreements)
       mine (λ a zone key name s is. sees_same tags calm.keeps a zone key name s is)
 
   -- ---- one entry changed
@@ -168,26 +167,26 @@ module _ (w : World) (j : IndexHolds w) (me : ActorId) (moment : ℕ) (op : Op) 
         → ((tag : ℕ) (note : TagNote) → tags tag ≡ Some note → IsPlaced w.rows.instances note.zone note.key note.name)
         → ((t : OwnTag) → phase.tag ≡ Some t → IsOwn tags me t)
         → ((a : ActorId) (t : OwnTag) → same_actor a me ≡ false → (w.phases a).tag ≡ Some t → IsOwn tags a t)
-        → OpenTags now tags entries_now
+        → OpenTags (StandsIn w) now tags entries_now
         → ChangesBelow tags (heads_of w.state.heads) w.index.last
-        → (Agreement (changes_of w.index.tags) (heads_of w.state.heads zone (container_of key) name) (w.index.last zone (container_of key) name) before → Agreement (changes_of w.index.tags) (heads_of w.state.heads zone (container_of key) name) (w.index.last zone (container_of key) name) e)
-        → ((x : Sighting) → IsSafe w.state.count w.state.clock w.index.tags (heads_of w.state.heads zone (container_of key) name) (w.index.last zone (container_of key) name) before x → IsSafe number now tags (heads_of w.state.heads zone (container_of key) name) (w.index.last zone (container_of key) name) (kept_entry e) x)
+        → (StandsIn w (container_of key) → Agreement (changes_of w.index.tags) (heads_of w.state.heads zone (container_of key) name) (w.index.last zone (container_of key) name) before → Agreement (changes_of w.index.tags) (heads_of w.state.heads zone (container_of key) name) (w.index.last zone (container_of key) name) e)
+        → ((x : Sighting) → IsSafe (StandsIn w (container_of key)) w.state.count w.state.clock w.index.tags (heads_of w.state.heads zone (container_of key) name) (w.index.last zone (container_of key) name) before x → IsSafe (StandsIn w (container_of key)) number now tags (heads_of w.state.heads zone (container_of key) name) (w.index.last zone (container_of key) name) (kept_entry e) x)
         → ((x : Sighting) → x.moment ≤ w.state.clock → number < 2 ^ 62 → (has_due x.moment before.tags ≡ true → StaysTrue before x) → has_due x.moment (kept_entry e).tags ≡ true → StaysTrue (kept_entry e) x)
-        → phase.rows ≡ (w.phases me).rows → phase.seen ≡ (w.phases me).seen
+        → phase.rows ≡ (w.phases me).rows → phase.work ≡ (w.phases me).work → phase.seen ≡ (w.phases me).seen
         → Index number now entries_now (heads_of w.state.heads) (rows_of w.state.root) tags w.index.last w.rows.homes w.rows.instances (put w.stripes.by number me) phases
-    entry_changed numbered noted tags_below placed own own_others open_tags changes agrees safe stays same_rows same_seen =
+    entry_changed numbered noted tags_below placed own own_others open_tags changes agrees safe stays same_rows same_work same_seen =
         let t = j.tags_of_prepare in
         let sees_now : (a : ActorId) (z : ℕ) (k : Key) (n : List ℕ) (x : Sighting) → (w.phases a).seen z k n ≡ Some x → Sees tags entries_now z k n x =
         λ a z k n x is.
         record {
-          safe = cases (λ y q m v. (w.phases a).seen y q m ≡ Some x → IsSafe number now tags (heads_of w.state.heads y (container_of q) m) (w.index.last y (container_of q) m) v x)
+          safe = cases (λ y q m v. (w.phases a).seen y q m ≡ Some x → IsSafe (StandsIn w (container_of q)) number now tags (heads_of w.state.heads y (container_of q) m) (w.index.last y (container_of q) m) v x)
               (λ seen. safe x (j.sights a zone key name x seen)) (λ y q m seen. (sees_same tags keeps a y q m x seen).safe) z k n is;
           stays = λ room. cases (λ y q m v. (w.phases a).seen y q m ≡ Some x → has_due x.moment v.tags ≡ true → StaysTrue v x)
               (λ seen. stays x (j.sights a zone key name x seen).past room (λ due. j.reads a zone key name x seen (omega (arith, room)) due)) (λ y q m seen. (sees_same tags keeps a y q m x seen).stays room) z k n is;
         } in
         index_after tags entries_now
         (cases (λ z k n v. IsNumbered number v) numbered (entries_more w j moment)) tags_below
-        (subst (λ r. (z : ℕ) → AllByRecursion (ReadIsNamed w.rows.homes w.rows.instances z) (names_of (r z))) (sym same_rows) (j.rows_stand.read me))
+        (knows_same w j me moment op reply same_rows same_work)
         (record {
           in_entries = cases (λ z k n v. AllByRecursion (IsNoted tags z k n) v.tags) (kept_all _ e noted) (λ z k n. all_map _ _ (λ x. noted_more w.index.tags tags keeps z k n x) _ (t.in_entries z k n));
           placed = placed;
@@ -195,17 +194,17 @@ module _ (w : World) (j : IndexHolds w) (me : ActorId) (moment : ℕ) (op : Op) 
           own = phase_cases (λ a p. (x : OwnTag) → p.tag ≡ Some x → IsOwn tags a x) w.phases me phase own (λ a apart x is. own_others a x apart is);
         })
         open_tags changes
-        (subst (λ c. Agreements c w.rows.instances entries_now (heads_of w.state.heads) w.index.last) (sym same_changes)
-        (cases (λ z k n v. IsPlaced w.rows.instances z k n → Agreement (changes_of w.index.tags) (heads_of w.state.heads z (container_of k) n) (w.index.last z (container_of k) n) v)
-        (λ p. kept_agrees (changes_of w.index.tags) (heads_of w.state.heads zone (container_of key) name) (w.index.last zone (container_of key) name) e (agrees (j.agreements zone key name p))) j.agreements))
+        (subst (λ c. Agreements (StandsIn w) c w.rows.instances entries_now (heads_of w.state.heads) w.index.last) (sym same_changes)
+        (cases (λ z k n v. IsPlaced w.rows.instances z k n → StandsIn w (container_of k) → Agreement (changes_of w.index.tags) (heads_of w.state.heads z (container_of k) n) (w.index.last z (container_of k) n) v)
+        (λ p stands. kept_agrees (changes_of w.index.tags) (heads_of w.state.heads zone (container_of key) name) (w.index.last zone (container_of key) name) e (agrees stands (j.agreements zone key name p stands))) j.agreements))
         (subst (λ f. (z : ℕ) (k : Key) (n : List ℕ) (x : Sighting) → f z k n ≡ Some x → Sees tags entries_now z k n x) (sym same_seen) (sees_now me))
         sees_now
 
     -- an open tag is in an entry that changed where it is in the new one
-    pub open_changed : ((tag : ℕ) (note : TagNote) → tags tag ≡ Some note → note.ended ≡ false → now < note.deadline → (z : ℕ) (k : Key) (n : List ℕ) → note.zone ≡ z → note.key ≡ k → note.name ≡ n → has_tag tag (entries_of w.state.shards z k n).tags ≡ true)
+    pub open_changed : ((tag : ℕ) (note : TagNote) → tags tag ≡ Some note → StandsIn w (container_of note.key) → note.ended ≡ false → now < note.deadline → (z : ℕ) (k : Key) (n : List ℕ) → note.zone ≡ z → note.key ≡ k → note.name ≡ n → has_tag tag (entries_of w.state.shards z k n).tags ≡ true)
         → ((tag : ℕ) (note : TagNote) → tags tag ≡ Some note → note.ended ≡ false → now < note.deadline → has_tag tag before.tags ≡ true → has_tag tag (kept_entry e).tags ≡ true)
-        → OpenTags now tags entries_now
-    open_changed was stays tag note is still early =
+        → OpenTags (StandsIn w) now tags entries_now
+    open_changed was stays tag note is stands still early =
         cases (λ z k n v. note.zone ≡ z → note.key ≡ k → note.name ≡ n → has_tag tag v.tags ≡ true)
-        (λ a b c. stays tag note is still early (was tag note is still early zone key name a b c))
-        (λ z k n a b c. was tag note is still early z k n a b c) note.zone note.key note.name refl refl refl
+        (λ a b c. stays tag note is still early (was tag note is stands still early zone key name a b c))
+        (λ z k n a b c. was tag note is stands still early z k n a b c) note.zone note.key note.name refl refl refl

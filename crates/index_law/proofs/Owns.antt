@@ -90,16 +90,17 @@ module _ (tags : Notes) (me : ActorId) (tag : Option OwnTag) (own : (t : OwnTag)
     by_tag None n none = cc
     by_tag (Some x) n some = let same : record x { stage = over } ≡ t = cc in subst (λ y. IsOwn tags me y) same (own_fewer tags me x _ (n x refl) refl refl refl refl refl (λ e. cc))
 
-  pub own_tried : (number : ℕ) (t : OwnTag) → with_try tag number ≡ Some t → IsOwn tags me t
-  own_tried number t is = by_tag tag own is where
-    not_open : (stage : Stage) → is_pending (tried_from stage number) ≡ true → is_pending stage ≡ true
+  pub own_tried : (moved : Option ℕ) (t : OwnTag) → with_try tag moved ≡ Some t → IsOwn tags me t
+  own_tried moved t is = by_tag tag own is where
+    not_open : (stage : Stage) → is_pending (tried_from stage moved) ≡ true → is_pending stage ≡ true
     not_open pending e = cc
-    not_open (tried first) e = cc
+    not_open (tried (Some first)) e = cc
+    not_open (tried None) e = cc
     not_open over e = cc
 
-    by_tag : (o : Option OwnTag) → ((x : OwnTag) → o ≡ Some x → IsOwn tags me x) → with_try o number ≡ Some t → IsOwn tags me t
+    by_tag : (o : Option OwnTag) → ((x : OwnTag) → o ≡ Some x → IsOwn tags me x) → with_try o moved ≡ Some t → IsOwn tags me t
     by_tag None n none = cc
-    by_tag (Some x) n some = let same : record x { stage = tried_from x.stage number } ≡ t = cc in subst (λ y. IsOwn tags me y) same (own_fewer tags me x _ (n x refl) refl refl refl refl refl (not_open x.stage))
+    by_tag (Some x) n some = let same : record x { stage = tried_from x.stage moved } ≡ t = cc in subst (λ y. IsOwn tags me y) same (own_fewer tags me x _ (n x refl) refl refl refl refl refl (not_open x.stage))
 
   pub own_announced : (zone : ℕ) (key : Key) (t : OwnTag) → announced tag zone key ≡ Some t → IsOwn tags me t
   own_announced zone key t is = by_tag tag own is where

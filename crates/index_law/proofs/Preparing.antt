@@ -27,8 +27,8 @@ use Rattle.realm_model.specs.declared.op.Op.TheVariants.{Prepare}
 use Rattle.realm_model.specs.declared.event.Reply.{Reply}
 use Rattle.realm_model.specs.declared.event.Reply.TheVariants.{Prepared}
 use Rattle.realm_model.proofs.Computing.{right_of}
-use Rattle.index_law.specs.Tables.{Entries, entries_of, heads_of, rows_of, Notes, changes_of, change_in, IsPlaced}
-use Rattle.index_law.specs.Rows.{ReadIsNamed}
+use Rattle.index_law.specs.Tables.{Entries, entries_of, heads_of, rows_of, Notes, changes_of, change_in, IsPlaced, StandsIn}
+use Rattle.index_law.specs.Rows.{ReadHolds}
 use Rattle.index_law.specs.Tags.{IsNoted, IsOwn, OpenTags}
 use Rattle.index_law.specs.Invariants.{Index, IndexHolds}
 use Rattle.index_law.proofs.TagLists.{find_any, has_with, has_new, due_with, all_with}
@@ -44,9 +44,9 @@ use Rattle.index_law.proofs.Events.{clock_rises, count_rises, changes_kept, entr
 -- a row that was read names the shard, so the name belongs into it
 pub read_places : (w : World) (j : IndexHolds w) (me : ActorId) (zone : ℕ) (key : Key) (name : List ℕ) → has_read ((w.phases me).rows zone) 0 (names_shard key name) ≡ true → IsPlaced w.rows.instances zone key name
 read_places w j me zone key name may =
-    let f = find_any (λ e. nat_lt 0 (e.1).at && is_so (e.1).row (names_shard key name)) (ReadIsNamed w.rows.homes w.rows.instances zone) (names_of ((w.phases me).rows zone)) may (j.rows_stand.read me zone) in
+    let f = find_any (λ e. nat_lt 0 (e.1).at && is_so (e.1).row (names_shard key name)) (ReadHolds w.state.count w.rows.homes w.rows.instances (rows_of w.state.root) zone) (names_of ((w.phases me).rows zone)) may ((j.rows_stand.knows me).reads zone) in
     let r = so ((f.x).1).row (names_shard key name) (right_of (nat_lt 0 ((f.x).1).at) (is_so ((f.x).1).row (names_shard key name)) f.passes) in
-    let n = f.holds r.x r.is in
+    let n = (f.holds.shown r.x r.is).named in
     let row : Bucket = r.x in
     let key_is = same_key (shard_key row.id row.instance (shard_of name row.shards)) key r.passes in
     subst (λ k. IsPlaced w.rows.instances zone k name) key_is
@@ -103,8 +103,8 @@ module _ (settings : SettingsView) (good : IsSettings settings) (w : World) (j :
     none (Some note) n = absurd (n note refl)
 
   -- each open tag is there, the new one too
-  open_now : OpenTags now tags entries_now
-  open_now q note is still early =
+  open_now : OpenTags (StandsIn w) now tags entries_now
+  open_now q note is stands still early =
       ⊎_elim
       (λ same.
       let here = subst (λ v. has_tag number v.tags ≡ true) (sym (entry_here w.state.shards zone key name s e)) (kept_has e number (has_new t before.tags)) in
@@ -112,13 +112,13 @@ module _ (settings : SettingsView) (good : IsSettings settings) (w : World) (j :
       (λ old.
       let rises = clock_rises w j me moment op reply in
       entry_cases (λ z k n v. note.zone ≡ z → note.key ≡ k → note.name ≡ n → has_tag q v.tags ≡ true) w.state.shards zone key name s e as_before
-      (λ a b c. kept_has e q (has_with t q before.tags (moved q note old still early zone key name a b c)))
-      (λ z k n a b c. moved q note old still early z k n a b c) note.zone note.key note.name refl refl refl)
+      (λ a b c. kept_has e q (has_with t q before.tags (moved q note old stands still early zone key name a b c)))
+      (λ z k n a b c. moved q note old stands still early z k n a b c) note.zone note.key note.name refl refl refl)
       (added_back w.index.tags number new q note is) where
-        moved : (q : ℕ) (note : TagNote) → w.index.tags q ≡ Some note → note.ended ≡ false → now < note.deadline → (z : ℕ) (k : Key) (n : List ℕ) → note.zone ≡ z → note.key ≡ k → note.name ≡ n → has_tag q (entries_of w.state.shards z k n).tags ≡ true
-        moved q note is still early z k n a b c =
+        moved : (q : ℕ) (note : TagNote) → w.index.tags q ≡ Some note → StandsIn w (container_of note.key) → note.ended ≡ false → now < note.deadline → (z : ℕ) (k : Key) (n : List ℕ) → note.zone ≡ z → note.key ≡ k → note.name ≡ n → has_tag q (entries_of w.state.shards z k n).tags ≡ true
+        moved q note is stands still early z k n a b c =
             let rises = clock_rises w j me moment op reply in
-            let there = j.open_tags q note is still (omega (arith, early, rises)) in
+            let there = j.open_tags q note is stands still (omega (arith, early, rises)) in
             subst (λ z. has_tag q (entries_of w.state.shards z k n).tags ≡ true) a (subst (λ k. has_tag q (entries_of w.state.shards note.zone k n).tags ≡ true) b (subst (λ n. has_tag q (entries_of w.state.shards note.zone note.key n).tags ≡ true) c there))
 
   own_new : (x : OwnTag) → (learnt (w.phases me) op reply number now).tag ≡ Some x → IsOwn tags me x
@@ -143,12 +143,12 @@ module _ (settings : SettingsView) (good : IsSettings settings) (w : World) (j :
       own_new (λ a x apart is. own_added w.index.tags number new none a x (j.tags_of_prepare.own a x is)) open_now
       (changes_kept w.index.tags tags (heads_of w.state.heads) w.index.last keeps same
       (λ q note change is made. ⊎_elim (λ x. absurd (let no = ap (λ (n : TagNote). n.change) x.1 in cc)) (λ old. j.changes.below q note change old made) (added_back w.index.tags number new q note is)) j.changes)
-      (prepare_agrees (changes_of w.index.tags) head last before t no_change)
+      (λ stands. prepare_agrees (changes_of w.index.tags) head last before t no_change)
       (λ x is. let past = is.past in
-      safe_changed w.state.count w.state.clock number now w.index.tags tags head last before e x (count_rises w j me moment op reply) (clock_rises w j me moment op reply) keeps (due_with t x.moment before.tags (later_than x past))
-      (λ v l note above last_is there later has. ⊎_elim (λ h. inl (has_with t l before.tags h)) (λ high. inr high) has) is)
+      safe_changed (StandsIn w (container_of key)) w.state.count w.state.clock number now w.index.tags tags head last before e x (count_rises w j me moment op reply) (clock_rises w j me moment op reply) keeps (due_with t x.moment before.tags (later_than x past))
+      (λ stands v l note above last_is there later has. ⊎_elim (λ h. inl (has_with t l before.tags h)) (λ high. inr high) has) is)
       (λ x past room was is_due_now. let below = (j.numbers.entries_below zone key name).1 in
       stays_changed w.state.count before e x (omega (arith, room)) below (next_is w.state.count before.revision below room) (due_with t x.moment before.tags (later_than x past)) was is_due_now)
-      refl refl where
+      refl refl refl where
         later_than : (x : Sighting) → x.moment ≤ w.state.clock → x.moment < t.deadline
         later_than x past = let late = not_due in let rises = clock_rises w j me moment op reply in omega (arith, late, rises, past)

@@ -1,13 +1,12 @@
 -- Events that change no entry, no head and no row: reads, refused events, and those on other objects.
 use Rattle.std.proofs.Common.{◌≡◌, ◌⊎◌, inl, ℕ, ◌+◌, ◌==◌, ◌<◌, ◌≤◌, ◌&&◌, true, false, cond, List, Option, Some, None, refl, sym, subst, ap, ◌∙◌, arith}
 use Rattle.std.specs.Prelude.{bytes_eq}
-use Rattle.std.specs.List.{AllByRecursion}
 use Rattle.std.specs.Ordering.{is_lt}
 use Rattle.std.specs.FinMap.Entries.{find}
 use Rattle.rgw_types.specs.declared.pool_key.Key.{Key}
 use Rattle.object_words.specs.declared.why.Why.TheVariants.{Absent, Closed}
 use Rattle.object_words.specs.Keys.{put, container_of, head_key}
-use Rattle.object_words.specs.Names.{name_cmp, at, entries}
+use Rattle.object_words.specs.Names.{name_cmp, at}
 use Rattle.object_words.specs.Tags.{has_due}
 use Rattle.object_words.specs.Entries.{EntryView, entry_of}
 use Rattle.object_words.specs.Heads.{Head, row_of}
@@ -29,7 +28,7 @@ use Rattle.realm_model.specs.declared.event.Reply.TheVariants.{No, Row, Entries,
 use Rattle.realm_model.proofs.Computing.{left_of, right_of}
 use Rattle.realm_model.proofs.ObjectLemmas.{number_same, put_cases, put_in_cases}
 use Rattle.index_law.specs.Tables.{entries_of, heads_of, rows_of, Notes}
-use Rattle.index_law.specs.Rows.{IsNamed, ReadIsNamed}
+use Rattle.index_law.specs.Rows.{Knows}
 use Rattle.index_law.specs.Sights.{Still as StillRead, Later}
 use Rattle.index_law.specs.Tags.{IsOwn}
 use Rattle.index_law.specs.Invariants.{Index, IndexHolds}
@@ -37,7 +36,7 @@ use Rattle.index_law.proofs.Puts.{made_cases}
 use Rattle.index_law.proofs.NameLists.{page_shows}
 use Rattle.index_law.proofs.NoteLemmas.{calm_same, calm_ended}
 use Rattle.index_law.proofs.NumberLaws.{heads_more}
-use Rattle.index_law.proofs.RowLaws.{read_named}
+use Rattle.index_law.proofs.RowLaws.{knows_same, read_named}
 use Rattle.index_law.proofs.Owns.{own_over, own_tried, own_announced, own_ended, own_other}
 use Rattle.index_law.proofs.Tests.{same_text, OwnsTag}
 use Rattle.index_law.proofs.Events.{Sees, sees_same, quiet}
@@ -70,33 +69,33 @@ module _ (w : World) (j : IndexHolds w) (me : ActorId) (moment : ℕ) where
 
   module _ (op : Op) (reply : Reply) where
     -- the tag alone is another
-    tag_learnt : (learns op reply).rows ≡ (w.phases me).rows → (learns op reply).seen ≡ (w.phases me).seen → ((t : OwnTag) → (learns op reply).tag ≡ Some t → IsOwn w.index.tags me t) → Still w me moment op reply w.index.tags
-    tag_learnt rows seen own =
+    tag_learnt : (learns op reply).rows ≡ (w.phases me).rows → (learns op reply).work ≡ (w.phases me).work → (learns op reply).seen ≡ (w.phases me).seen → ((t : OwnTag) → (learns op reply).tag ≡ Some t → IsOwn w.index.tags me t) → Still w me moment op reply w.index.tags
+    tag_learnt rows work seen own =
         quiet w j me moment op reply w.index.tags (calm_same w.index.tags)
-        (subst (λ r. (zone : ℕ) → AllByRecursion (ReadIsNamed w.rows.homes w.rows.instances zone) (entries (r zone))) (sym rows) (j.rows_stand.read me)) own
+        (knows_same w j me moment op reply rows work) own
         (λ a t apart is. j.tags_of_prepare.own a t is)
         (λ zone key name s is. sees_same w j me moment op reply w.index.tags (calm_same w.index.tags).keeps me zone key name s (ap (λ f. f zone key name) (sym seen) ∙ is))
 
-    pub nothing_learnt : (learns op reply).rows ≡ (w.phases me).rows → (learns op reply).seen ≡ (w.phases me).seen → (learns op reply).tag ≡ (w.phases me).tag → Still w me moment op reply w.index.tags
-    nothing_learnt rows seen tag = tag_learnt rows seen (λ t is. j.tags_of_prepare.own me t (sym tag ∙ is))
+    pub nothing_learnt : (learns op reply).rows ≡ (w.phases me).rows → (learns op reply).work ≡ (w.phases me).work → (learns op reply).seen ≡ (w.phases me).seen → (learns op reply).tag ≡ (w.phases me).tag → Still w me moment op reply w.index.tags
+    nothing_learnt rows work seen tag = tag_learnt rows work seen (λ t is. j.tags_of_prepare.own me t (sym tag ∙ is))
 
     -- the tag is over
-    pub tag_over : (learns op reply).rows ≡ (w.phases me).rows → (learns op reply).seen ≡ (w.phases me).seen → (learns op reply).tag ≡ at_stage (w.phases me).tag over → Still w me moment op reply w.index.tags
-    tag_over rows seen tag = tag_learnt rows seen (λ t is. own_over w.index.tags me (w.phases me).tag (j.tags_of_prepare.own me) t (sym tag ∙ is))
+    pub tag_over : (learns op reply).rows ≡ (w.phases me).rows → (learns op reply).work ≡ (w.phases me).work → (learns op reply).seen ≡ (w.phases me).seen → (learns op reply).tag ≡ at_stage (w.phases me).tag over → Still w me moment op reply w.index.tags
+    tag_over rows work seen tag = tag_learnt rows work seen (λ t is. own_over w.index.tags me (w.phases me).tag (j.tags_of_prepare.own me) t (sym tag ∙ is))
 
-    pub tag_tried : (learns op reply).rows ≡ (w.phases me).rows → (learns op reply).seen ≡ (w.phases me).seen → (learns op reply).tag ≡ with_try (w.phases me).tag number → Still w me moment op reply w.index.tags
-    tag_tried rows seen tag = tag_learnt rows seen (λ t is. own_tried w.index.tags me (w.phases me).tag (j.tags_of_prepare.own me) number t (sym tag ∙ is))
+    pub tag_tried : (moved : Option ℕ) → (learns op reply).rows ≡ (w.phases me).rows → (learns op reply).work ≡ (w.phases me).work → (learns op reply).seen ≡ (w.phases me).seen → (learns op reply).tag ≡ with_try (w.phases me).tag moved → Still w me moment op reply w.index.tags
+    tag_tried moved rows work seen tag = tag_learnt rows work seen (λ t is. own_tried w.index.tags me (w.phases me).tag (j.tags_of_prepare.own me) moved t (sym tag ∙ is))
 
-    pub tag_announced : (zone : ℕ) (key : Key) → (learns op reply).rows ≡ (w.phases me).rows → (learns op reply).seen ≡ (w.phases me).seen → (learns op reply).tag ≡ announced (w.phases me).tag zone key → Still w me moment op reply w.index.tags
-    tag_announced zone key rows seen tag = tag_learnt rows seen (λ t is. own_announced w.index.tags me (w.phases me).tag (j.tags_of_prepare.own me) zone key t (sym tag ∙ is))
+    pub tag_announced : (zone : ℕ) (key : Key) → (learns op reply).rows ≡ (w.phases me).rows → (learns op reply).work ≡ (w.phases me).work → (learns op reply).seen ≡ (w.phases me).seen → (learns op reply).tag ≡ announced (w.phases me).tag zone key → Still w me moment op reply w.index.tags
+    tag_announced zone key rows work seen tag = tag_learnt rows work seen (λ t is. own_announced w.index.tags me (w.phases me).tag (j.tags_of_prepare.own me) zone key t (sym tag ∙ is))
 
     -- the tag ended, and nothing else
-    pub tag_ended : (zone : ℕ) (name : List ℕ) (tag : ℕ) → OwnsTag (w.phases me) zone name tag → (learns op reply).rows ≡ (w.phases me).rows → (learns op reply).seen ≡ (w.phases me).seen
+    pub tag_ended : (zone : ℕ) (name : List ℕ) (tag : ℕ) → OwnsTag (w.phases me) zone name tag → (learns op reply).rows ≡ (w.phases me).rows → (learns op reply).work ≡ (w.phases me).work → (learns op reply).seen ≡ (w.phases me).seen
         → (learns op reply).tag ≡ at_stage (w.phases me).tag over → Still w me moment op reply (put w.index.tags tag (ended_note (w.index.tags tag)))
-    tag_ended zone name tag o rows seen is_over =
+    tag_ended zone name tag o rows work seen is_over =
         let n = j.tags_of_prepare.own me o.t o.is in
         quiet w j me moment op reply (put w.index.tags tag (ended_note (w.index.tags tag))) (calm_ended w.index.tags tag)
-        (subst (λ r. (z : ℕ) → AllByRecursion (ReadIsNamed w.rows.homes w.rows.instances z) (entries (r z))) (sym rows) (j.rows_stand.read me))
+        (knows_same w j me moment op reply rows work)
         (λ t is. own_ended w.index.tags me (w.phases me) zone name tag o n t (sym is_over ∙ is))
         (λ a t apart is. own_other ended_note w.index.tags me a tag t n.note (ap w.index.tags (sym o.tag_is) ∙ n.there) n.actor_is apart (j.tags_of_prepare.own a t is))
         (λ z k m s is. sees_same w j me moment op reply (put w.index.tags tag (ended_note (w.index.tags tag))) (calm_ended w.index.tags tag).keeps me z k m s (ap (λ f. f z k m) (sym seen) ∙ is))
@@ -106,12 +105,12 @@ module _ (w : World) (j : IndexHolds w) (me : ActorId) (moment : ℕ) where
   pub bucket_read : (zone : ℕ) (name : List ℕ) → Still w me moment (BucketRead zone name) (row_reply (at (w.state.root zone).buckets name)) w.index.tags
   bucket_read zone name =
       elim (at (w.state.root zone).buckets name) as (λ o. at (w.state.root zone).buckets name ≡ o → Still w me moment (BucketRead zone name) (row_reply o) w.index.tags) [
-        | None ↦ λ is. shown (No Absent) (read_named w j me zone name number None (λ r none. cc))
-        | Some row ↦ λ is. shown (Row row) (read_named w j me zone name number (Some row) (λ r same. let it : row ≡ r = cc in subst (λ x. IsNamed w.rows.homes w.rows.instances zone name x) it (j.rows_stand.kept zone name row is).named))
+        | None ↦ λ is. shown (No Absent) (read_named w j me zone name moment (BucketRead zone name) (No Absent) None is refl refl)
+        | Some row ↦ λ is. shown (Row row) (read_named w j me zone name moment (BucketRead zone name) (Row row) (Some row) is refl refl)
       ] refl where
-        shown : (reply : Reply) → ((z : ℕ) → AllByRecursion (ReadIsNamed w.rows.homes w.rows.instances z) (entries ((learns (BucketRead zone name) reply).rows z))) → Still w me moment (BucketRead zone name) reply w.index.tags
-        shown reply rows =
-            quiet w j me moment (BucketRead zone name) reply w.index.tags (calm_same w.index.tags) rows (j.tags_of_prepare.own me) (λ a t apart is. j.tags_of_prepare.own a t is)
+        shown : (reply : Reply) → Knows number w.rows.homes w.rows.instances (rows_of w.state.root) (learns (BucketRead zone name) reply) → Still w me moment (BucketRead zone name) reply w.index.tags
+        shown reply knows =
+            quiet w j me moment (BucketRead zone name) reply w.index.tags (calm_same w.index.tags) knows (j.tags_of_prepare.own me) (λ a t apart is. j.tags_of_prepare.own a t is)
             (λ z k n s is. sees_same w j me moment (BucketRead zone name) reply w.index.tags (calm_same w.index.tags).keeps me z k n s is)
 
   module _ (zone container : ℕ) (name : List ℕ) where
@@ -152,7 +151,7 @@ module _ (w : World) (j : IndexHolds w) (me : ActorId) (moment : ℕ) where
             safe = record {
               past = old.safe.past;
               read_below = λ read now_read. let it : shown ≡ read = cc in subst (λ r. r.version ≤ number) it bound;
-              safe = λ due read now_read.
+              safe = λ stands due read now_read.
                   let it : shown ≡ read = cc in
                   subst (λ r. StillRead (heads_of w.state.heads zone (container_of key) n) r ⊎ Later w.index.tags (heads_of w.state.heads zone (container_of key) n) (w.index.last zone (container_of key) n) (entries_of w.state.shards zone key n) x.moment r.version) it
                   (subst (λ h. StillRead h shown ⊎ Later w.index.tags h (w.index.last zone (container_of key) n) (entries_of w.state.shards zone key n) x.moment shown.version) (sym here) (inl (record { row_is = refl; version_is = version_is })));
@@ -162,7 +161,7 @@ module _ (w : World) (j : IndexHolds w) (me : ActorId) (moment : ℕ) where
 
     pub head_shown : Still w me moment reading answer w.index.tags
     head_shown =
-        quiet w j me moment reading answer w.index.tags (calm_same w.index.tags) (j.rows_stand.read me) (j.tags_of_prepare.own me) (λ a t apart is. j.tags_of_prepare.own a t is)
+        quiet w j me moment reading answer w.index.tags (calm_same w.index.tags) (knows_same w j me moment reading answer refl refl) (j.tags_of_prepare.own me) (λ a t apart is. j.tags_of_prepare.own a t is)
         (put_cases (λ z f. (k : Key) (n : List ℕ) (s : Sighting) → f k n ≡ Some s → Sees w j me moment reading answer w.index.tags (entries_of w.state.shards) z k n s) (w.phases me).seen zone _
         (λ k n s.
         elim (container_of k == container && bytes_eq n name) as (λ b. (container_of k == container && bytes_eq n name) ≡ b → cond b (with_head shown ((w.phases me).seen zone k n)) ((w.phases me).seen zone k n) ≡ Some s → Sees w j me moment reading answer w.index.tags (entries_of w.state.shards) zone k n s) [
@@ -184,7 +183,7 @@ module _ (w : World) (j : IndexHolds w) (me : ActorId) (moment : ℕ) where
       sees_new n e is =
           let here : entries_of w.state.shards zone key n ≡ e = ap (λ x. entry_in x n) there ∙ ap entry_of is in
           record {
-            safe = record { past = omega arith; read_below = λ read none. absurd cc; safe = λ due read none. absurd cc };
+            safe = record { past = omega arith; read_below = λ read none. absurd cc; safe = λ stands due read none. absurd cc };
             stays = λ room due. record { not_below = let revision = ap (λ (x : EntryView). x.revision) here in omega (arith, revision); unchanged = λ same. here };
           }
 
@@ -206,7 +205,7 @@ module _ (w : World) (j : IndexHolds w) (me : ActorId) (moment : ℕ) where
 
       page_learnt : Still w me moment paging entries_shown w.index.tags
       page_learnt =
-          quiet w j me moment paging entries_shown w.index.tags (calm_same w.index.tags) (j.rows_stand.read me) (j.tags_of_prepare.own me) (λ a t apart is. j.tags_of_prepare.own a t is)
+          quiet w j me moment paging entries_shown w.index.tags (calm_same w.index.tags) (knows_same w j me moment paging entries_shown refl refl) (j.tags_of_prepare.own me) (λ a t apart is. j.tags_of_prepare.own a t is)
           (elim (is_named (w.phases me).named zone key) as (λ b. (z : ℕ) (k : Key) (n : List ℕ) (x : Sighting) → cond b (put_in (w.phases me).seen zone key (λ name. sighted now (find name_cmp name (page_of s start limit now).rows) ((w.phases me).seen zone key name))) (w.phases me).seen z k n ≡ Some x → Sees w j me moment paging entries_shown w.index.tags (entries_of w.state.shards) z k n x) [
             | true ↦ put_in_cases (λ z k f. (n : List ℕ) (x : Sighting) → f n ≡ Some x → Sees w j me moment paging entries_shown w.index.tags (entries_of w.state.shards) z k n x) (w.phases me).seen zone key _ sees_page
                 (λ z k n x is. sees_same w j me moment paging entries_shown w.index.tags (calm_same w.index.tags).keeps me z k n x is)
@@ -216,10 +215,10 @@ module _ (w : World) (j : IndexHolds w) (me : ActorId) (moment : ℕ) where
     pub page_shown : Still w me moment paging (on_shard (w.state.shards zone key) (λ s. reply_or (Entries (page_of s start limit now)) (fate_refusal s.fate))) w.index.tags
     page_shown =
         elim (w.state.shards zone key) as (λ o. w.state.shards zone key ≡ o → Still w me moment paging (on_shard o (λ s. reply_or (Entries (page_of s start limit now)) (fate_refusal s.fate))) w.index.tags) [
-          | None ↦ λ is. nothing_learnt paging (No Closed) refl refl refl
+          | None ↦ λ is. nothing_learnt paging (No Closed) refl refl refl refl
           | Some s ↦ λ is.
               elim (fate_refusal s.fate) as (λ r. Still w me moment paging (reply_or (Entries (page_of s start limit now)) r) w.index.tags) [
                 | None ↦ page_learnt s is
-                | Some why ↦ nothing_learnt paging (No why) refl refl refl
+                | Some why ↦ nothing_learnt paging (No why) refl refl refl refl
               ]
         ] refl

@@ -21,7 +21,7 @@ use Rattle.realm_model.specs.Steps.{reply_or, reply_of, after}
 use Rattle.realm_model.specs.Worlds.{World, start, put_name, put_stamp, slots_after, happens}
 use Rattle.realm_model.specs.Histories.{run, world_of, IsNext, LegalFrom, Legal}
 use Rattle.realm_model.specs.declared.op.Op.{Op}
-use Rattle.realm_model.specs.declared.op.Op.TheVariants.{BucketRead, BucketSwap, ShardMake, Prepare, Complete, Cancel, Page, Suggest, Stats, HeadRead, HeadWrite, TailMake, TailRead, Announce}
+use Rattle.realm_model.specs.declared.op.Op.TheVariants.{HeadWrite}
 use Rattle.realm_model.specs.declared.event.Event.{Event}
 use Rattle.realm_model.specs.declared.event.Reply.{Reply}
 use Rattle.realm_model.specs.declared.event.Reply.TheVariants.{Changed}

@@ -1,18 +1,19 @@
 -- What the tests of an actor's phase say.
-use Rattle.std.proofs.Common.{◌≡◌, ℕ, ◌==◌, not, Bool, true, false, List, Option, Some, None, refl, sym}
+use Rattle.std.proofs.Common.{◌≡◌, ℕ, ◌==◌, ◌&&◌, not, Bool, true, false, List, Option, Some, None, refl, sym}
 use Rattle.std.specs.Prelude.{bytes_eq, is_some}
 use Rattle.std.proofs.lemmas.Slice.Eq.{bytes_eq-Decides}
 use Rattle.rgw_types.specs.declared.pool_key.Key.{Key}
 use Rattle.rgw_types.specs.declared.stamp.Stamp.{Stamp}
 use Rattle.object_words.specs.declared.entry.Guard.{Guard}
 use Rattle.object_words.specs.Keys.{container_of}
+use Rattle.object_words.specs.Limits.{is_name}
 use Rattle.object_words.specs.Rows.{RowView}
 use Rattle.realm_model.specs.Tests.{same_flag, same_stamp, same_row, is_so}
 use Rattle.realm_model.specs.Phases.{OwnChange, OwnTag, Sighting, Phase}
-use Rattle.realm_model.specs.Needs.{is_pending, is_over, is_tag_of, is_change, may_change_head, is_suggestion}
+use Rattle.realm_model.specs.Needs.{object_limit, has_read, names_shard, has_no_tag, is_pending, is_over, is_tag_of, is_change, may_change_head, is_suggestion}
 use Rattle.realm_model.specs.Settings.{SettingsView}
 use Rattle.realm_model.specs.Allowed.{meets_need}
-use Rattle.realm_model.specs.declared.op.Op.TheVariants.{Complete, Cancel}
+use Rattle.realm_model.specs.declared.op.Op.TheVariants.{Prepare, Complete, Cancel}
 use Rattle.realm_model.proofs.Computing.{left_of, right_of}
 use Rattle.realm_model.proofs.ObjectLemmas.{number_same}
 
@@ -52,7 +53,7 @@ row_is a b is =
     let kind = same_text a.kind b.kind (right_of (bytes_eq a.etag b.etag) (bytes_eq a.kind b.kind) texts) in
     λ i. record { exists = exists i; size = size i; stamp = stamp i; etag = etag i; kind = kind i }
 
-none_of : {A : Type 0} (o : Option A) → not (is_some o) ≡ true → o ≡ None
+pub none_of : {A : Type 0} (o : Option A) → not (is_some o) ≡ true → o ≡ None
 none_of None is = refl
 none_of (Some x) is = cc
 
@@ -82,6 +83,19 @@ pub record OwnsTag (p : Phase) (zone : ℕ) (name : List ℕ) (tag : ℕ) : Type
 pub record Completes (p : Phase) (zone : ℕ) (name : List ℕ) (tag version : ℕ) (row : RowView) : Type 0 where
   pub owns : OwnsTag p zone name tag
   pub change_is : (owns.t).change ≡ Some (record { version = version; row = row })
+
+-- a row that was read names the shard for the name, which is within the bounds of names
+pub record Prepares (p : Phase) (zone : ℕ) (key : Key) (name : List ℕ) : Type 0 where
+  pub named : is_name object_limit name ≡ true
+  pub read : has_read (p.rows zone) 0 (names_shard key name) ≡ true
+
+pub prepares : (settings : SettingsView) (p : Phase) (zone : ℕ) (key : Key) (name : List ℕ) → meets_need settings p (Prepare zone key name) ≡ true → Prepares p zone key name
+prepares settings p zone key name may =
+    let rest = right_of (has_no_tag p.tag) (is_name object_limit name && has_read (p.rows zone) 0 (names_shard key name)) may in
+    record {
+      named = left_of (is_name object_limit name) (has_read (p.rows zone) 0 (names_shard key name)) rest;
+      read = right_of (is_name object_limit name) (has_read (p.rows zone) 0 (names_shard key name)) rest;
+    }
 
 -- and nothing was changed under it
 pub record Cancels (p : Phase) (zone : ℕ) (name : List ℕ) (tag : ℕ) : Type 0 where

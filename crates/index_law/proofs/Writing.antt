@@ -1,13 +1,11 @@
 -- A change of a head that is done: the head and the last tag of its name are others, and the tag has its change.
 use Rattle.std.proofs.Common.{◌≡◌, inl, inr, ⊎_elim, ℕ, ◌+◌, ◌==◌, ◌<◌, ◌≤◌, ◌^◌, true, false, List, Option, Some, None, refl, sym, subst, ap, ◌∙◌, arith}
-use Rattle.std.specs.List.{AllByRecursion}
 use Rattle.rgw_types.specs.declared.pool_key.Key.{Key}
 use Rattle.object_words.specs.declared.bucket.Bucket.{Bucket}
 use Rattle.object_words.specs.declared.entry.Guard.{Guard}
 use Rattle.object_words.specs.declared.head.SeenSlot.{SeenSlot}
 use Rattle.object_words.specs.Hashes.{shard_of}
 use Rattle.object_words.specs.Keys.{put, container_of, instance_of, shard_key, head_key}
-use Rattle.object_words.specs.Names.{entries as names_of}
 use Rattle.object_words.specs.Tags.{has_tag, has_due}
 use Rattle.object_words.specs.Heads.{Head, no_head, row_of}
 use Rattle.realm_model.specs.Facts.{TagNote, Home}
@@ -18,8 +16,7 @@ use Rattle.realm_model.specs.Worlds.{World, put_actor, put_name, changed_note}
 use Rattle.realm_model.specs.declared.op.Op.{Op}
 use Rattle.realm_model.specs.declared.event.Reply.{Reply}
 use Rattle.realm_model.proofs.ObjectLemmas.{number_same, put_actor_cases}
-use Rattle.index_law.specs.Tables.{entries_of, Heads, heads_of, rows_of, Notes, Lasts, changes_of, IsPlaced}
-use Rattle.index_law.specs.Rows.{ReadIsNamed}
+use Rattle.index_law.specs.Tables.{entries_of, Heads, heads_of, rows_of, Notes, Lasts, changes_of, IsPlaced, StandsIn}
 use Rattle.index_law.specs.Tags.{IsOwn}
 use Rattle.index_law.specs.Changes.{IsBelow, IsLast, ChangesBelow}
 use Rattle.index_law.specs.Agreements.{Agreement, Agreements}
@@ -30,17 +27,17 @@ use Rattle.index_law.proofs.Puts.{head_here, Elsewhere, head_cases, phase_cases}
 use Rattle.index_law.proofs.Tests.{Writes}
 use Rattle.index_law.proofs.NoteLemmas.{NoteStays, Back, SamePlace, with_change, changing, keeps_turned, turned_back, turned_here, noted_more, all_map, at_place}
 use Rattle.index_law.proofs.NumberLaws.{entries_more, heads_more, tags_more, homes_more, instances_more, numbers_after}
-use Rattle.index_law.proofs.RowLaws.{rows_stay}
+use Rattle.index_law.proofs.RowLaws.{knows_same, rows_stay}
 use Rattle.index_law.proofs.EntryLaws.{safe_same}
 use Rattle.index_law.proofs.Owns.{own_changed, own_other}
 use Rattle.index_law.proofs.EntryFacts.{noted_at, due_placed}
 use Rattle.index_law.proofs.Events.{clock_rises, count_rises}
 
 -- a name belongs into one shard of its container in a zone
-pub one_place : (w : World) (j : IndexHolds w) (zone : ℕ) (k q : Key) (name : List ℕ) → container_of k ≡ container_of q → IsPlaced w.rows.instances zone k name → IsPlaced w.rows.instances zone q name → k ≡ q
-one_place w j zone k q name same p o =
-    let a = j.rows_stand.in_row zone (container_of k) (instance_of k) p.instance p.placed in
-    let b = j.rows_stand.in_row zone (container_of q) (instance_of q) o.instance o.placed in
+pub one_place : (w : World) (j : IndexHolds w) (zone : ℕ) (k q : Key) (name : List ℕ) → container_of k ≡ container_of q → StandsIn w (container_of k) → IsPlaced w.rows.instances zone k name → IsPlaced w.rows.instances zone q name → k ≡ q
+one_place w j zone k q name same stands p o =
+    let a = j.rows_stand.in_row zone (container_of k) (instance_of k) p.instance p.placed stands in
+    let b = j.rows_stand.in_row zone (container_of q) (instance_of q) o.instance o.placed (subst (StandsIn w) same stands) in
     let homes : Some a.home ≡ Some b.home = sym a.made ∙ ap w.rows.homes same ∙ b.made in
     let home : a.home ≡ b.home = cc in
     let kept : Some a.row ≡ Some b.row = sym a.kept ∙ ap (λ (h : Home). rows_of w.state.root zone h.name) home ∙ b.kept in
@@ -53,6 +50,7 @@ one_place w j zone k q name same p o =
 module _ (w : World) (j : IndexHolds w) (me : ActorId) (moment : ℕ) (op : Op) (reply : Reply) (zone container : ℕ) (name : List ℕ) (guard : Guard) (slot : SeenSlot) (wrote : Writes (w.phases me) zone container name guard)
     (early : clock_at w.state.clock moment < guard.deadline)
     (same_rows : (learnt (w.phases me) op reply (w.state.count + 1) (clock_at w.state.clock moment)).rows ≡ (w.phases me).rows)
+    (same_work : (learnt (w.phases me) op reply (w.state.count + 1) (clock_at w.state.clock moment)).work ≡ (w.phases me).work)
     (same_seen : (learnt (w.phases me) op reply (w.state.count + 1) (clock_at w.state.clock moment)).seen ≡ (w.phases me).seen)
     (has_change : (learnt (w.phases me) op reply (w.state.count + 1) (clock_at w.state.clock moment)).tag ≡ changed (w.phases me).tag (record { version = w.state.count + 1; row = row_of slot })) where
   abbrev number : ℕ
@@ -130,17 +128,17 @@ module _ (w : World) (j : IndexHolds w) (me : ActorId) (moment : ℕ) (op : Op) 
       ]
 
   -- the tag is in the entry for which it was prepared, which is the name's
-  in_entry : has_tag guard.tag (entries_of w.state.shards note.zone note.key note.name).tags ≡ true
-  in_entry =
+  in_entry : StandsIn w container → has_tag guard.tag (entries_of w.state.shards note.zone note.key note.name).tags ≡ true
+  in_entry stands =
       let rises = clock_rises w j me moment op reply in
       let deadline = deadline_is in
-      j.open_tags guard.tag note note_there (own_note.not_ended wrote.pending) (omega (arith, rises, deadline, early))
+      j.open_tags guard.tag note note_there (subst (StandsIn w) (sym container_is) stands) (own_note.not_ended wrote.pending) (omega (arith, rises, deadline, early))
 
-  in_place : (k : Key) → container_of k ≡ container → IsPlaced w.rows.instances zone k name → has_tag guard.tag (entries_of w.state.shards zone k name).tags ≡ true
-  in_place k at_container placed =
+  in_place : (k : Key) → container_of k ≡ container → StandsIn w container → IsPlaced w.rows.instances zone k name → has_tag guard.tag (entries_of w.state.shards zone k name).tags ≡ true
+  in_place k at_container stands placed =
       let mine = subst (λ z. IsPlaced w.rows.instances z note.key name) zone_is (subst (λ n. IsPlaced w.rows.instances note.zone note.key n) name_is (j.tags_of_prepare.placed guard.tag note note_there)) in
-      let key = one_place w j zone note.key k name (container_is ∙ sym at_container) mine placed in
-      let there = subst (λ z. has_tag guard.tag (entries_of w.state.shards z note.key name).tags ≡ true) zone_is (subst (λ n. has_tag guard.tag (entries_of w.state.shards note.zone note.key n).tags ≡ true) name_is in_entry) in
+      let key = one_place w j zone note.key k name (container_is ∙ sym at_container) (subst (StandsIn w) (sym container_is) stands) mine placed in
+      let there = subst (λ z. has_tag guard.tag (entries_of w.state.shards z note.key name).tags ≡ true) zone_is (subst (λ n. has_tag guard.tag (entries_of w.state.shards note.zone note.key n).tags ≡ true) name_is (in_entry stands)) in
       subst (λ q. has_tag guard.tag (entries_of w.state.shards zone q name).tags ≡ true) key there
 
   -- ---- changes
@@ -220,19 +218,19 @@ module _ (w : World) (j : IndexHolds w) (me : ActorId) (moment : ℕ) (op : Op) 
 
   -- ---- agreement
 
-  agreements_now : Agreements (changes_of tags) w.rows.instances (entries_of w.state.shards) heads last
-  agreements_now z k n placed =
+  agreements_now : Agreements (StandsIn w) (changes_of tags) w.rows.instances (entries_of w.state.shards) heads last
+  agreements_now z k n placed stands =
       head_cases (λ z c n h l. container_of k ≡ c → IsPlaced w.rows.instances z k n → Agreement (changes_of tags) h l (entries_of w.state.shards z k n)) w.state.heads w.index.last zone container name head (Some guard.tag)
       (λ at_container here.
       let under = (j.numbers.entries_below zone k name).0 in
       record {
-        agree = inl (record { tag = guard.tag; last_is = refl; there = in_place k at_container here });
+        agree = inl (record { tag = guard.tag; last_is = refl; there = in_place k at_container (subst (StandsIn w) at_container stands) here });
         not_above = λ live. omega (arith, under);
         same_row = λ live same. absurd (omega (arith, under, same));
       })
       (λ z c n elsewhere at_container here.
       subst (λ d. Agreement (changes_of tags) (heads_of w.state.heads z d n) (w.index.last z d n) (entries_of w.state.shards z k n)) at_container
-      (other z k n (subst (λ d. Elsewhere zone container name z d n) (sym at_container) elsewhere) (j.agreements z k n here)))
+      (other z k n (subst (λ d. Elsewhere zone container name z d n) (sym at_container) elsewhere) (j.agreements z k n here stands)))
       z (container_of k) n refl placed where
         other : (z : ℕ) (k : Key) (n : List ℕ) → Elsewhere zone container name z (container_of k) n → Agreement (changes_of w.index.tags) (heads_of w.state.heads z (container_of k) n) (w.index.last z (container_of k) n) (entries_of w.state.shards z k n) → Agreement (changes_of tags) (heads_of w.state.heads z (container_of k) n) (w.index.last z (container_of k) n) (entries_of w.state.shards z k n)
         other z k n elsewhere a = record {
@@ -252,9 +250,9 @@ module _ (w : World) (j : IndexHolds w) (me : ActorId) (moment : ℕ) (op : Op) 
 
   -- ---- sightings
 
-  sights_now : (a : ActorId) (z : ℕ) (k : Key) (n : List ℕ) (x : Sighting) → (w.phases a).seen z k n ≡ Some x → IsSafe number now tags (heads z (container_of k) n) (last z (container_of k) n) (entries_of w.state.shards z k n) x
+  sights_now : (a : ActorId) (z : ℕ) (k : Key) (n : List ℕ) (x : Sighting) → (w.phases a).seen z k n ≡ Some x → IsSafe (StandsIn w (container_of k)) number now tags (heads z (container_of k) n) (last z (container_of k) n) (entries_of w.state.shards z k n) x
   sights_now a z k n x is =
-      head_cases (λ z c n h l. container_of k ≡ c → (w.phases a).seen z k n ≡ Some x → IsSafe number now tags h l (entries_of w.state.shards z k n) x) w.state.heads w.index.last zone container name head (Some guard.tag)
+      head_cases (λ z c n h l. container_of k ≡ c → (w.phases a).seen z k n ≡ Some x → IsSafe (StandsIn w (container_of k)) number now tags h l (entries_of w.state.shards z k n) x) w.state.heads w.index.last zone container name head (Some guard.tag)
       (λ at_container seen.
       let old = j.sights a zone k name x seen in
       let past = old.past in
@@ -263,7 +261,7 @@ module _ (w : World) (j : IndexHolds w) (me : ActorId) (moment : ℕ) (op : Op) 
       record {
         past = omega (arith, past, rises);
         read_below = λ read has. let under = old.read_below read has in omega (arith, under);
-        safe = λ due read has.
+        safe = λ stands due read has.
             let under = old.read_below read has in
             inr (record {
               above = omega (arith, under);
@@ -272,12 +270,12 @@ module _ (w : World) (j : IndexHolds w) (me : ActorId) (moment : ℕ) (op : Op) 
               note = with_change change note;
               there = turned_here turn (with_change change) (changing change) w.index.tags guard.tag note note_there;
               late = omega (arith, past, rises, deadline, early);
-              stays = inl (in_place k at_container (due_placed w j zone k name x.moment due));
+              stays = inl (in_place k at_container (subst (StandsIn w) at_container stands) (due_placed w j zone k name x.moment due));
             });
       })
       (λ z c n elsewhere at_container seen.
-      subst (λ d. IsSafe number now tags (heads_of w.state.heads z d n) (w.index.last z d n) (entries_of w.state.shards z k n) x) at_container
-      (safe_same w.state.count w.state.clock number now w.index.tags tags (heads_of w.state.heads z (container_of k) n) (w.index.last z (container_of k) n) (entries_of w.state.shards z k n) x (count_rises w j me moment op reply) (clock_rises w j me moment op reply) keeps (j.sights a z k n x seen)))
+      subst (λ d. IsSafe (StandsIn w (container_of k)) number now tags (heads_of w.state.heads z d n) (w.index.last z d n) (entries_of w.state.shards z k n) x) at_container
+      (safe_same (StandsIn w (container_of k)) w.state.count w.state.clock number now w.index.tags tags (heads_of w.state.heads z (container_of k) n) (w.index.last z (container_of k) n) (entries_of w.state.shards z k n) x (count_rises w j me moment op reply) (clock_rises w j me moment op reply) keeps (j.sights a z k n x seen)))
       z (container_of k) n refl is
 
   -- ---- all parts
@@ -287,7 +285,7 @@ module _ (w : World) (j : IndexHolds w) (me : ActorId) (moment : ℕ) (op : Op) 
     numbers = numbers_after w j moment me op reply (entries_of w.state.shards) heads tags w.rows.homes w.rows.instances (entries_more w j moment)
         (head_cases (λ z c n h l. h.version ≤ number) w.state.heads w.index.last zone container name head (Some guard.tag) (omega arith) (λ z c n elsewhere. heads_more w j moment z c n))
         (λ tag new is. let b = back tag new is in tags_more w j moment tag b.note b.there) (homes_more w j moment) (instances_more w j moment);
-    rows_stand = rows_stay w j me moment op reply (subst (λ r. (z : ℕ) → AllByRecursion (ReadIsNamed w.rows.homes w.rows.instances z) (names_of (r z))) (sym same_rows) (j.rows_stand.read me));
+    rows_stand = rows_stay w j me moment op reply (knows_same w j me moment op reply same_rows same_work);
     tags_of_prepare = record {
       in_entries = λ z k n. all_map _ _ (λ x. noted_more w.index.tags tags keeps z k n x) _ (j.tags_of_prepare.in_entries z k n);
       placed = λ tag new is. let b = back tag new is in at_place (IsPlaced w.rows.instances) b.note new (back_same tag new b) (j.tags_of_prepare.placed tag b.note b.there);
@@ -296,16 +294,16 @@ module _ (w : World) (j : IndexHolds w) (me : ActorId) (moment : ℕ) (op : Op) 
           (λ x is. own_changed w.index.tags me (w.phases me) zone name guard.tag change wrote.owns own_note x (sym has_change ∙ is))
           (λ a apart x is. own_other turn w.index.tags me a guard.tag x note note_there own_note.actor_is apart (j.tags_of_prepare.own a x is));
     };
-    open_tags = λ tag new is still late.
+    open_tags = λ tag new is stands still late.
         let b = back tag new is in
         let same = back_same tag new b in
         let deadline = same.deadline in
         let rises = clock_rises w j me moment op reply in
-        at_place (λ z k n. has_tag tag (entries_of w.state.shards z k n).tags ≡ true) b.note new same (j.open_tags tag b.note b.there (back_open tag new b still) (omega (arith, late, deadline, rises)));
+        at_place (λ z k n. has_tag tag (entries_of w.state.shards z k n).tags ≡ true) b.note new same (j.open_tags tag b.note b.there (subst (λ k. StandsIn w (container_of k)) same.key stands) (back_open tag new b still) (omega (arith, late, deadline, rises)));
     changes = changes_now;
     agreements = agreements_now;
-    sights = put_actor_cases (λ a p. (z : ℕ) (k : Key) (n : List ℕ) (x : Sighting) → p.seen z k n ≡ Some x → IsSafe number now tags (heads z (container_of k) n) (last z (container_of k) n) (entries_of w.state.shards z k n) x) w.phases me _
-        (subst (λ f. (z : ℕ) (k : Key) (n : List ℕ) (x : Sighting) → f z k n ≡ Some x → IsSafe number now tags (heads z (container_of k) n) (last z (container_of k) n) (entries_of w.state.shards z k n) x) (sym same_seen) (sights_now me)) sights_now;
+    sights = put_actor_cases (λ a p. (z : ℕ) (k : Key) (n : List ℕ) (x : Sighting) → p.seen z k n ≡ Some x → IsSafe (StandsIn w (container_of k)) number now tags (heads z (container_of k) n) (last z (container_of k) n) (entries_of w.state.shards z k n) x) w.phases me _
+        (subst (λ f. (z : ℕ) (k : Key) (n : List ℕ) (x : Sighting) → f z k n ≡ Some x → IsSafe (StandsIn w (container_of k)) number now tags (heads z (container_of k) n) (last z (container_of k) n) (entries_of w.state.shards z k n) x) (sym same_seen) (sights_now me)) sights_now;
     reads = put_actor_cases (λ a p. (z : ℕ) (k : Key) (n : List ℕ) (x : Sighting) → p.seen z k n ≡ Some x → number < 2 ^ 62 → has_due x.moment (entries_of w.state.shards z k n).tags ≡ true → StaysTrue (entries_of w.state.shards z k n) x) w.phases me _
         (subst (λ f. (z : ℕ) (k : Key) (n : List ℕ) (x : Sighting) → f z k n ≡ Some x → number < 2 ^ 62 → has_due x.moment (entries_of w.state.shards z k n).tags ≡ true → StaysTrue (entries_of w.state.shards z k n) x) (sym same_seen)
         (λ z k n x is room due. j.reads me z k n x is (omega (arith, room)) due)) (λ a z k n x is room due. j.reads a z k n x is (omega (arith, room)) due);

@@ -26,7 +26,7 @@ pub record Agreement (changes : ℕ → Option OwnChange) (head : Head) (last : 
   pub not_above : 0 < head.version → e.version ≤ head.version
   pub same_row : 0 < head.version → e.version ≡ head.version → Shows e head.slot
 
--- and so each name's entry, in the shard into which it belongs
-abbrev pub Agreements : (ℕ → Option OwnChange) → Instances → Entries → Heads → Lasts → Type 0
-Agreements changes instances entries heads last = (zone : ℕ) (key : Key) (name : List ℕ) → IsPlaced instances zone key name
+-- and so each name's entry, in the shard into which it belongs, while its container stands
+abbrev pub Agreements : (ℕ → Type 0) → (ℕ → Option OwnChange) → Instances → Entries → Heads → Lasts → Type 0
+Agreements stands changes instances entries heads last = (zone : ℕ) (key : Key) (name : List ℕ) → IsPlaced instances zone key name → stands (container_of key)
     → Agreement changes (heads zone (container_of key) name) (last zone (container_of key) name) (entries zone key name)

@@ -1,5 +1,6 @@
 pub mod Tables
 pub mod Numbers
+pub mod Works
 pub mod Rows
 pub mod Tags
 pub mod Changes
@@ -8,4 +9,5 @@ pub mod Sights
 pub mod Reads
 pub mod Stamps
 pub mod Serving
+pub mod Holds
 pub mod Invariants

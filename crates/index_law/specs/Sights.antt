@@ -25,12 +25,13 @@ pub record Later (tags : Notes) (head : Head) (last : Option ℕ) (e : EntryView
   pub late : moment < note.deadline
   pub stays : (has_tag tag e.tags ≡ true) ⊎ (version ≤ e.version)
 
--- an entry was seen at a moment; and while a tag is there that was due then, a suggestion of what the head showed is safe
-pub record IsSafe (count clock : ℕ) (tags : Notes) (head : Head) (last : Option ℕ) (e : EntryView) (s : Sighting) : Type 0 where
+-- an entry was seen at a moment; and while its container stands and a tag is there that was due then, a suggestion of what the
+-- head showed is safe
+pub record IsSafe (stands : Type 0) (count clock : ℕ) (tags : Notes) (head : Head) (last : Option ℕ) (e : EntryView) (s : Sighting) : Type 0 where
   pub past : s.moment ≤ clock
   pub read_below : (read : OwnChange) → s.head ≡ Some read → read.version ≤ count
-  pub safe : has_due s.moment e.tags ≡ true → (read : OwnChange) → s.head ≡ Some read → Still head read ⊎ Later tags head last e s.moment read.version
+  pub safe : stands → has_due s.moment e.tags ≡ true → (read : OwnChange) → s.head ≡ Some read → Still head read ⊎ Later tags head last e s.moment read.version
 
-abbrev pub Sights : ℕ → ℕ → Notes → Entries → Heads → Lasts → (ActorId → Phase) → Type 0
-Sights count clock tags entries heads last phases = (actor : ActorId) (zone : ℕ) (key : Key) (name : List ℕ) (s : Sighting) → (phases actor).seen zone key name ≡ Some s
-    → IsSafe count clock tags (heads zone (container_of key) name) (last zone (container_of key) name) (entries zone key name) s
+abbrev pub Sights : (ℕ → Type 0) → ℕ → ℕ → Notes → Entries → Heads → Lasts → (ActorId → Phase) → Type 0
+Sights stands count clock tags entries heads last phases = (actor : ActorId) (zone : ℕ) (key : Key) (name : List ℕ) (s : Sighting) → (phases actor).seen zone key name ≡ Some s
+    → IsSafe (stands (container_of key)) count clock tags (heads zone (container_of key) name) (last zone (container_of key) name) (entries zone key name) s

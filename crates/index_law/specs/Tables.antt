@@ -11,7 +11,8 @@ use Rattle.object_words.specs.Roots.{Root}
 use Rattle.object_words.specs.Shards.{Shard}
 use Rattle.realm_model.specs.Containers.{entry_in}
 use Rattle.realm_model.specs.Phases.{OwnChange}
-use Rattle.realm_model.specs.Facts.{TagNote, Instance}
+use Rattle.realm_model.specs.Facts.{TagNote, Home, Instance}
+use Rattle.realm_model.specs.Worlds.{World}
 
 -- the entry of each name in each shard of each zone; an absent one counts as one that does not exist
 abbrev pub Entries : Type 0
@@ -45,6 +46,23 @@ Lasts = ℕ → ℕ → List ℕ → Option ℕ
 -- instances that were put into rows, by zone, container and number
 abbrev pub Instances : Type 0
 Instances = ℕ → ℕ → ℕ → Option Instance
+
+-- zone 1 made the container
+pub record IsMadeContainer (homes : ℕ → Option Home) (container : ℕ) : Type 0 where
+  pub home : Home
+  pub made : homes container ≡ Some home
+
+-- the container has a row in zone 1
+pub record Stands (homes : ℕ → Option Home) (rows : Rows) (container : ℕ) : Type 0 where
+  pub home : Home
+  pub made : homes container ≡ Some home
+  pub row : Bucket
+  pub kept : rows 1 home.name ≡ Some row
+  pub id_is : row.id ≡ container
+
+-- and so in a world
+abbrev pub StandsIn : World → ℕ → Type 0
+StandsIn w container = Stands w.rows.homes (rows_of w.state.root) container
 
 -- the change that was made under a tag
 abbrev pub change_in : Option TagNote → Option OwnChange

@@ -3,6 +3,7 @@ use Rattle.std.specs.Prelude.{◌≡◌, ◌⊎◌, ℕ, ◌<◌, true, false, L
 use Rattle.std.specs.List.{AllByRecursion}
 use Rattle.rgw_types.specs.declared.pool_key.Key.{Key}
 use Rattle.object_words.specs.declared.entry.Tag.{Tag}
+use Rattle.object_words.specs.Keys.{container_of}
 use Rattle.object_words.specs.Tags.{has_tag}
 use Rattle.object_words.specs.Entries.{no_entry}
 use Rattle.realm_model.specs.Facts.{TagNote}
@@ -39,7 +40,8 @@ pub record TagsOfPrepare (tags : Notes) (instances : Instances) (entries : Entri
   pub held : (zone : ℕ) (key : Key) (name : List ℕ) → (entries zone key name ≡ no_entry) ⊎ IsPlaced instances zone key name
   pub own : (actor : ActorId) (t : OwnTag) → (phases actor).tag ≡ Some t → IsOwn tags actor t
 
--- a tag that was neither completed nor cancelled, and whose life is not over, is in the entry for which it was prepared
-abbrev pub OpenTags : ℕ → Notes → Entries → Type 0
-OpenTags clock tags entries = (tag : ℕ) (note : TagNote) → tags tag ≡ Some note → note.ended ≡ false → clock < note.deadline
+-- a tag that was neither completed nor cancelled, and whose life is not over, is in the entry for which it was prepared, while
+-- the container stands
+abbrev pub OpenTags : (ℕ → Type 0) → ℕ → Notes → Entries → Type 0
+OpenTags stands clock tags entries = (tag : ℕ) (note : TagNote) → tags tag ≡ Some note → stands (container_of note.key) → note.ended ≡ false → clock < note.deadline
     → has_tag tag (entries note.zone note.key note.name).tags ≡ true

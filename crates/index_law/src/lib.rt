@@ -5,6 +5,7 @@
 mod laws;
 
 pub use laws::{
-    a_change_has_a_new_stamp, each_event_keeps_the_index, settled_names_are_shown,
+    a_change_has_a_new_stamp, a_container_that_is_gone_stays_gone, a_removed_container_is_empty,
+    a_shard_that_is_left_takes_no_change, each_event_keeps_the_index, settled_names_are_shown,
     shards_of_rows_serve, statistics_are_sums, the_index_holds,
 };

@@ -12,14 +12,14 @@ use Rattle.index_update.specs.declared.stage.Tried.{Tried}
 use Rattle.index_update.specs.declared.stage.Updated.{Updated}
 use Rattle.index_update.specs.declared.update.IndexUpdate.{IndexUpdate}
 use Rattle.index_update.specs.Paths.{Path, turned, ready, path_from}
-use Rattle.index_update.specs.Fits.{Start, Asked, Known, known_at, Since, Carries, Trying, AtRow, IsAt, FitsAt, Fits}
+use Rattle.index_update.specs.Fits.{Start, Asked, Known, known_at, HasName, Since, Carries, Trying, AtRow, IsAt, FitsAt, Fits}
 use Rattle.index_update.specs.Updates.{asked_of, begun, fits, MayBegin, IsEnd}
 
 -- nothing was refused yet
 abbrev pub none_yet : Tried
 none_yet = record { moved = 0; expired = 0 }
 
-module _ (settings : SettingsView) (known : Known) (u : IndexUpdate) (change : HeadChange) (path : Path) (b : MayBegin settings u.target change known) where
+module _ (settings : SettingsView) (known : Known) (u : IndexUpdate) (change : HeadChange) (path : Path) (named : HasName u.target) (b : MayBegin settings u.target change known) where
   abbrev asked : Asked
   asked = asked_of (record { change = change; from = path; known = known }) u
 
@@ -45,6 +45,7 @@ module _ (settings : SettingsView) (known : Known) (u : IndexUpdate) (change : H
   begins_at stage is tried at stands = record {
     low = b.low;
     high = b.high;
+    named = named;
     mine = [];
     follow = sym (append-nil known.events);
     order = subst (λ g. IsAt g path) (sym is) at;
@@ -52,17 +53,17 @@ module _ (settings : SettingsView) (known : Known) (u : IndexUpdate) (change : H
     stands = subst (λ g. FitsAt asked u.tried g known) (sym is) (subst (λ x. FitsAt asked x stage known) (sym tried) stands);
   }
 
-pub looking_begins : (settings : SettingsView) (k : Known) (t : Target) (change : HeadChange) → MayBegin settings t change k
+pub looking_begins : (settings : SettingsView) (k : Known) (t : Target) (change : HeadChange) → HasName t → MayBegin settings t change k
     → Fits settings (asked_of (record { change = change; from = turned; known = k }) (begun t (Looking change))) none_yet (Looking change) k
-looking_begins settings k t change b =
+looking_begins settings k t change named b =
     let u : IndexUpdate = begun t (Looking change) in
-    begins_at settings k u change turned b (Looking change) refl refl tt (tries settings k u change turned b, carries settings k u change turned b, b.free)
+    begins_at settings k u change turned named b (Looking change) refl refl tt (tries settings k u change turned named b, carries settings k u change turned named b, b.free)
 
-pub preparing_begins : (settings : SettingsView) (k : Known) (t : Target) (change : HeadChange) (key : Key) → MayBegin settings t change k → AtRow t key k
+pub preparing_begins : (settings : SettingsView) (k : Known) (t : Target) (change : HeadChange) (key : Key) → HasName t → MayBegin settings t change k → AtRow t key k
     → Fits settings (asked_of (record { change = change; from = ready; known = k }) (begun t (Preparing key change))) none_yet (Preparing key change) k
-preparing_begins settings k t change key b at =
+preparing_begins settings k t change key named b at =
     let u : IndexUpdate = begun t (Preparing key change) in
-    begins_at settings k u change ready b (Preparing key change) refl refl tt (tries settings k u change ready b, at, carries settings k u change ready b, b.free)
+    begins_at settings k u change ready named b (Preparing key change) refl refl tt (tries settings k u change ready named b, at, carries settings k u change ready named b, b.free)
 
 -- what the end means
 pub means_it : (s : Start) (u : IndexUpdate) (settings : SettingsView) (d : DoorView) (end : Updated) → u.stage ≡ Ended end → fits s u settings d → IsEnd s u end (known_at settings d)

@@ -6,16 +6,17 @@ use Rattle.rgw_types.specs.declared.pool_key.Key.{Key}
 use Rattle.object_words.specs.declared.bucket.Bucket.{Bucket}
 use Rattle.object_words.specs.declared.entry.Guard.{Guard}
 use Rattle.object_words.specs.Keys.{container_of, instance_of, number_of, shard_key, is_key}
+use Rattle.object_words.specs.Limits.{is_name}
 use Rattle.object_words.specs.Names.{at}
 use Rattle.object_words.specs.Rows.{RowView}
 use Rattle.object_words.proofs.KeyLemmas.{key_itself, number_itself}
 use Rattle.realm_model.specs.Settings.{SettingsView}
-use Rattle.realm_model.specs.Needs.{has_read, read_showed, names_shard, is_pending, is_over, has_no_tag, is_tag_of, is_change, is_shard_of_tag, is_tried_again, is_new_shard, may_change_head}
+use Rattle.realm_model.specs.Needs.{object_limit, has_read, read_showed, names_shard, is_pending, is_over, has_no_tag, is_tag_of, is_change, is_shard_of_tag, is_tried_again, is_new_shard, may_change_head}
 use Rattle.realm_model.specs.Phases.{OwnTag, RowRead, Stage as TagStage}
 use Rattle.realm_model.specs.Tests.{is_so, same_flag, same_guard, same_row, same_stamp}
 use Rattle.index_update.specs.Stages.{shard_for, op_of}
 use Rattle.index_update.specs.Changes.{has_needs}
-use Rattle.index_update.specs.Fits.{Asked, Known, Carries, IsTagFree, tag_for, changed_tag, ReadSince, FitsAt, MayCome}
+use Rattle.index_update.specs.Fits.{Asked, Known, HasName, Carries, IsTagFree, tag_for, changed_tag, ReadSince, FitsAt, MayCome}
 use Rattle.index_update.specs.declared.head_change.HeadChange.{HeadChange}
 use Rattle.index_update.specs.declared.stage.Change.{Change}
 use Rattle.index_update.specs.declared.stage.Tried.{Tried}
@@ -60,17 +61,18 @@ free (Some t) is = ap (λ s. not (is_pending s)) is
 module _ (settings : SettingsView) (r : Asked) (x : Tried) (k : Known) (low : 1 ≤ r.target.zone) (high : r.target.zone ≤ settings.zones) where
   -- ---- under no tag
 
-  pub may_prepare : (key : Key) (change : HeadChange) → FitsAt r x (Preparing key change) k → MayCome settings r (Preparing key change) k
-  may_prepare key change fits =
+  pub may_prepare : (key : Key) (change : HeadChange) → HasName r.target → FitsAt r x (Preparing key change) k → MayCome settings r (Preparing key change) k
+  may_prepare key change bounds fits =
       let bucket = (fits.1).row in
       let read : RowRead = record { row = Some bucket; at = (fits.1).number } in
       let later = (fits.1).later in
       let some : 0 < (fits.1).number = omega (arith, later) in
-      let named : has_read (k.phase.rows r.target.zone) 0 (names_shard key r.target.name) ≡ true =
+      let rows : has_read (k.phase.rows r.target.zone) 0 (names_shard key r.target.name) ≡ true =
       ap (λ q. has_read (k.phase.rows r.target.zone) 0 (names_shard q r.target.name)) (fits.1).names
       ∙ row_names_since (k.phase.rows r.target.zone) r.target.container r.target.name read bucket 0 (fits.1).read refl some in
       in_realm settings k.phase (op_of r.target (Preparing key change)) low high
-      (both (has_no_tag k.phase.tag) (has_read (k.phase.rows r.target.zone) 0 (names_shard key r.target.name)) (free k.phase.tag fits.3) named)
+      (both (has_no_tag k.phase.tag) _ (free k.phase.tag fits.3)
+      (both (is_name object_limit r.target.name) (has_read (k.phase.rows r.target.zone) 0 (names_shard key r.target.name)) bounds rows))
 
   -- ---- under a tag
 
@@ -82,16 +84,16 @@ module _ (settings : SettingsView) (r : Asked) (x : Tried) (k : Known) (low : 1 
       let again : Key = shard_key (container_of key) (instance_of key) (number_of key) in
       let same : is_key key again ≡ true =
       ap (λ q. is_key q (shard_key (container_of q) (instance_of q) (number_of q))) (fits.1).names ∙ key_itself (shard_for row r.target.name) in
-      let tagged : is_so k.phase.tag (λ t. not (is_over t.stage) && (t.zone == r.target.zone && is_key t.key again)) ≡ true =
-      so k.phase.tag own (λ t. not (is_over t.stage) && (t.zone == r.target.zone && is_key t.key again)) fits.3
+      let tagged : is_so k.phase.tag (λ t. is_pending t.stage && (t.zone == r.target.zone && is_key t.key again)) ≡ true =
+      so k.phase.tag own (λ t. is_pending t.stage && (t.zone == r.target.zone && is_key t.key again)) fits.3
       (both (r.target.zone == r.target.zone) (is_key key again) (number_itself r.target.zone) same) in
       let id : (row.id == container_of key) ≡ true = ap (λ q. row.id == container_of q) (fits.1).names ∙ number_itself row.id in
       let shown : read_showed (k.phase.rows r.target.zone) r.target.container (λ q. q.id == container_of key) ≡ true =
       so (at (k.phase.rows r.target.zone) r.target.container) read (λ q. is_so q.row (λ b. b.id == container_of key)) (fits.1).read id in
       in_realm settings k.phase (op_of r.target (Announcing key guard change)) low high
-      (both (is_so k.phase.tag (λ t. not (is_over t.stage) && (t.zone == r.target.zone && is_key t.key again)) || is_new_shard k.phase r.target.zone again)
+      (both (is_so k.phase.tag (λ t. is_pending t.stage && (t.zone == r.target.zone && is_key t.key again)) || is_new_shard k.phase r.target.zone again)
       (read_showed (k.phase.rows r.target.zone) r.target.container (λ q. q.id == container_of key))
-      (either (is_so k.phase.tag (λ t. not (is_over t.stage) && (t.zone == r.target.zone && is_key t.key again))) (is_new_shard k.phase r.target.zone again) tagged) shown)
+      (either (is_so k.phase.tag (λ t. is_pending t.stage && (t.zone == r.target.zone && is_key t.key again))) (is_new_shard k.phase r.target.zone again) tagged) shown)
 
   -- what the change needs of the own tails holds still
   needs : (change : HeadChange) → Carries r change k → has_needs k.phase r.target.zone change ≡ true

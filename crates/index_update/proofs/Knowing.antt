@@ -1,5 +1,5 @@
 -- What is known after others' events, and after an own one.
-use Rattle.std.proofs.Common.{◌≡◌, ℕ, ◌<◌, ◌≤◌, ◌⊎◌, inl, inr, List, [], ◌∷◌, ◌++◌, length, Some, sym, ◌∙◌, ap, subst, arith}
+use Rattle.std.proofs.Common.{◌≡◌, ℕ, ◌<◌, ◌≤◌, ◌⊎◌, inl, inr, List, [], ◌∷◌, ◌++◌, length, Some, None, sym, ◌∙◌, ap, subst, arith}
 use Rattle.std.proofs.lemmas.List.{length-append}
 use Rattle.rgw_types.specs.declared.pool_key.Key.{Key}
 use Rattle.realm_model.specs.Settings.{SettingsView}
@@ -18,6 +18,7 @@ use Rattle.realm_door.specs.Waiting.{Waited}
 use Rattle.stripe_law.proofs.Staying.{still_made}
 use Rattle.index_update.specs.declared.head_change.HeadChange.{HeadChange}
 use Rattle.index_update.specs.declared.stage.Change.{Change}
+use Rattle.index_update.specs.declared.stage.Target.{Target}
 use Rattle.index_update.specs.declared.stage.Tried.{Tried}
 use Rattle.index_update.specs.declared.stage.After.{After}
 use Rattle.index_update.specs.declared.stage.After.TheVariants.{Again, End}
@@ -31,10 +32,27 @@ use Rattle.index_update.specs.Updates.{asked_of, fits}
 
 -- ---- others' events
 
+-- the row that was read stays the last one
+pub row_later : (k : Known) (last : ℕ) (tails : Made) → k.last ≤ last → (t : Target) (key : Key) → AtRow t key k → AtRow t key (known_later k last tails)
+row_later k last tails low t key a = record {
+  row = a.row;
+  number = a.number;
+  looked = a.looked;
+  read = a.read;
+  granted = a.granted;
+  some = a.some;
+  names = a.names;
+  later = a.later;
+  before = (let was = a.before in omega (arith, was, low));
+}
+
 module _ (r : Asked) (x : Tried) (k : Known) (last : ℕ) (tails : Made) (low : k.last ≤ last)
     (stays : (zone write part : ℕ) (bytes : List ℕ) → k.made zone write part ≡ Some bytes → tails zone write part ≡ Some bytes) where
   abbrev later : Known
   later = known_later k last tails
+
+  at_row : (key : Key) → AtRow r.target key k → AtRow r.target key later
+  at_row = row_later k last tails low r.target
 
   trying : Trying r x k → Trying r x later
   trying t = record {
@@ -46,19 +64,6 @@ module _ (r : Asked) (x : Tried) (k : Known) (last : ℕ) (tails : Made) (low : 
     few_expired = t.few_expired;
     undecided = t.undecided;
     unchanged = t.unchanged;
-  }
-
-  at_row : (key : Key) → AtRow r.target key k → AtRow r.target key later
-  at_row key a = record {
-    row = a.row;
-    number = a.number;
-    looked = a.looked;
-    read = a.read;
-    granted = a.granted;
-    some = a.some;
-    names = a.names;
-    later = a.later;
-    before = (let was = a.before in omega (arith, was, low));
   }
 
   since_later : Since r k → Since r later
@@ -81,7 +86,8 @@ module _ (r : Asked) (x : Tried) (k : Known) (last : ℕ) (tails : Made) (low : 
   ends (updated.NoSpace free needed) e = (e.0, e.1, since_later e.2)
 
   tried_later : (stage : _) → IsTriedBy stage k.last → IsTriedBy stage last
-  tried_later (tried first) was = omega (arith, was, low)
+  tried_later (tried (Some first)) was = omega (arith, was, low)
+  tried_later (tried None) was = tt
   tried_later pending was = tt
   tried_later over was = tt
 
@@ -122,6 +128,7 @@ module _ (r : Asked) (x : Tried) (k : Known) (last : ℕ) (tails : Made) (low : 
   others_keep settings stage f = record {
     low = f.low;
     high = f.high;
+    named = f.named;
     mine = f.mine;
     follow = f.follow;
     order = f.order;

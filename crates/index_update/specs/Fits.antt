@@ -11,6 +11,7 @@ use Rattle.object_words.specs.declared.why.Why.TheVariants as whys
 use Rattle.object_words.specs.Conditions.{fails}
 use Rattle.object_words.specs.Heads.{etag_of, seen_stamp}
 use Rattle.object_words.specs.Keys.{container_of}
+use Rattle.object_words.specs.Limits.{is_name}
 use Rattle.object_words.specs.Names.{at}
 use Rattle.realm_model.specs.Settings.{SettingsView}
 use Rattle.realm_model.specs.Accounts.{Looked, Decided, Account, accounted}
@@ -19,7 +20,7 @@ use Rattle.realm_model.specs.Doors.{DoorView, actor_at}
 use Rattle.realm_model.specs.Histories.{account_of, phase_of, world_of}
 use Rattle.realm_model.specs.Learnt.{learnt}
 use Rattle.realm_model.specs.Maps.{Maps, Made, slot_at, whole_slot}
-use Rattle.realm_model.specs.Needs.{is_over, holder_of}
+use Rattle.realm_model.specs.Needs.{object_limit, is_over, holder_of}
 use Rattle.realm_model.specs.Owns.{OwnEvent, own_events}
 use Rattle.realm_model.specs.Phases.{FirstEvent, OwnTag, Phase, Stage as TagStage, pending, tried, over}
 use Rattle.realm_model.specs.Suits.{Suits}
@@ -93,6 +94,10 @@ pub record Asked : Type 0 where
   pub change : HeadChange
   pub from : Path
   pub start : Known
+
+-- the name of the object is within the bounds of names
+abbrev pub HasName : Target → Type 0
+HasName t = is_name object_limit t.name ≡ true
 
 -- ---- since the start
 
@@ -239,9 +244,9 @@ IsAfter r x key (End end) k = IsCancelled end × EndsSo r end k
 
 -- ---- after the head was changed
 
--- the first answer Moved or Closed to a completion has at most this number
+-- the first answer Moved to a completion has at most this number
 abbrev pub IsTriedBy : TagStage → ℕ → Type 0
-IsTriedBy (tried first) last = first ≤ last
+IsTriedBy (tried (Some first)) last = first ≤ last
 IsTriedBy stage last = Unit {0}
 
 -- the one own change of a head is that of the bucket map, the tag is still there, and not too much was refused
@@ -260,7 +265,7 @@ pub record HasChanged (r : Asked) (x : Tried) (made : Change) (stage : TagStage)
 -- a completion was answered Moved, and a read of the row after it showed this shard of the container
 pub record ReadSince (r : Asked) (home key : Key) (stage : TagStage) (k : Known) : Type 0 where
   pub first : ℕ
-  pub is_tried : stage ≡ tried first
+  pub is_tried : stage ≡ tried (Some first)
   pub row : Bucket
   pub number : ℕ
   pub since : first < number
@@ -271,7 +276,7 @@ pub record ReadSince (r : Asked) (home key : Key) (stage : TagStage) (k : Known)
 -- a completion was answered Moved
 pub record WasMoved (stage : TagStage) : Type 0 where
   pub first : ℕ
-  pub is_tried : stage ≡ tried first
+  pub is_tried : stage ≡ tried (Some first)
 
 -- ---- by stage
 
@@ -307,6 +312,8 @@ FitsAt r x (Ended end) k = EndsSo r end k
 pub record Fits (settings : SettingsView) (r : Asked) (x : Tried) (stage : Stage) (k : Known) : Type 0 where
   pub low : 1 ≤ r.target.zone
   pub high : r.target.zone ≤ settings.zones
+  -- by the type of names
+  pub named : HasName r.target
   pub mine : List OwnEvent
   pub follow : k.events ≡ r.start.events ++ mine
   pub order : IsAt stage (path_from r.from mine)

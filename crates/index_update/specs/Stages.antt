@@ -1,5 +1,5 @@
 -- Where an update stands, and how an answer brings it on.
-use Rattle.std.specs.Prelude.{ℕ, ◌+◌, ◌-◌, ◌^◌, ◌==◌, nat_lt, min, Bool, true, false, List, Option, Some, None, if◌then◌else◌}
+use Rattle.std.specs.Prelude.{◌≡◌, ℕ, ◌+◌, ◌-◌, ◌^◌, ◌==◌, nat_lt, min, Bool, true, false, List, Option, Some, None, if◌then◌else◌}
 use Rattle.std.specs.declared.result.Result.{Result}
 use Rattle.std.specs.declared.result.Result.TheVariants.{Ok, Err}
 use Rattle.rgw_types.specs.declared.pool_key.Key.{Key}
@@ -34,7 +34,7 @@ use Rattle.index_update.specs.declared.stage.After.TheVariants.{Again, End}
 use Rattle.index_update.specs.declared.stage.Stage.{Stage}
 use Rattle.index_update.specs.declared.stage.Stage.TheVariants.{Looking, Preparing, Announcing, Writing, Cancelling, Completing, LookingForShard, Ended}
 use Rattle.index_update.specs.declared.stage.Rest.{Rest}
-use Rattle.index_update.specs.declared.stage.Rest.TheVariants.{Look, Prepare, Announce, Write, Cancel, Complete, LookForShard}
+use Rattle.index_update.specs.declared.stage.Rest.TheVariants.{Stands, Write, Complete}
 
 -- ---- stages
 
@@ -47,6 +47,12 @@ IsOver stage = ⊥
 abbrev pub IsReady : Stage → Type 0
 IsReady (Ended end) = ⊥
 IsReady stage = Unit {0}
+
+-- its operation takes the change or the row along
+abbrev pub TakesAlong : Stage → Type 0
+TakesAlong (Writing key guard change) = Unit {0}
+TakesAlong (Completing key made) = Unit {0}
+TakesAlong stage = ⊥
 
 -- ---- operations
 
@@ -68,15 +74,16 @@ op_of t (Ended end) = ops.BucketRead t.zone t.container
 
 -- what is kept meanwhile
 abbrev pub rest_of : Stage → Rest
-rest_of (Looking change) = Look change
-rest_of (Preparing key change) = Prepare key change
-rest_of (Announcing key guard change) = Announce key guard change
 rest_of (Writing key guard change) = Write key guard
-rest_of (Cancelling key tag after) = Cancel after
 rest_of (Completing key made) =
     Complete (record { home = made.home; tag = made.tag; version = made.version; stamp = made.stamp; old = made.old })
-rest_of (LookingForShard made) = LookForShard made
-rest_of (Ended end) = Cancel (End end)
+rest_of stage = Stands
+
+-- the stage that is left meanwhile: it stands, unless its operation takes of it
+abbrev pub IsLeft : Stage → Stage → Type 0
+IsLeft (Writing key guard change) left = Unit {0}
+IsLeft (Completing key made) left = Unit {0}
+IsLeft stage left = left ≡ stage
 
 -- ---- answers
 
@@ -176,16 +183,21 @@ abbrev pub shard_now : Key → List ℕ → Option Bucket → Key
 shard_now home name None = home
 shard_now home name (Some row) = if row.id == container_of home then shard_for row name else home
 
--- the stage after an answer
-abbrev pub resumed : Target → Tried → Rest → Reply → Option Op → Stage
-resumed t x (Look change) reply back = by_place change (place_of t (row_shown reply))
-resumed t x (Prepare key change) reply back = by_tag x key change reply
-resumed t x (Announce key guard change) reply back = Writing key guard change
-resumed t x (Write key guard) reply back = by_change x key guard reply back
-resumed t x (Cancel after) reply back = by_cancel x after
-resumed t x (Complete u) reply back = by_completion x u reply back
-resumed t x (LookForShard made) reply back = Completing (shard_now made.home t.name (row_shown reply)) made
+-- the stage after an answer to one that stood
+abbrev pub stood_on : Target → Tried → Stage → Reply → Stage
+stood_on t x (Looking change) reply = by_place change (place_of t (row_shown reply))
+stood_on t x (Preparing key change) reply = by_tag x key change reply
+stood_on t x (Announcing key guard change) reply = Writing key guard change
+stood_on t x (Cancelling key tag after) reply = by_cancel x after
+stood_on t x (LookingForShard made) reply = Completing (shard_now made.home t.name (row_shown reply)) made
+stood_on t x stage reply = stage
+
+-- the stage after an answer, where this one is left and that is kept
+abbrev pub resumed : Target → Tried → Stage → Rest → Reply → Option Op → Stage
+resumed t x left Stands reply back = stood_on t x left reply
+resumed t x left (Write key guard) reply back = by_change x key guard reply back
+resumed t x left (Complete u) reply back = by_completion x u reply back
 
 -- the stage after an answer to the operation, with the counts after it
 abbrev pub step_of : Target → Tried → Stage → Reply → Stage
-step_of t x stage reply = resumed t x (rest_of stage) reply (back_of (op_of t stage) reply)
+step_of t x stage reply = resumed t x stage (rest_of stage) reply (back_of (op_of t stage) reply)

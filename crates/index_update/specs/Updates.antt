@@ -8,7 +8,7 @@ use Rattle.index_update.specs.declared.stage.Rest.{Rest}
 use Rattle.std.specs.List.{AllByRecursion}
 use Rattle.index_update.specs.Changes.{has_needs, IsOfUpdate}
 use Rattle.index_update.specs.Paths.{Path, path_from, IsFinished}
-use Rattle.index_update.specs.Stages.{IsReady, op_of, rest_of, tried_after, step_of}
+use Rattle.index_update.specs.Stages.{IsReady, op_of, rest_of, IsLeft, tried_after, step_of}
 use Rattle.index_update.specs.Fits.{Known, known_at, Start, Asked, IsTagFree, EndsSo, Fits}
 use Rattle.index_update.specs.declared.head_change.HeadChange.{HeadChange}
 use Rattle.index_update.specs.declared.stage.Stage.{Stage}
@@ -42,9 +42,10 @@ at_stage u stage x = record { target = u.target; stage = stage; tried = x }
 abbrev pub next_op : IndexUpdate → Op
 next_op u = op_of u.target u.stage
 
--- its operation was taken out, and this is kept
+-- its operation was taken out; this is left, and that is kept
 abbrev pub IsTaken : IndexUpdate → IndexUpdate → Rest → Type 0
-IsTaken u v rest = IsReady u.stage × (v.target ≡ u.target) × (v.tried ≡ u.tried) × (rest ≡ rest_of u.stage)
+IsTaken u v rest =
+    IsReady u.stage × (v.target ≡ u.target) × (v.tried ≡ u.tried) × IsLeft u.stage v.stage × (rest ≡ rest_of u.stage)
 
 -- the update behind an event that was answered so
 abbrev pub stepped : IndexUpdate → Reply → IndexUpdate

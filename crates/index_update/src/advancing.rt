@@ -1,16 +1,17 @@
 // Where an answer brings an update.
 ghost use Rattle.std.specs.Prelude.{◌≡◌, option_copied};
-ghost use Rattle.index_update.specs.Stages.{tried_after, place_of, by_place, look_again, by_tag, after_late, by_lateness, by_refusal, by_change, by_cancel, look_for_shard, row_back, change_of, by_move, by_completion, shard_for, shard_now, resumed};
+ghost use Rattle.index_update.specs.Stages.{tried_after, place_of, look_again, after_late, by_lateness, by_refusal, by_change, by_cancel, look_for_shard, row_back, change_of, by_move, by_completion, shard_for, shard_now};
 ghost use Rattle.realm_model.specs.Shown.{row_shown};
-ghost use Rattle.index_update.specs.declared.stage.Stage.TheVariants.{Writing, Completing, Ended};
+ghost use Rattle.index_update.specs.declared.stage.Stage.TheVariants.{Completing, Ended};
 ghost use Rattle.index_update.specs.declared.stage.After.TheVariants.{End};
 ghost use Rattle.index_update.specs.declared.stage.Updated.TheVariants as ends;
 
 use crate::head_change::{HeadChange, change_back};
-use crate::stage::{After, Change, Rest, Stage, Target, Tried, Unfinished, Updated};
+use crate::stage::{After, Change, Stage, Target, Tried, Unfinished, Updated};
 use object_words::{Bucket, Changed, EntryRow, Guard, ObjectName, ShardKey, Why, shard_of};
 use realm_door::Answered;
 use realm_model::{Op, Reply};
+use std::mem::replace;
 use swift_auth::Deed;
 use task_words::{MOST_EXPIRED, MOST_MOVED, Refusal};
 
@@ -32,60 +33,171 @@ pub(crate) fn tried_after(tried: Tried, reply: &Reply) -> Tried
     }
 }
 
-/// The stage after an answer. The operation comes back where it was refused.
-pub(crate) fn resumed(target: &Target, tried: Tried, rest: Rest, answered: Answered) -> Stage
-    ensures { result ≡ resumed target.now tried rest answered.reply answered.back }
-{
-    match rest {
-        Rest::Look(change) => looked(target, change, answered),
-        Rest::Prepare { key, change } => prepared(tried, key, change, answered),
-        Rest::Announce { key, guard, change } => announced(key, guard, change, answered),
-        Rest::Write { key, guard } => written(tried, key, guard, answered),
-        Rest::Cancel(after) => cancelled(tried, after, answered),
-        Rest::Complete(unfinished) => completed(tried, unfinished, answered),
-        Rest::LookForShard(made) => shard_looked(target, made, answered),
+impl Stage {
+    ghost use Rattle.std.specs.Prelude.{◌≡◌, ℕ};
+    ghost use Rattle.rgw_types.specs.declared.pool_key.Key.{Key};
+    ghost use Rattle.index_update.specs.Stages.{by_place, by_tag, look_again, by_cancel, stood_on};
+    ghost use Rattle.index_update.specs.declared.head_change.HeadChange.{HeadChange as HeadChangeOf};
+    ghost use Rattle.index_update.specs.declared.stage.After.{After as AfterOf};
+    ghost use Rattle.index_update.specs.declared.stage.Change.{Change as ChangeOf};
+    ghost use Rattle.index_update.specs.declared.stage.Stage.TheVariants.{Looking, Preparing, Announcing, Writing, Cancelling, Completing, LookingForShard};
+    ghost use Rattle.object_words.specs.declared.entry.Guard.{Guard as GuardOf};
+
+    /// A stage that stood goes on by an answer.
+    pub(crate) fn stand_on(&mut self, target: &Target, tried: Tried, answered: Answered)
+        ensures { self.new ≡ stood_on target.now tried self.old answered.reply }
+    {
+        match self {
+            Stage::Looking { .. } => {
+                let place = place_shown(target, answered);
+                self.placed(place);
+            }
+            Stage::Preparing { .. } => self.prepared(tried, answered),
+            Stage::Announcing { .. } => {
+                drop(answered);
+                self.announced();
+            }
+            Stage::Cancelling { .. } => {
+                drop(answered);
+                self.cancelled(tried);
+            }
+            Stage::LookingForShard { made } => {
+                let key = shard_looked(target, made.home, answered);
+                self.shard_found(key);
+            }
+            _ => drop(answered),
+        }
+    }
+
+    /// The row was read again.
+    fn placed(&mut self, place: Result<ShardKey, Refusal>)
+        ensures { (change : HeadChangeOf) → self.old ≡ Looking change → self.new ≡ by_place change place }
+    {
+        match place {
+            Ok(key) => self.prepare(key),
+            Err(refusal) => self.stand(Stage::Ended(Updated::Refused(refusal))),
+        }
+    }
+
+    fn prepare(&mut self, key: ShardKey)
+        ensures { (change : HeadChangeOf) → self.old ≡ Looking change → self.new ≡ Preparing key change }
+    {
+        match replace(self, Stage::Ended(Updated::MovedOften)) {
+            Stage::Looking { change } => self.stand(Stage::Preparing { key, change }),
+            other => drop(other),
+        }
+    }
+
+    /// A tag was given, or the shard refused it.
+    fn prepared(&mut self, tried: Tried, answered: Answered)
+        ensures { (key : Key) (change : HeadChangeOf) → self.old ≡ Preparing key change → self.new ≡ by_tag tried key change answered.reply }
+    {
+        match &answered.reply {
+            Reply::Prepared(guard) => {
+                let guard = *guard;
+                drop(answered);
+                self.announce(guard);
+            }
+            Reply::No(Why::Held { id }) => {
+                let id = *id;
+                drop(answered);
+                self.stand(Stage::Ended(Updated::Busy { id }));
+            }
+            _ => {
+                drop(answered);
+                self.look_again(tried);
+            }
+        }
+    }
+
+    fn announce(&mut self, guard: Guard)
+        ensures { (key : Key) (change : HeadChangeOf) → self.old ≡ Preparing key change → self.new ≡ Announcing key guard change }
+    {
+        match replace(self, Stage::Ended(Updated::MovedOften)) {
+            Stage::Preparing { key, change } => self.stand(Stage::Announcing {
+                key,
+                guard,
+                change,
+            }),
+            other => drop(other),
+        }
+    }
+
+    fn look_again(&mut self, tried: Tried)
+        ensures { (key : Key) (change : HeadChangeOf) → self.old ≡ Preparing key change → self.new ≡ look_again tried change }
+    {
+        match replace(self, Stage::Ended(Updated::MovedOften)) {
+            Stage::Preparing { change, .. } => self.stand(look_again(tried, change)),
+            other => drop(other),
+        }
+    }
+
+    /// The shard was announced.
+    fn announced(&mut self)
+        ensures { (key : Key) (guard : GuardOf) (change : HeadChangeOf) → self.old ≡ Announcing key guard change → self.new ≡ Writing key guard change }
+    {
+        match replace(self, Stage::Ended(Updated::MovedOften)) {
+            Stage::Announcing { key, guard, change } => {
+                self.stand(Stage::Writing { key, guard, change });
+            }
+            other => drop(other),
+        }
+    }
+
+    /// The tag was cancelled, or is left to its deadline.
+    fn cancelled(&mut self, tried: Tried)
+        ensures { (key : Key) (tag : ℕ) (after : AfterOf) → self.old ≡ Cancelling key tag after → self.new ≡ by_cancel tried after }
+    {
+        match replace(self, Stage::Ended(Updated::MovedOften)) {
+            Stage::Cancelling { after, .. } => self.stand(by_cancel(tried, after)),
+            other => drop(other),
+        }
+    }
+
+    /// The row was read again, for the shard in which the change is completed.
+    fn shard_found(&mut self, key: ShardKey)
+        ensures { (made : ChangeOf) → self.old ≡ LookingForShard made → self.new ≡ Completing key made }
+    {
+        match replace(self, Stage::Ended(Updated::MovedOften)) {
+            Stage::LookingForShard { made } => self.stand(Stage::Completing { key, made }),
+            other => drop(other),
+        }
+    }
+
+    /// Stands there from now on.
+    pub(crate) fn stand(&mut self, next: Stage)
+        ensures { self.new ≡ next }
+    {
+        *self = next;
     }
 }
 
-/// A tag was given, or the shard refused it.
-fn prepared(tried: Tried, key: ShardKey, change: HeadChange, answered: Answered) -> Stage
-    ensures { result ≡ by_tag tried key change answered.reply }
-{
-    let Answered { reply, back, .. } = answered;
-    drop(back);
-    by_tag(tried, key, change, reply)
-}
-
-/// The shard was announced.
-fn announced(key: ShardKey, guard: Guard, change: HeadChange, answered: Answered) -> Stage
-    ensures { result ≡ Writing key guard change }
-{
-    drop(answered);
-    Stage::Writing { key, guard, change }
-}
-
-/// The tag was cancelled, or is left to its deadline.
-fn cancelled(tried: Tried, after: After, answered: Answered) -> Stage
-    ensures { result ≡ by_cancel tried after }
-{
-    drop(answered);
-    by_cancel(tried, after)
-}
-
-/// The row was read again.
-fn looked(target: &Target, change: HeadChange, answered: Answered) -> Stage
-    ensures { result ≡ by_place change (place_of target.now (row_shown answered.reply)) }
+/// The shard for the name, or why the row refuses the change, by the answer to a read of the row.
+pub fn place_shown(target: &Target, answered: Answered) -> Result<ShardKey, Refusal>
+    ensures { result ≡ place_of target.now (row_shown answered.reply) }
 {
     let Answered { reply, back, .. } = answered;
     drop(back);
     let row = reply.into_row();
     let place = place_of(target, row.as_ref());
     drop(row);
-    by_place(change, place)
+    place
+}
+
+/// The row was read again, for the shard in which the change is completed.
+fn shard_looked(target: &Target, home: ShardKey, answered: Answered) -> ShardKey
+    ensures { result ≡ shard_now home target.now.name (row_shown answered.reply) }
+{
+    let Answered { reply, back, .. } = answered;
+    drop(back);
+    let row = reply.into_row();
+    let key = shard_now(home, &target.name, row.as_ref());
+    drop(row);
+    key
 }
 
 /// The head was changed, or not.
-fn written(tried: Tried, key: ShardKey, guard: Guard, answered: Answered) -> Stage
+pub(crate) fn written(tried: Tried, key: ShardKey, guard: Guard, answered: Answered) -> Stage
     ensures { result ≡ by_change tried key guard answered.reply answered.back }
 {
     let Answered { reply, back, .. } = answered;
@@ -93,23 +205,11 @@ fn written(tried: Tried, key: ShardKey, guard: Guard, answered: Answered) -> Sta
 }
 
 /// The change was completed, or not.
-fn completed(tried: Tried, unfinished: Unfinished, answered: Answered) -> Stage
+pub(crate) fn completed(tried: Tried, unfinished: Unfinished, answered: Answered) -> Stage
     ensures { result ≡ by_completion tried unfinished answered.reply answered.back }
 {
     let Answered { reply, back, .. } = answered;
     by_completion(tried, unfinished, reply, back)
-}
-
-/// The row was read again, for the shard in which the change is completed.
-fn shard_looked(target: &Target, made: Change, answered: Answered) -> Stage
-    ensures { result ≡ Completing (shard_now made.home target.now.name (row_shown answered.reply)) made }
-{
-    let Answered { reply, back, .. } = answered;
-    drop(back);
-    let row = reply.into_row();
-    let key = shard_now(made.home, &target.name, row.as_ref());
-    drop(row);
-    Stage::Completing { key, made }
 }
 
 /// The shard that a row has for a name.
@@ -124,7 +224,7 @@ fn shard_for(row: &Bucket, name: &ObjectName) -> ShardKey
 }
 
 /// The shard for the name, or why the row refuses the change.
-pub fn place_of(target: &Target, row: Option<&Bucket>) -> Result<ShardKey, Refusal>
+fn place_of(target: &Target, row: Option<&Bucket>) -> Result<ShardKey, Refusal>
     ensures { result ≡ place_of target.now (option_copied row.entry) }
 {
     match target.asker.refusal(row, Deed::ChangeThing) {
@@ -133,16 +233,6 @@ pub fn place_of(target: &Target, row: Option<&Bucket>) -> Result<ShardKey, Refus
             Some(row) => Ok(shard_for(row, &target.name)),
             None => Err(Refusal::NoContainer),
         },
-    }
-}
-
-/// The row was read again.
-fn by_place(change: HeadChange, place: Result<ShardKey, Refusal>) -> Stage
-    ensures { result ≡ by_place change place }
-{
-    match place {
-        Ok(key) => Stage::Preparing { key, change },
-        Err(refusal) => Stage::Ended(Updated::Refused(refusal)),
     }
 }
 
@@ -155,29 +245,6 @@ fn look_again(tried: Tried, change: HeadChange) -> Stage
     } else {
         drop(change);
         Stage::Ended(Updated::MovedOften)
-    }
-}
-
-/// A tag was given, or the shard refused it.
-fn by_tag(tried: Tried, key: ShardKey, change: HeadChange, reply: Reply) -> Stage
-    ensures { result ≡ by_tag tried key change reply }
-{
-    match &reply {
-        Reply::Prepared(guard) => {
-            let guard = *guard;
-            drop(reply);
-            Stage::Announcing { key, guard, change }
-        }
-        Reply::No(Why::Held { id }) => {
-            let id = *id;
-            drop(reply);
-            drop(change);
-            Stage::Ended(Updated::Busy { id })
-        }
-        _ => {
-            drop(reply);
-            look_again(tried, change)
-        }
     }
 }
 

@@ -28,7 +28,7 @@ ghost use Rattle.index_update.specs.declared.update.IndexUpdate.{IndexUpdate as 
 ghost use Rattle.index_update.specs.Refusals.{OnlyRowsRefuse};
 ghost use Rattle.index_update.specs.Paths.{Path, path_after, path_from};
 ghost use Rattle.index_update.specs.Stages.{IsReady, op_of, step_of};
-ghost use Rattle.index_update.specs.Fits.{Start, Asked, Known, known_later, IsAt, FitsAt, HasShards, IsAnswer, MayCome, IsKept};
+ghost use Rattle.index_update.specs.Fits.{Start, Asked, Known, known_later, HasName, IsAt, FitsAt, HasShards, IsAnswer, MayCome, IsKept};
 ghost use Rattle.index_update.specs.Updates.{fits};
 
 /// An update stands where it stood when others made events.
@@ -90,7 +90,7 @@ pub fn completions_keep_where_an_update_stands()
 /// The next operation of an update may come next.
 pub fn an_update_may_go_on()
     ensures prepare { (settings : SettingsView) (r : Asked) (x : TriedOf) (key : KeyOf) (change : HeadChangeOf) (k : Known)
-        → 1 ≤ r.target.zone → r.target.zone ≤ settings.zones
+        → 1 ≤ r.target.zone → r.target.zone ≤ settings.zones → HasName r.target
         → FitsAt r x (Preparing key change) k → MayCome settings r (Preparing key change) k }
     ensures announce { (settings : SettingsView) (r : Asked) (x : TriedOf) (key : KeyOf) (guard : GuardOf) (change : HeadChangeOf) (k : Known)
         → 1 ≤ r.target.zone → r.target.zone ≤ settings.zones

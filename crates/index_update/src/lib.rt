@@ -9,7 +9,7 @@ mod splitting;
 mod stage;
 mod update;
 
-pub use advancing::place_of;
+pub use advancing::place_shown;
 pub use head_change::HeadChange;
 pub use laws::{
     a_row_names_its_shard, an_update_may_go_on, answers_are_of_the_map,

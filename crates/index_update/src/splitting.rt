@@ -1,6 +1,6 @@
 // The operation of a stage, taken out of it.
-ghost use Rattle.std.specs.Prelude.{◌≡◌, Ok, IfOk};
-ghost use Rattle.index_update.specs.Stages.{IsReady, op_of, rest_of};
+ghost use Rattle.std.specs.Prelude.{◌≡◌, IfOk};
+ghost use Rattle.index_update.specs.Stages.{TakesAlong, op_of, rest_of};
 
 use crate::head_change::HeadChange;
 use crate::stage::{Change, Rest, Stage, Target, Unfinished};
@@ -9,42 +9,16 @@ use realm_door::Taken;
 use realm_model::Op;
 use std::alloc::AllocError;
 
-/// The operation that comes next, and what is kept while it is done.
-pub(crate) fn split(target: &Target, stage: Stage) -> Result<Taken<Rest>, AllocError>
-    requires ready { IsReady stage }
+/// The operation that takes of its stage, and what is kept while it is done.
+pub(crate) fn split_off(target: &Target, stage: Stage) -> Result<Taken<Rest>, AllocError>
+    requires along { TakesAlong stage }
     ensures op { IfOk result (λ s. s.op ≡ op_of target.now stage) }
     ensures rest { IfOk result (λ s. s.rest ≡ rest_of stage) }
 {
     match stage {
-        Stage::Looking { change } => beside(target.look(), Rest::Look(change)),
-        Stage::Preparing { key, change } => {
-            beside(target.prepare(key), Rest::Prepare { key, change })
-        }
-        Stage::Announcing { key, guard, change } => {
-            let rest = Rest::Announce { key, guard, change };
-            beside(target.announce(key), rest)
-        }
         Stage::Writing { key, guard, change } => target.change(key, guard, change),
-        Stage::Cancelling { key, tag, after } => {
-            beside(target.cancel(key, tag), Rest::Cancel(after))
-        }
         Stage::Completing { key, made } => target.complete(key, made),
-        Stage::LookingForShard { made } => beside(target.look(), Rest::LookForShard(made)),
-        Stage::Ended(_) => unreachable!(),
-    }
-}
-
-/// The operation, where there is one, and what is kept beside it.
-fn beside(op: Result<Op, AllocError>, rest: Rest) -> Result<Taken<Rest>, AllocError>
-    ensures op { IfOk result (λ s. op ≡ Ok s.op) }
-    ensures rest { IfOk result (λ s. s.rest ≡ rest) }
-{
-    match op {
-        Ok(op) => Ok(Taken { op, rest }),
-        Err(error) => {
-            drop(rest);
-            Err(error)
-        }
+        _ => unreachable!(),
     }
 }
 
@@ -53,44 +27,57 @@ impl Target {
     ghost use Rattle.realm_model.specs.declared.op.Op.TheVariants.{BucketRead, Prepare, Announce, Cancel};
     ghost use Rattle.object_words.specs.Keys.{container_of, instance_of, number_of};
     ghost use Rattle.index_update.specs.Stages.{op_of, rest_of};
+    ghost use Rattle.index_update.specs.declared.stage.Rest.TheVariants.{Stands};
     ghost use Rattle.index_update.specs.declared.stage.Stage.TheVariants.{Writing, Completing};
 
-    /// The row is read.
-    fn look(&self) -> Result<Op, AllocError>
-        ensures { IfOk result (λ op. op ≡ BucketRead self.now.zone self.now.container) }
+    /// The row is read, and the stage stands.
+    pub fn look(&self) -> Result<Taken<Rest>, AllocError>
+        ensures { IfOk result (λ s. s ≡ record { op = BucketRead self.now.zone self.now.container; rest = Stands }) }
     {
-        Ok(Op::BucketRead {
-            zone: self.zone,
-            name: self.container.clone()?,
+        Ok(Taken {
+            op: Op::BucketRead {
+                zone: self.zone,
+                name: self.container.clone()?,
+            },
+            rest: Rest::Stands,
         })
     }
 
     /// A change of the name is prepared.
-    fn prepare(&self, key: ShardKey) -> Result<Op, AllocError>
-        ensures { IfOk result (λ op. op ≡ Prepare self.now.zone key self.now.name) }
+    pub(crate) fn prepare(&self, key: ShardKey) -> Result<Taken<Rest>, AllocError>
+        ensures { IfOk result (λ s. s ≡ record { op = Prepare self.now.zone key self.now.name; rest = Stands }) }
     {
-        Ok(Op::Prepare {
-            zone: self.zone,
-            key,
-            name: self.name.clone()?,
+        Ok(Taken {
+            op: Op::Prepare {
+                zone: self.zone,
+                key,
+                name: self.name.clone()?,
+            },
+            rest: Rest::Stands,
         })
     }
 
     /// The shard is announced.
-    fn announce(&self, key: ShardKey) -> Result<Op, AllocError>
-        ensures { IfOk result (λ op. op ≡ Announce self.now.zone (container_of key) (instance_of key) (number_of key) self.now.container) }
+    pub(crate) fn announce(&self, key: ShardKey) -> Result<Taken<Rest>, AllocError>
+        ensures { IfOk result (λ s. s ≡ record {
+          op = Announce self.now.zone (container_of key) (instance_of key) (number_of key) self.now.container;
+          rest = Stands;
+        }) }
     {
-        Ok(Op::Announce {
-            zone: self.zone,
-            container: key.container,
-            instance: key.instance,
-            shard: key.shard,
-            bucket: self.container.clone()?,
+        Ok(Taken {
+            op: Op::Announce {
+                zone: self.zone,
+                container: key.container,
+                instance: key.instance,
+                shard: key.shard,
+                bucket: self.container.clone()?,
+            },
+            rest: Rest::Stands,
         })
     }
 
     /// The head is changed.
-    fn change(
+    pub(crate) fn change(
         &self,
         key: ShardKey,
         guard: Guard,
@@ -107,19 +94,22 @@ impl Target {
     }
 
     /// The tag is cancelled.
-    fn cancel(&self, key: ShardKey, tag: u64) -> Result<Op, AllocError>
-        ensures { IfOk result (λ op. op ≡ Cancel self.now.zone key self.now.name tag) }
+    pub(crate) fn cancel(&self, key: ShardKey, tag: u64) -> Result<Taken<Rest>, AllocError>
+        ensures { IfOk result (λ s. s ≡ record { op = Cancel self.now.zone key self.now.name tag; rest = Stands }) }
     {
-        Ok(Op::Cancel {
-            zone: self.zone,
-            key,
-            name: self.name.clone()?,
-            tag,
+        Ok(Taken {
+            op: Op::Cancel {
+                zone: self.zone,
+                key,
+                name: self.name.clone()?,
+                tag,
+            },
+            rest: Rest::Stands,
         })
     }
 
     /// The change is completed.
-    fn complete(&self, key: ShardKey, made: Change) -> Result<Taken<Rest>, AllocError>
+    pub(crate) fn complete(&self, key: ShardKey, made: Change) -> Result<Taken<Rest>, AllocError>
         ensures op { IfOk result (λ s. s.op ≡ op_of self.now (Completing key made)) }
         ensures rest { IfOk result (λ s. s.rest ≡ rest_of (Completing key made)) }
     {

@@ -25,7 +25,7 @@ pub struct Change {
 }
 
 /// What is kept of a change while it is completed.
-#[derive(Drop)]
+#[derive(Clone, Copy)]
 pub struct Unfinished {
     pub home: ShardKey,
     pub tag: u64,
@@ -102,24 +102,11 @@ pub enum Stage {
     Ended(Updated),
 }
 
-/// What is kept of a stage while its operation is done. What the operation took comes back with it where it is refused.
-#[derive(Drop)]
+/// What is kept beside a stage while its operation is done. What the operation took comes back with it where it is refused.
+#[derive(Clone, Copy)]
 pub enum Rest {
-    Look(HeadChange),
-    Prepare {
-        key: ShardKey,
-        change: HeadChange,
-    },
-    Announce {
-        key: ShardKey,
-        guard: Guard,
-        change: HeadChange,
-    },
-    Write {
-        key: ShardKey,
-        guard: Guard,
-    },
-    Cancel(After),
+    /// Nothing: the stage stands.
+    Stands,
+    Write { key: ShardKey, guard: Guard },
     Complete(Unfinished),
-    LookForShard(Change),
 }

@@ -3,13 +3,13 @@ ghost use Rattle.realm_model.specs.Settings.{SettingsView};
 ghost use Rattle.realm_model.specs.Doors.{DoorView};
 ghost use Rattle.index_update.specs.Paths.{turned, ready};
 ghost use Rattle.index_update.specs.Stages.{IsOver};
-ghost use Rattle.index_update.specs.Fits.{Start, known_at, AtRow, HasShards};
+ghost use Rattle.index_update.specs.Fits.{Start, known_at, HasName, AtRow, HasShards};
 ghost use Rattle.index_update.specs.Updates.{stage_of, target_of, begun, start_at, fits, MayBegin, IsEnd};
 ghost use Rattle.index_update.specs.declared.stage.Stage.TheVariants.{Looking, Preparing, Ended};
 
-use crate::advancing::{resumed, tried_after};
+use crate::advancing::{completed, tried_after, written};
 use crate::head_change::HeadChange;
-use crate::splitting::split;
+use crate::splitting::split_off;
 use crate::stage::{Rest, Stage, Target, Tried, Updated};
 use object_words::ShardKey;
 use realm_door::{Answered, Door, Taken};
@@ -88,8 +88,26 @@ impl IndexUpdate {
             → allowed settings (phase_of settings d.seen (actor_at d)) (next_op self.old) ≡ true }
         ensures target { target_of self.new ≡ target_of self.old }
     {
-        let stage = replace(&mut self.stage, Stage::Ended(Updated::MovedOften));
-        split(&self.target, stage)
+        self.take_out()
+    }
+
+    /// Takes the operation out of the stage.
+    fn take_out(&mut self) -> Result<Taken<Rest>, AllocError>
+        requires ready { IsReady (stage_of self.old) }
+        ensures op { IfOk result (λ s. s.op ≡ next_op self.old) }
+        ensures rest { IfOk result (λ s. IsTaken self.old self.new s.rest) }
+        ensures target { target_of self.new ≡ target_of self.old }
+    {
+        match &self.stage {
+            Stage::Looking { .. } | Stage::LookingForShard { .. } => self.target.look(),
+            Stage::Preparing { key, .. } => self.target.prepare(*key),
+            Stage::Announcing { key, .. } => self.target.announce(*key),
+            Stage::Cancelling { key, tag, .. } => self.target.cancel(*key, *tag),
+            Stage::Writing { .. } | Stage::Completing { .. } | Stage::Ended(_) => {
+                let stage = replace(&mut self.stage, Stage::Ended(Updated::MovedOften));
+                split_off(&self.target, stage)
+            }
+        }
     }
 
     /// Goes on by the answer to that operation.
@@ -107,14 +125,23 @@ impl IndexUpdate {
     /// Goes on by an answer.
     fn go_on(&mut self, rest: Rest, answered: Answered)
         ensures update { self.new ≡ at_stage self.old
-            (resumed self.old.target (tried_after self.old.tried answered.reply) rest answered.reply answered.back)
+            (resumed self.old.target (tried_after self.old.tried answered.reply) self.old.stage rest answered.reply answered.back)
             (tried_after self.old.tried answered.reply) }
         ensures sound { HasShards answered.reply }
     {
         has_shards(&answered.reply);
         self.tried = tried_after(self.tried, &answered.reply);
-        let stage = resumed(&self.target, self.tried, rest, answered);
-        drop(replace(&mut self.stage, stage));
+        match rest {
+            Rest::Stands => self.stage.stand_on(&self.target, self.tried, answered),
+            Rest::Write { key, guard } => {
+                let stage = written(self.tried, key, guard, answered);
+                self.stage.stand(stage);
+            }
+            Rest::Complete(unfinished) => {
+                let stage = completed(self.tried, unfinished, answered);
+                self.stage.stand(stage);
+            }
+        }
     }
 
     /// Makes the event that comes next. At `Err` there is none, and the update is of no more use.
@@ -153,7 +180,6 @@ impl IndexUpdate {
             Err(stopped) => {
                 let fault = stopped.fault;
                 drop(stopped);
-                drop(rest);
                 Err(fault)
             }
         }
@@ -162,8 +188,10 @@ impl IndexUpdate {
 
 /// An update that made no event.
 fn begun(target: Target, stage: Stage) -> IndexUpdate
-    ensures { result ≡ begun target stage }
+    ensures update { result ≡ begun target stage }
+    ensures named { HasName target }
 {
+    target.has_name();
     IndexUpdate {
         target,
         stage,
@@ -171,6 +199,17 @@ fn begun(target: Target, stage: Stage) -> IndexUpdate
             moved: 0,
             expired: 0,
         },
+    }
+}
+
+impl Target {
+    ghost use Rattle.index_update.specs.Fits.{HasName};
+
+    /// The name of the object is within the bounds of names, by its type.
+    fn has_name(&self)
+        ensures { HasName self.now }
+    {
+        let _text = self.name.as_text();
     }
 }
 

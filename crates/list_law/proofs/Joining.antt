@@ -8,10 +8,11 @@ use Rattle.std.proofs.lemmas.List.{take-append-drop}
 use Rattle.object_words.specs.declared.head.SeenSlot.{SeenSlot}
 use Rattle.object_words.specs.declared.head.SeenSlot.TheVariants.{Nothing}
 use Rattle.object_words.specs.Names.{name_cmp, Named, at}
+use Rattle.realm_model.specs.Containers.{is_standing}
 use Rattle.realm_model.specs.Settings.{SettingsView, IsSettings}
 use Rattle.realm_model.specs.Phases.{ActorId}
 use Rattle.realm_model.specs.Maps.{slot_at, no_maps, heads}
-use Rattle.realm_model.specs.Histories.{account_of, Legal}
+use Rattle.realm_model.specs.Histories.{world_of, state_of, account_of, Legal}
 use Rattle.realm_model.specs.Owns.{OwnEvent, own_events}
 use Rattle.realm_model.specs.declared.event.Event.{Event}
 use Rattle.list_words.specs.declared.command.ListCommand.{ListCommand}
@@ -20,13 +21,15 @@ use Rattle.list_words.specs.Listings.{in_scope, rows_of}
 use Rattle.task_list.specs.declared.request.ListRequest.{ListRequest}
 use Rattle.task_list.specs.Listed.{slot_row, IsFolded, IsShown, is_within, IsEnough, AreShown, ListedBy}
 use Rattle.task_list.proofs.Names.{truth}
+use Rattle.index_law.specs.Tables.{StandsIn}
+use Rattle.index_law.proofs.Consequences.{stands_of}
 use Rattle.list_law.specs.Maps.{live_names, slot_after, HadAt, AreOfMap}
 use Rattle.list_law.proofs.Kept.{listed_alike}
 use Rattle.list_law.proofs.Turned.{live_rises, live_at, same_live, turned_map, turned_at, lacked_from, mapped_by-append}
 use Rattle.list_law.proofs.Places.{some_event}
 use Rattle.list_law.proofs.Seeing.{ShownAt, by_page, by_head}
 
-module _ (settings : SettingsView) (history : List Event) (good : IsSettings settings) (legal : Legal settings history) (actor : ActorId) (zone : ℕ) (c : ListCommand) (container : ℕ) (rows : List ListedRow)
+module _ (settings : SettingsView) (history : List Event) (good : IsSettings settings) (legal : Legal settings history) (actor : ActorId) (zone : ℕ) (c : ListCommand) (container : ℕ) (stood : StandsIn (world_of settings history) container) (rows : List ListedRow)
     (any : OwnEvent) (any_made : Contains (own_events history actor) any) (a : AreShown zone c container rows (own_events history actor)) where
   abbrev events : List OwnEvent
   events = own_events history actor
@@ -62,7 +65,7 @@ module _ (settings : SettingsView) (history : List Event) (good : IsSettings set
   by_shown name scope within shown =
       ⊎_elim (λ own.
       looked_at name scope within
-      (⊎_elim (λ page. by_page settings history good legal actor zone c container name (find name_cmp name a.live) page)
+      (⊎_elim (λ page. by_page settings history good legal actor zone c container name stood (find name_cmp name a.live) page)
       (λ head. by_head settings history good legal actor zone c container name (find name_cmp name a.live) head) own))
       (λ f. unlooked name (λ s w. f)) shown
 
@@ -119,16 +122,16 @@ module _ (settings : SettingsView) (history : List Event) (good : IsSettings set
   of_map = record { slots = of_slots; had = had; rows_are = rows_are }
 
 pub listed_of_map : (settings : SettingsView) (history : List Event) (actor : ActorId) (r : ListRequest) (rows : List ListedRow) → IsSettings settings → Legal settings history
-    → (listed : ListedBy r rows (account_of settings history actor) (own_events history actor)) → AreOfMap history r.zone r.command (listed.row).id rows (own_events history actor)
-listed_of_map settings history actor r rows good legal l =
+    → (listed : ListedBy r rows (account_of settings history actor) (own_events history actor)) → is_standing (world_of settings history).rows (state_of settings history) (listed.row).id ≡ true → AreOfMap history r.zone r.command (listed.row).id rows (own_events history actor)
+listed_of_map settings history actor r rows good legal l stands =
     let some = some_event settings history actor l.look l.is_last in
-    of_map settings history good legal actor r.zone r.command (l.row).id rows some.0 some.1 l.shown
+    of_map settings history good legal actor r.zone r.command (l.row).id (stands_of (world_of settings history) (l.row).id stands) rows some.0 some.1 l.shown
 
 pub listed_of_calm_map : (settings : SettingsView) (history : List Event) (actor : ActorId) (r : ListRequest) (rows : List ListedRow) → IsSettings settings → Legal settings history
-    → (listed : ListedBy r rows (account_of settings history actor) (own_events history actor))
+    → (listed : ListedBy r rows (account_of settings history actor) (own_events history actor)) → is_standing (world_of settings history).rows (state_of settings history) (listed.row).id ≡ true
     → ((own : OwnEvent) (name : List ℕ) → Contains (own_events history actor) own → slot_after history own.number r.zone (listed.row).id name ≡ slot_at (heads history r.zone (listed.row).id) name)
     → rows ≡ rows_of r.command (live_names (heads history r.zone (listed.row).id))
-listed_of_calm_map settings history actor r rows good legal l calm =
-    let m = listed_of_map settings history actor r rows good legal l in
+listed_of_calm_map settings history actor r rows good legal l stands calm =
+    let m = listed_of_map settings history actor r rows good legal l stands in
     m.rows_are
     ∙ ap (rows_of r.command) (same_live m.slots (heads history r.zone (l.row).id) (λ name. let h = m.had name in h.slot_is ∙ calm h.own name h.made))

@@ -1,35 +1,22 @@
 -- Where an actor's own events stand in a history, and tables that only grow between them.
-use Rattle.std.proofs.Common.{◌≡◌, ⊎_elim, ℕ, ◌+◌, ◌<◌, ◌≤◌, ◌==◌, not, Bool, true, false, cond, List, [], ◌∷◌, ◌++◌, take, drop, length, Some, None, refl, sym, ◌∙◌, ap, subst, arith}
+use Rattle.std.proofs.Common.{◌≡◌, ⊎_elim, ℕ, ◌+◌, ◌<◌, ◌≤◌, Bool, true, false, cond, List, [], ◌∷◌, ◌++◌, take, drop, length, Some, None, refl, sym, ◌∙◌, ap, subst, arith}
 use Rattle.std.specs.List.{Contains}
 use Rattle.std.proofs.lemmas.List.{append_assoc, length-append, take_at, take-append-le, take-append-drop}
-use Rattle.object_words.specs.declared.bucket.Bucket.{Bucket}
-use Rattle.object_words.specs.Names.{at}
-use Rattle.object_words.specs.Roots.{version_of}
 use Rattle.realm_model.specs.Settings.{SettingsView, IsSettings}
-use Rattle.realm_model.specs.Facts.{Instance, idle}
-use Rattle.realm_model.specs.Phases.{ActorId, Phase}
+use Rattle.realm_model.specs.Facts.{Instance}
+use Rattle.realm_model.specs.Phases.{ActorId}
 use Rattle.realm_model.specs.States.{clock_at}
-use Rattle.realm_model.specs.Needs.{is_between, is_first, is_make, is_form}
-use Rattle.realm_model.specs.Allowed.{meets_need}
-use Rattle.realm_model.specs.Ops.{zone_of}
-use Rattle.realm_model.specs.Learnt.{put_bundle}
 use Rattle.realm_model.specs.Accounts.{Looked}
-use Rattle.realm_model.specs.Worlds.{World, start, same_actor, actor_of, instances_after, happens}
+use Rattle.realm_model.specs.Worlds.{World, start, same_actor, actor_of}
 use Rattle.realm_model.specs.Histories.{run, world_of, account_of, IsNext, LegalFrom, Legal}
 use Rattle.realm_model.specs.Owns.{OwnEvent, own_from, own_events, NoneBy}
-use Rattle.realm_model.specs.declared.op.Op.{Op}
-use Rattle.realm_model.specs.declared.op.Op.TheVariants.{BucketSwap}
-use Rattle.realm_model.specs.declared.event.Reply.{Reply}
-use Rattle.realm_model.specs.declared.event.Reply.TheVariants.{Done}
 use Rattle.realm_model.specs.declared.event.Event.{Event}
-use Rattle.realm_model.proofs.Computing.{left_of, right_of}
-use Rattle.realm_model.proofs.ObjectLemmas.{number_same, put_bundle_cases}
 use Rattle.realm_model.proofs.Others.{account-others}
 use Rattle.realm_model.proofs.Runs.{run-append, legal_front, legal_back}
-use Rattle.index_law.specs.Invariants.{IndexHolds}
-use Rattle.index_law.proofs.Tests.{so}
-use Rattle.index_law.proofs.RowLaws.{InstancesGrow}
-use Rattle.index_law.proofs.Keeping.{form_of, keeps, holds}
+use Rattle.index_law.specs.Tables.{IsMadeContainer, StandsIn}
+use Rattle.index_law.proofs.RowLaws.{IsRisen}
+use Rattle.index_law.proofs.Keeping.{holds}
+use Rattle.index_law.proofs.Moves.{made_from, stood_from, risen_from}
 use Rattle.task_list.proofs.Passing.{in_front, at_front}
 use Rattle.list_law.proofs.Sorted.{nowhere}
 
@@ -117,66 +104,49 @@ some_event settings history actor look is =
       | first ∷ es ↦ λ there. (first, at_front first es)
     ] refl
 
--- ---- instances only grow
+-- ---- rows and their tables, between own events
 
-module _ (w : World) (j : IndexHolds w) (settings : SettingsView) (me : ActorId) where
-  abbrev p : Phase
-  p = w.phases me
+-- the events between one own event and a later one
+record Between (settings : SettingsView) (one other : List Event) : Type 0 where
+  events : List Event
+  legal : LegalFrom settings (world_of settings one) events
+  there : run settings (world_of settings one) events ≡ world_of settings other
 
-  not_placed : (b : Bool) → not b ≡ true → b ≡ true → ⊥
-  not_placed true free is = cc
-  not_placed false free is = cc
-
-  -- a swap that makes a row names an instance that is new
-  is_new : (zone : ℕ) (name : List ℕ) (expected : ℕ) (b : Bucket) → meets_need settings p (BucketSwap zone name expected (Some b)) ≡ true → (x : Instance) → w.rows.instances zone b.id b.instance ≡ Some x → ⊥
-  is_new zone name expected b may x is =
-      let r = so (at (p.rows zone) name) _ may in
-      let form = form_of p zone name (r.x).row (Some b) (right_of (version_of (r.x).row == expected) (is_form p zone name (r.x).row (Some b)) r.passes) in
-      let same : b ≡ form.b = some_is form.new_is in
-      let make : is_make p zone name b ≡ true = subst (λ z. is_make p zone name z ≡ true) (sym same) form.make in
-      let f = so p.first _ (left_of (is_first p b.instance) _ make) in
-      let own = p.shards zone b.id in
-      let more = right_of (b.shards == own.made) _ (right_of (is_first p b.instance) _ make) in
-      let at_first : w.rows.instances zone b.id (f.x).number ≡ Some x = ap (w.rows.instances zone b.id) (number_same (f.x).number b.instance f.passes) ∙ is in
-      not_placed own.placed (left_of (not own.placed) _ more) (j.rows_stand.own_instance me zone b.id f.x x f.is at_first)
-    where
-      some_is : {X : Type 0} {x y : X} → Some x ≡ Some y → x ≡ y
-      some_is same = cc
-
-  grow_by : (op : Op) (reply : Reply) → meets_need settings p op ≡ true → InstancesGrow w.rows.instances (instances_after w.rows.instances op reply)
-  grow_by (BucketSwap zone name expected (Some b)) Done may z c i x is =
-      elim (expected == 0) as (λ t. cond t (put_bundle w.rows.instances zone b.id b.instance (Some (record { shards = b.shards; number = b.number; state = idle }))) w.rows.instances z c i ≡ Some x) [
-        | true ↦
-            put_bundle_cases (λ z c i found. w.rows.instances z c i ≡ Some x → found ≡ Some x) w.rows.instances zone b.id b.instance (Some (record { shards = b.shards; number = b.number; state = idle }))
-            (λ was. absurd (is_new zone name expected b may x was)) (λ z c i was. was) z c i is
-        | false ↦ is
-      ]
-  grow_by (BucketSwap zone name expected None) Done may z c i x is = is
-  grow_by op reply may z c i x is = is
-
-grow_next : (settings : SettingsView) (w : World) (e : Event) → IndexHolds w → IsNext settings w e → InstancesGrow w.rows.instances (happens settings w e).rows.instances
-grow_next settings w e j next =
-    grow_by w j settings (actor_of e) e.op e.reply (right_of (is_between 1 settings.zones (zone_of e.op)) (meets_need settings (w.phases (actor_of e)) e.op) next.may)
-
-grow_from : (settings : SettingsView) (w : World) (es : List Event) → IsSettings settings → IndexHolds w → LegalFrom settings w es → InstancesGrow w.rows.instances (run settings w es).rows.instances
-grow_from settings w [] good j legal z c i x is = is
-grow_from settings w (e ∷ es) good j legal z c i x is =
-    grow_from settings (happens settings w e) es good (keeps settings good w j e legal.0) legal.1 z c i x (grow_next settings w e j legal.0 z c i x is)
-
--- from before one own event to before a later one
-pub grow_between : (settings : SettingsView) (history : List Event) (one other : OwnEvent) (s : Stands history one) (t : Stands history other) → IsSettings settings → Legal settings history → one.number < other.number
-    → InstancesGrow (world_of settings s.before).rows.instances (world_of settings t.before).rows.instances
-grow_between settings history one other s t good legal later z c i x is =
+between : (settings : SettingsView) (history : List Event) (one other : OwnEvent) (s : Stands history one) (t : Stands history other) → Legal settings history → one.number < other.number → Between settings s.before t.before
+between settings history one other s t legal later =
     let number = s.number_is in
     let after = t.number_is in
     let n = length s.before in
     let long : n ≤ length t.before = omega (arith, number, after, later) in
     let front : take n t.before ≡ s.before =
     sym (take-append-le n t.before (t.e ∷ t.later) long) ∙ ap (take n) (sym t.split ∙ s.split) ∙ take_at s.before (s.e ∷ s.later) n refl in
-    let between = drop n t.before in
-    let joined : s.before ++ between ≡ t.before = ap (λ l. l ++ between) (sym front) ∙ take-append-drop n t.before in
-    let w = world_of settings s.before in
-    let there : run settings w between ≡ world_of settings t.before = sym (run-append settings (start settings) s.before between) ∙ ap (world_of settings) joined in
-    let rest : LegalFrom settings w between = legal_back settings (start settings) s.before between (subst (Legal settings) (sym joined) (legal_before settings history other t legal)) in
-    subst (λ v. v.rows.instances z c i ≡ Some x) there
-    (grow_from settings w between good (holds settings s.before good (legal_before settings history one s legal)) rest z c i x is)
+    let events = drop n t.before in
+    let joined : s.before ++ events ≡ t.before = ap (λ l. l ++ events) (sym front) ∙ take-append-drop n t.before in
+    record {
+      events = events;
+      legal = legal_back settings (start settings) s.before events (subst (Legal settings) (sym joined) (legal_before settings history other t legal));
+      there = sym (run-append settings (start settings) s.before events) ∙ ap (world_of settings) joined;
+    }
+
+-- an instance that was put into a row before one own event has its shards before a later one
+pub risen_between : (settings : SettingsView) (history : List Event) (one other : OwnEvent) (s : Stands history one) (t : Stands history other) → IsSettings settings → Legal settings history → one.number < other.number
+    → (zone container number : ℕ) (old : Instance) → (world_of settings s.before).rows.instances zone container number ≡ Some old → IsRisen (world_of settings t.before).rows.instances zone container number old
+risen_between settings history one other s t good legal later z c i old is =
+    let b = between settings history one other s t legal later in
+    subst (λ (v : World). IsRisen v.rows.instances z c i old) b.there
+    (risen_from settings (world_of settings s.before) b.events good (holds settings s.before good (legal_before settings history one s legal)) b.legal z c i old is)
+
+pub made_between : (settings : SettingsView) (history : List Event) (one other : OwnEvent) (s : Stands history one) (t : Stands history other) → IsSettings settings → Legal settings history → one.number < other.number
+    → (container : ℕ) → IsMadeContainer (world_of settings s.before).rows.homes container → IsMadeContainer (world_of settings t.before).rows.homes container
+made_between settings history one other s t good legal later c made =
+    let b = between settings history one other s t legal later in
+    subst (λ (v : World). IsMadeContainer v.rows.homes c) b.there
+    (made_from settings (world_of settings s.before) b.events good (holds settings s.before good (legal_before settings history one s legal)) b.legal c made)
+
+-- a container that stands in the end stood at an own event, if it was made by then
+pub stood_before : (settings : SettingsView) (history : List Event) (own : OwnEvent) (s : Stands history own) → IsSettings settings → Legal settings history → (container : ℕ) → IsMadeContainer (world_of settings s.before).rows.homes container
+    → StandsIn (world_of settings history) container → StandsIn (world_of settings s.before) container
+stood_before settings history own s good legal c made stands =
+    let rest : LegalFrom settings (world_of settings s.before) (s.e ∷ s.later) = legal_back settings (start settings) s.before (s.e ∷ s.later) (subst (Legal settings) s.split legal) in
+    let there : run settings (world_of settings s.before) (s.e ∷ s.later) ≡ world_of settings history = sym (run-append settings (start settings) s.before (s.e ∷ s.later)) ∙ ap (world_of settings) (sym s.split) in
+    stood_from settings (world_of settings s.before) (s.e ∷ s.later) good (holds settings s.before good (legal_before settings history own s legal)) rest c made (subst (λ v. StandsIn v c) (sym there) stands)

@@ -43,7 +43,7 @@ use Rattle.realm_model.specs.declared.event.Reply.TheVariants.{Row, Entries, Hea
 use Rattle.realm_model.specs.declared.event.Event.{Event}
 use Rattle.realm_model.proofs.Agreeing.{heads_agree}
 use Rattle.realm_model.proofs.ObjectLemmas.{number_same}
-use Rattle.index_law.specs.Tables.{IsPlaced}
+use Rattle.index_law.specs.Tables.{IsPlaced, StandsIn}
 use Rattle.index_law.specs.Rows.{IsNamed}
 use Rattle.index_law.specs.Invariants.{IndexHolds}
 use Rattle.index_law.proofs.Keeping.{holds}
@@ -54,7 +54,7 @@ use Rattle.task_list.specs.Listed.{last_name, reaches, is_settled, row_if_there,
 use Rattle.task_list.proofs.Names.{truth, from_truth, find-below}
 use Rattle.list_law.specs.Maps.{slot_after}
 use Rattle.list_law.proofs.Turned.{mapped_by-append}
-use Rattle.list_law.proofs.Places.{Stands, stands, legal_before, is_next, with_event, grow_between}
+use Rattle.list_law.proofs.Places.{Stands, stands, legal_before, is_next, with_event, risen_between, made_between, stood_before}
 
 abbrev Rows : Type 0
 Rows = List (List ℕ × EntryView)
@@ -181,17 +181,18 @@ module _ (settings : SettingsView) (history : List Event) (good : IsSettings set
       pub row_is : row ≡ slot_row (slot_after history own.number zone container name)
 
     -- what the shard has of a name without tags shows its head
-    settled_shows : (w : World) → IndexHolds w → (row : Bucket) → IsPlaced w.rows.instances zone (shard_key row.id row.instance (shard_of name row.shards)) name
+    settled_shows : (w : World) → IndexHolds w → (row : Bucket) → IsPlaced w.rows.instances zone (shard_key row.id row.instance (shard_of name row.shards)) name → StandsIn w row.id
         → (e : EntryView) → e ≡ entry_in (w.state.shards zone (shard_key row.id row.instance (shard_of name row.shards))) name → (length e.tags == 0) ≡ true
         → e.row ≡ row_of (w.state.heads zone (head_key row.id name)).slot
-    settled_shows w j row placed e is none =
+    settled_shows w j row placed stands e is none =
         let key = shard_key row.id row.instance (shard_of name row.shards) in
-        let a = j.agreements zone key name placed in
+        let a = j.agreements zone key name placed stands in
         ap (λ (x : EntryView). x.row) is
         ∙ ⊎_elim (λ l. absurd (no_tag (entry_in (w.state.shards zone key) name).tags l.tag (subst (λ (x : EntryView). (length x.tags == 0) ≡ true) is none) l.there)) (λ s. s.0) a.agree
 
-    pub by_page : (row : Option RowView) → IsByPage zone c container name row events → ShownAt row
-    by_page row b =
+    -- while the container stands, a page shows its names
+    pub by_page : StandsIn (world_of settings history) container → (row : Option RowView) → IsByPage zone c container name row events → ShownAt row
+    by_page stood row b =
         let p = b.paged in
         let bucket = p.row in
         let l = stands history actor p.look p.looked in
@@ -200,15 +201,18 @@ module _ (settings : SettingsView) (history : List Event) (good : IsSettings set
         let key = shard_key bucket.id bucket.instance (shard_of name bucket.shards) in
         let j = holds settings s.before good (legal_before settings history p.page s legal) in
         let n = row_named p.look l zone c.container bucket p.looks p.told_row in
+        let r = risen_between settings history p.look p.page l s good legal p.in_order zone bucket.id bucket.instance n.instance n.placed in
         let placed : IsPlaced w.rows.instances zone key name = record {
-          instance = n.instance;
-          placed = grow_between settings history p.look p.page l s good legal p.in_order zone bucket.id bucket.instance n.instance n.placed;
-          key_is = ap (λ count. shard_key bucket.id bucket.instance (shard_of name count)) (sym n.shards_are);
+          instance = r.instance;
+          placed = r.placed;
+          key_is = ap (λ count. shard_key bucket.id bucket.instance (shard_of name count)) (sym n.shards_are ∙ r.shards_are);
         } in
+        let made = made_between settings history p.look p.page l s good legal p.in_order bucket.id (record { home = n.home; made = n.made }) in
+        let stands = stood_before settings history p.page s good legal bucket.id made (subst (StandsIn (world_of settings history)) (sym p.in_container) stood) in
         let told = sym p.told ∙ answered p.page s ∙ ap (λ op. reply_of settings (at_moment w.state (s.e).moment) op) p.asks in
         let entry = shard_shows (w.state.shards zone key) p.after (at_moment w.state (s.e).moment).clock p.entries name told p.above p.within in
         let e : entry_of b.shown ≡ entry_in (w.state.shards zone key) name = ap entry_of (sym p.shows) ∙ entry in
-        let head = settled_shows w j bucket placed (entry_of b.shown) e (untagged b.shown b.settled) in
+        let head = settled_shows w j bucket placed stands (entry_of b.shown) e (untagged b.shown b.settled) in
         let slot = slot_before p.page s (λ reply. ap (λ op. mapped (heads s.before) op reply) p.asks) zone container name in
         record {
           own = p.page;

@@ -10,4 +10,4 @@ mod row;
 pub use command::ListCommand;
 pub use key::Key;
 pub use laws::{keys_rise_with_names, other_names_change_nothing};
-pub use row::{ListedRow, ListedRows, ListedThing};
+pub use row::{AccountRow, AccountRows, ListedRow, ListedRows, ListedThing};

@@ -14,6 +14,8 @@ pub mod ShardCalls
 pub mod Conditions
 pub mod Heads
 pub mod HeadCalls
+pub mod HoldCalls
 pub mod Roots
+pub mod Pages
 pub mod Tails
 pub mod Answers

@@ -24,7 +24,7 @@ pub use laws::{
     sums_move_by_one_entry,
 };
 pub use limits::{BucketName, MediaType, Name, ObjectName};
-pub use lists::{Entries, LogRows, Tags, Texts};
+pub use lists::{BucketNames, Entries, LogRows, Tags, Texts};
 pub use log::{LogPage, LogRow, LogWhat};
 pub use shard::{Fate, Hold, ShardStats};
 pub use shard_key::ShardKey;

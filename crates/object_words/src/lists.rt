@@ -1,5 +1,5 @@
 //! The lists of this crate.
-use crate::{Entry, LogRow, Tag};
+use crate::{BucketName, Entry, LogRow, Tag};
 use rgw_types::{Items, Text};
 
 /// Tags, by rising number.
@@ -13,3 +13,6 @@ pub type LogRows = Items<LogRow>;
 
 /// Texts.
 pub type Texts = Items<Text>;
+
+/// Names of containers, by rising name.
+pub type BucketNames = Items<BucketName>;

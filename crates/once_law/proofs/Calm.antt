@@ -21,12 +21,12 @@ use Rattle.realm_model.specs.Tests.{is_so}
 use Rattle.realm_model.specs.States.{State}
 use Rattle.realm_model.specs.Steps.{reply_or, on_shard, new_tag, reply_of}
 use Rattle.realm_model.specs.Phases.{ActorId, RowRead, Stage, pending, tried, over, OwnTag, Phase}
-use Rattle.realm_model.specs.Needs.{is_pending, is_over, has_no_tag, has_read, names_shard, is_tag_of, is_change, is_tried_again}
+use Rattle.realm_model.specs.Needs.{is_pending, is_over, has_read, names_shard, is_tag_of, is_change, is_tried_again}
 use Rattle.realm_model.specs.Allowed.{meets_need}
 use Rattle.realm_model.specs.Accounts.{Looked, MovedCount, has_shard, looked_since, is_left, moved_at}
 use Rattle.realm_model.specs.Histories.{world_of, state_of, phase_of}
 use Rattle.realm_model.specs.declared.op.Op.{Op}
-use Rattle.realm_model.specs.declared.op.Op.TheVariants.{BucketRead, Page, Suggest, Prepare, Complete, Cancel, HeadRead, HeadWrite, TailMake, TailRead, Announce, BucketSwap}
+use Rattle.realm_model.specs.declared.op.Op.TheVariants.{BucketRead, Page, Suggest, Prepare, Complete, Cancel, HeadRead, HeadWrite, TailMake, TailRead, Announce, BucketSwap, CloseShard, Shut}
 use Rattle.realm_model.specs.declared.event.Reply.{Reply}
 use Rattle.realm_model.specs.declared.event.Reply.TheVariants.{Done, No, Prepared, Entries}
 use Rattle.realm_model.specs.declared.event.Event.{Event}
@@ -35,9 +35,10 @@ use Rattle.realm_model.proofs.ObjectLemmas.{number_same}
 use Rattle.index_law.specs.Invariants.{IndexHolds}
 use Rattle.index_law.specs.Serving.{IsServing, IsMade}
 use Rattle.index_law.specs.Tables.{rows_of}
-use Rattle.index_law.proofs.Tests.{so}
+use Rattle.index_law.proofs.Tests.{so, prepares}
 use Rattle.index_law.proofs.TagLists.{find_any}
-use Rattle.once_law.proofs.Standing.{keeps_rows, OfRow}
+use Rattle.once_law.proofs.Open.{keeps_open}
+use Rattle.once_law.proofs.Standing.{OfRow}
 
 -- ---- operations
 
@@ -56,8 +57,10 @@ is_of_task (Page zone key after limit) = is_shard_key key
 is_of_task (Suggest zone key name revision seen version row) = true
 is_of_task op = false
 
-pub task_keeps : (op : Op) → is_of_task op ≡ true → keeps_rows op ≡ true
+pub task_keeps : (op : Op) → is_of_task op ≡ true → keeps_open op ≡ true
 task_keeps (BucketSwap zone name expected new) is = let e : false ≡ true = is in absurd (cc)
+task_keeps (CloseShard zone key id force) is = let e : false ≡ true = is in absurd (cc)
+task_keeps (Shut zone key) is = let e : false ≡ true = is in absurd (cc)
 task_keeps op is = refl
 
 -- ---- a key of a shard
@@ -85,7 +88,8 @@ named_key rows number key name may =
     record { container = row.id; instance = row.instance; number = shard_of name row.shards; is = sym (same_key (shard_key row.id row.instance (shard_of name row.shards)) key r.passes) }
 
 tried_key : (t : OwnTag) (rows : Named RowRead) (key : Key) (name : List ℕ) (stage : Stage) → is_tried_again t rows key name stage ≡ true → IsShardKey key
-tried_key t rows key name (tried number) may = named_key rows number key name (right_of (container_of key == container_of t.key) _ may)
+tried_key t rows key name (tried (Some number)) may = named_key rows number key name (right_of (container_of key == container_of t.key) _ may)
+tried_key t rows key name (tried None) may = let e : false ≡ true = may in absurd (cc)
 tried_key t rows key name pending may = let e : false ≡ true = may in absurd (cc)
 tried_key t rows key name over may = let e : false ≡ true = may in absurd (cc)
 
@@ -111,7 +115,7 @@ own_key settings history actor j t is =
 -- the shard's key, in each operation on an entry that a task makes
 module _ (settings : SettingsView) (p : Phase) (own : (t : OwnTag) → p.tag ≡ Some t → IsShardKey t.key) (zone : ℕ) (key : Key) (name : List ℕ) where
   pub prepare_key : meets_need settings p (Prepare zone key name) ≡ true → IsShardKey key
-  prepare_key may = named_key (p.rows zone) 0 key name (right_of (has_no_tag p.tag) _ may)
+  prepare_key may = named_key (p.rows zone) 0 key name (prepares settings p zone key name may).read
 
   pub complete_key : (tag version : ℕ) (row : _) → meets_need settings p (Complete zone key name tag version row) ≡ true → IsShardKey key
   complete_key tag version row may =
@@ -138,7 +142,7 @@ module _ (settings : SettingsView) (p : Phase) (own : (t : OwnTag) → p.tag ≡
 
 -- ---- a shard that serves
 
-serves_change : (s : Shard) → IsServing s → change_refusal s ≡ None
+pub serves_change : (s : Shard) → IsServing s → change_refusal s ≡ None
 serves_change s x = λ i. first_refusal (fate_refusal (x.fate i)) (hold_refusal (x.hold i))
 
 tag_left : (f : Option Why → Reply) (e : _) (tag : ℕ) → (is_left (f None) ≡ false) → (is_left (f (Some NoTag)) ≡ false) → is_left (f (tag_refusal e tag)) ≡ false
@@ -192,7 +196,7 @@ left_count m looked zone key reply number none apart =
 
 -- the last look named the shard
 module _ (settings : SettingsView) (base : List Event) (st : State) (roots : (zone : ℕ) → st.root zone ≡ (state_of settings base).root zone)
-    (made : (zone : ℕ) (name : List ℕ) (row : Bucket) (number : ℕ) → rows_of st.root zone name ≡ Some row → number < row.shards → IsMade st.shards zone (shard_key row.id row.instance number))
+    (made : (zone : ℕ) (name : List ℕ) (row : Bucket) → rows_of st.root zone name ≡ Some row → (number : ℕ) → number < row.shards → IsMade st.shards zone (shard_key row.id row.instance number))
     (looked : Option Looked) (of_row : OfRow settings base looked) (zone : ℕ) (key : Key) (shape : IsShardKey key) where
   pub made_by_look : (last : ℕ) → looked_since looked last zone key ≡ true → IsMade st.shards zone key
   made_by_look last named =
@@ -206,7 +210,7 @@ module _ (settings : SettingsView) (base : List Event) (st : State) (roots : (zo
       let instance = number_same row.instance (instance_of key) (left_of (row.instance == instance_of key) _ rest) in
       let low : number_of key < row.shards = let t = right_of (row.instance == instance_of key) (nat_lt (number_of key) row.shards) rest in grind (arith, nat_tests) in
       let there : rows_of st.root l.x.zone l.x.name ≡ Some row = ap (λ root. at root.buckets l.x.name) (roots l.x.zone) ∙ sym (of_row l.x l.is) ∙ r.is in
-      let m = made l.x.zone l.x.name row (number_of key) there low in
+      let m = made l.x.zone l.x.name row there (number_of key) low in
       let same : shard_key row.id row.instance (number_of key) ≡ key =
       (λ i. shard_key (id i) (instance i) (number_of key)) ∙ whole key shape in
       subst (λ z. IsMade st.shards z key) in_zone (subst (IsMade st.shards l.x.zone) same m)

@@ -41,6 +41,7 @@ use Rattle.realm_model.proofs.Runs.{legal_front, last_is_next}
 use Rattle.index_law.specs.Invariants.{IndexHolds}
 use Rattle.index_law.specs.Serving.{IsServing, IsMade}
 use Rattle.index_law.proofs.Consequences.{holds_at, shards_at}
+use Rattle.index_law.proofs.Served.{open_shards_serve}
 use Rattle.index_law.proofs.Tests.{writes}
 use Rattle.once_law.proofs.Standing.{Standing, stands_one_more}
 use Rattle.once_law.proofs.Calm.{is_of_task, IsShardKey, own_key, prepare_key, complete_key, cancel_key, prepare_stays, ends_stay, page_stays, shard_shape, holds_none, left_count, made_by_look, task_keeps}
@@ -66,10 +67,10 @@ unfolding guard_in
 staged None stage = refl
 staged (Some t) stage = refl
 
-tried_again : (tag : Option OwnTag) (number : ℕ) → guard_in (with_try tag number) ≡ guard_in tag
+tried_again : (tag : Option OwnTag) (moved : Option ℕ) → guard_in (with_try tag moved) ≡ guard_in tag
 unfolding guard_in
-tried_again None number = refl
-tried_again (Some t) number = refl
+tried_again None moved = refl
+tried_again (Some t) moved = refl
 
 told : (tag : Option OwnTag) (zone : ℕ) (key : Key) → guard_in (announced tag zone key) ≡ guard_in tag
 unfolding guard_in
@@ -88,8 +89,8 @@ guard_kept tag (Prepare zone key name) (Prepared guard) number is = let e : true
 guard_kept tag (Prepare zone key name) reply number is = staged tag over
 guard_kept tag (Announce zone container instance shard bucket) (Position position) number is = told tag zone (shard_key container instance shard)
 guard_kept tag (HeadWrite zone container name guard new when) (changed_reply change) number is = made tag (record { version = change.version; row = change.row })
-guard_kept tag (Complete zone key name t version row) (No (Moved instance)) number is = tried_again tag number
-guard_kept tag (Complete zone key name t version row) (No Closed) number is = tried_again tag number
+guard_kept tag (Complete zone key name t version row) (No (Moved instance)) number is = tried_again tag (Some number)
+guard_kept tag (Complete zone key name t version row) (No Closed) number is = tried_again tag None
 guard_kept tag (Complete zone key name t version row) reply number is = staged tag over
 guard_kept tag (Cancel zone key name t) reply number is = staged tag over
 guard_kept tag op reply number is = refl
@@ -192,7 +193,7 @@ module _ (settings : SettingsView) (good : IsSettings settings) (base : List Eve
     j = holds_at settings history (e ∷ []) good legal
 
     serving : (zone : ℕ) (key : Key) (s : Shard) → st.shards zone key ≡ Some s → IsServing s
-    serving = (shards_at settings history (e ∷ []) legal).serving
+    serving = open_shards_serve settings history standing.opened.closes
 
     own : (t : OwnTag) → p.tag ≡ Some t → IsShardKey t.key
     own = own_key settings history actor j

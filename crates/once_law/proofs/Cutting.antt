@@ -79,40 +79,40 @@ module _ (settings : SettingsView) (before history : List Event) (zone : ℕ) (a
 
   -- ---- GET and HEAD
 
-  get_end : (c : GetCommand) (fate : Fate) (outcome : Outcome) → refusal_at fate ≡ None → IsGetEnd zone asker c fate outcome y → HasReply (told_reply (span_of c) fate outcome)
+  get_end : (c : GetCommand) (fate : Fate) (outcome : Outcome) (events : List OwnEvent) → refusal_at fate ≡ None → IsGetEnd zone asker c fate outcome y events → HasReply (told_reply (span_of c) fate outcome)
       → IsGetOutcome zone asker c outcome y × HasReply (outcome_reply (span_of c) outcome)
-  get_end c fate BodyFailed none by has = absurd (never_failed fate none has)
-  get_end c fate outcome none by has = (by.0, has)
+  get_end c fate BodyFailed events none by has = absurd (never_failed fate none has)
+  get_end c fate outcome events none by has = (by.0, has)
 
-  whole_get : (c : GetCommand) (fate : Fate) (outcome : Outcome) (shown : List ℕ) → refusal_at fate ≡ None → IsGetEnd zone asker c fate outcome y → HasReply (told_reply (span_of c) fate outcome) → AreShownBy zone c outcome shown y.decided
-      → IsDone x slots now (get c) actor outcome shown
-  whole_get c fate outcome shown none by has bytes =
-      let end = get_end c fate outcome none by has in
+  whole_get : (c : GetCommand) (fate : Fate) (outcome : Outcome) (events : List OwnEvent) (shown : List ℕ) → refusal_at fate ≡ None → IsGetEnd zone asker c fate outcome y events → HasReply (told_reply (span_of c) fate outcome)
+      → AreShownBy zone c outcome shown y.decided → IsDone x slots now (get c) actor outcome shown
+  whole_get c fate outcome events shown none by has bytes =
+      let end = get_end c fate outcome events none by has in
       get_done settings before history zone asker clocks actor y standing clock c outcome shown end.0 end.1 bytes
 
   abbrev CutGet : GetCommand → Outcome → List ℕ → Type 0
   CutGet c outcome shown = IsCutShort no_other (refusal_of x c.container (deed_of (get c))) outcome shown × (y.changes ≡ 0)
 
-  cut_get : (c : GetCommand) (why : BodyEnd) (outcome : Outcome) (shown : List ℕ) → IsGetEnd zone asker c (broken_off why) outcome y → AreShownBy zone c outcome shown y.decided → CutGet c outcome shown
-  cut_get c why BodyFailed shown by bytes =
+  cut_get : (c : GetCommand) (why : BodyEnd) (outcome : Outcome) (events : List OwnEvent) (shown : List ℕ) → IsGetEnd zone asker c (broken_off why) outcome y events → AreShownBy zone c outcome shown y.decided → CutGet c outcome shown
+  cut_get c why BodyFailed events shown by bytes =
       ((grants_so no_other c.container (deed_of (get c)) BodyFailed by.0.by_row tt, bytes), by.0.unchanged)
-  cut_get c why (Done (Refused Why.Unauthorized)) shown by bytes =
+  cut_get c why (Done (Refused Why.Unauthorized)) events shown by bytes =
       ((refuses_so no_other c.container (deed_of (get c)) Why.Unauthorized by.0.by_row, bytes), by.0.unchanged)
-  cut_get c why (Done (Refused (Why.Denied rule))) shown by bytes =
+  cut_get c why (Done (Refused (Why.Denied rule))) events shown by bytes =
       ((refuses_so no_other c.container (deed_of (get c)) (Why.Denied rule) by.0.by_row, bytes), by.0.unchanged)
-  cut_get c why (Done (Refused Why.NoContainer)) shown by bytes =
+  cut_get c why (Done (Refused Why.NoContainer)) events shown by bytes =
       ((refuses_so no_other c.container (deed_of (get c)) Why.NoContainer by.0.by_row, bytes), by.0.unchanged)
-  cut_get c why (Done reply) shown by bytes = absurd by.1
-  cut_get c why outcome shown by bytes = absurd by.1
+  cut_get c why (Done reply) events shown by bytes = absurd by.1
+  cut_get c why outcome events shown by bytes = absurd by.1
 
-  pub get_told : (c : GetCommand) (fate : Fate) (body : List ℕ) (outcome : Outcome) (shown : List ℕ) → IsGetEnd zone asker c fate outcome y → HasReply (told_reply (span_of c) fate outcome) → AreShownBy zone c outcome shown y.decided
+  pub get_told : (c : GetCommand) (fate : Fate) (body : List ℕ) (outcome : Outcome) (events : List OwnEvent) (shown : List ℕ) → IsGetEnd zone asker c fate outcome y events → HasReply (told_reply (span_of c) fate outcome) → AreShownBy zone c outcome shown y.decided
       → Tells (Asks.Unfed (Get c)) fate body outcome shown
-  get_told c read_whole body outcome shown by has bytes =
-      let d = whole_get c read_whole outcome shown refl by has bytes in record { is_said = d.is_said; left = d.left }
-  get_told c (broken_off why) body outcome shown by has bytes =
-      let d = cut_get c why outcome shown by bytes in record { is_said = d.0; left = stay d.1 }
-  get_told c unread body outcome shown by has bytes =
-      let d = whole_get c unread outcome shown refl by has bytes in record { is_said = d.is_said; left = d.left }
+  get_told c read_whole body outcome events shown by has bytes =
+      let d = whole_get c read_whole outcome events shown refl by has bytes in record { is_said = d.is_said; left = d.left }
+  get_told c (broken_off why) body outcome events shown by has bytes =
+      let d = cut_get c why outcome events shown by bytes in record { is_said = d.0; left = stay d.1 }
+  get_told c unread body outcome events shown by has bytes =
+      let d = whole_get c unread outcome events shown refl by has bytes in record { is_said = d.is_said; left = d.left }
 
   -- ---- PUT
 
@@ -169,7 +169,7 @@ module _ (settings : SettingsView) (before history : List Event) (zone : ℕ) (a
 
   cut_list : (c : ListCommand) (why : BodyEnd) (outcome : Outcome) (events : List OwnEvent) (shown : List ℕ) → shown ≡ [] → IsListEnd (request c) (broken_off why) outcome y events → CutList c outcome shown
   cut_list c why BodyFailed events shown is by =
-      ((grants_so no_other c.container ListContainer BodyFailed by.by_row tt, is), by.unchanged)
+      ((grants_so no_other c.container ListContainer BodyFailed by.0.by_row tt, is), by.0.unchanged)
   cut_list c why (Done (Refused Why.Unauthorized)) events shown is by =
       ((refuses_so no_other c.container ListContainer Why.Unauthorized by.0.0.1, is), (by.0.1).unchanged)
   cut_list c why (Done (Refused (Why.Denied rule))) events shown is by =

@@ -32,8 +32,9 @@ use Rattle.task_list.specs.Listed.{is_of_listing, AreOfListing}
 use Rattle.call_words.specs.Made.{AreBy, AreMadeFor, AreMade}
 use Rattle.once_law.specs.Maps.{rows_in, slots_in}
 use Rattle.once_law.specs.Folds.{command_in, IsSaidTo, left_behind, AreFolded, slots_behind}
-use Rattle.once_law.specs.Runs.{NoneFrom, AreClocks, fixed_by, AreOfMaps}
-use Rattle.once_law.proofs.Standing.{keeps_rows, Standing, stands_first, stands_behind}
+use Rattle.once_law.specs.Runs.{NoneFrom, IsOpen, AreClocks, fixed_by, AreOfMaps}
+use Rattle.once_law.proofs.Open.{keeps_open}
+use Rattle.once_law.proofs.Standing.{Standing, stands_first, stands_behind}
 use Rattle.once_law.proofs.Calm.{is_of_task, task_keeps}
 use Rattle.once_law.proofs.Stamps.{found_early}
 use Rattle.once_law.proofs.Cutting.{get_told, put_told, list_told}
@@ -79,7 +80,7 @@ pub lists_of_tasks : (events : List OwnEvent) → AreOfListing events → OfTask
 lists_of_tasks [] are = tt
 lists_of_tasks (e ∷ es) are = (list_tasks e.op are.0, lists_of_tasks es are.1)
 
-keep_rows : (es : List Event) → AllByRecursion (λ e. is_of_task e.op ≡ true) es → AllByRecursion (λ e. keeps_rows e.op ≡ true) es
+pub keep_rows : (es : List Event) → AllByRecursion (λ e. is_of_task e.op ≡ true) es → AllByRecursion (λ e. keeps_open e.op ≡ true) es
 keep_rows [] are = tt
 keep_rows (e ∷ es) are = (task_keeps e.op are.0, keep_rows es are.1)
 
@@ -150,10 +151,10 @@ first_reads : (before first : List Event) (pass count : ℕ) → NoneBy (actor_o
 first_reads before first pass count unused own are = first_pass is_of_listing before first pass count unused own are
 
 -- an actor without events stands at the first
-pub standing_first : (settings : SettingsView) (before : List Event) (actor : ActorId) → NoneBy actor before → Standing settings before before (account_of settings before actor)
-standing_first settings before actor unused =
+pub standing_first : (settings : SettingsView) (before : List Event) (actor : ActorId) → IsOpen settings before → NoneBy actor before → Standing settings before before (account_of settings before actor)
+standing_first settings before actor opened unused =
     let at_first : account_of settings before actor ≡ blank = account-others settings [] before actor unused in
-    subst (Standing settings before before) (sym at_first) (stands_first settings before)
+    subst (Standing settings before before) (sym at_first) (stands_first settings before opened)
 
 -- ---- one call
 
@@ -169,13 +170,17 @@ rests_before settings zone asker pass history more next (task actor outcome) ask
     subst (λ (l : List OwnEvent). IsBorneOut settings.stripe zone asker asked fate body outcome shown (account_of settings history (actor_of_pass pass actor)) l) same.events there
 
 module _ (settings : SettingsView) (good : IsSettings settings) (zone : ℕ) (asker : Asker) (pass : ℕ) (clocks : ℕ → ℕ) where
-  -- what one call leaves: the rows stay
-  record Steps (before first : List Event) (call : Call) : Type 0 where
+  -- what one call leaves: the rows stay, and all containers are open
+  record RowsStay (before first : List Event) : Type 0 where
     roots : (z : ℕ) → (state_of settings (before ++ first)).root z ≡ (state_of settings before).root z
+    opened : IsOpen settings (before ++ first)
+
+  record Steps (before first : List Event) (call : Call) : Type 0 where
+    rows : RowsStay before first
     is_said : IsSaidTo (fixed_by settings before zone asker clocks) (slots_in settings before zone) call.asked call.fate call.request.body call.ground call.shown
     left : left_behind (fixed_by settings before zone asker clocks) (slots_in settings before zone) (command_in call.asked call.fate call.request.body) call.ground ≡ slots_in settings (before ++ first) zone
 
-  module _ (before first : List Event) (legal : Legal settings (before ++ first)) (few : length (before ++ first) ≤ 2 ^ 62) where
+  module _ (before first : List Event) (opened : IsOpen settings before) (legal : Legal settings (before ++ first)) (few : length (before ++ first) ≤ 2 ^ 62) where
     module _ (count : ℕ) (unused : NoneBy (actor_of_pass pass count) before) (own : AreBy pass count first) where
       abbrev actor : ActorId
       actor = actor_of_pass pass count
@@ -186,12 +191,12 @@ module _ (settings : SettingsView) (good : IsSettings settings) (zone : ℕ) (as
       stands : OfTasks (own_events (before ++ first) actor) → Standing settings before (before ++ first) y
       stands are =
           stands_behind settings before actor before first legal own (keep_rows first (first_ops before first pass count unused own are))
-          (standing_first settings before actor unused)
+          (standing_first settings before actor opened unused)
 
       one_task : (asked : Asked) (fate : Fate) (body : List ℕ) (outcome : Outcome) (shown : List ℕ)
           → ((event : Decided) → y.decided ≡ Some event → clocks count ≡ event.clock)
           → IsBorneOut settings.stripe zone asker asked fate body outcome shown y (own_events (before ++ first) actor)
-          → ((z : ℕ) → (state_of settings (before ++ first)).root z ≡ (state_of settings before).root z)
+          → RowsStay before first
           × IsSaidTo (fixed_by settings before zone asker clocks) (slots_in settings before zone) asked fate body (task count outcome) shown
           × (left_behind (fixed_by settings before zone asker clocks) (slots_in settings before zone) (command_in asked fate body) (task count outcome) ≡ slots_in settings (before ++ first) zone)
       one_task Asks.BadHost fate body outcome shown clock borne = absurd borne
@@ -200,33 +205,36 @@ module _ (settings : SettingsView) (good : IsSettings settings) (zone : ℕ) (as
           let standing = stands (puts_of_tasks (own_events (before ++ first) actor) borne.3) in
           let early = λ (d : Decided) (is : y.decided ≡ Some d). found_early settings (before ++ first) actor d legal few is in
           let told = put_told settings before (before ++ first) zone asker clocks count y standing clock c fate body outcome (own_events (before ++ first) actor) shown early borne.0 borne.1 borne.2 in
-          (standing.roots, told.is_said, told.left)
+          (record { roots = standing.roots; opened = standing.opened }, told.is_said, told.left)
       one_task (Asks.Unfed (Get c)) fate body outcome shown clock borne =
           let standing = stands (gets_of_tasks (own_events (before ++ first) actor) borne.3) in
-          let told = get_told settings before (before ++ first) zone asker clocks count y standing clock c fate body outcome shown borne.0 borne.1 borne.2 in
-          (standing.roots, told.is_said, told.left)
+          let told = get_told settings before (before ++ first) zone asker clocks count y standing clock c fate body outcome (own_events (before ++ first) actor) shown borne.0 borne.1 borne.2 in
+          (record { roots = standing.roots; opened = standing.opened }, told.is_said, told.left)
       one_task (Asks.Unfed (Listing c listing)) fate body outcome shown clock borne =
           let standing = stands (lists_of_tasks (own_events (before ++ first) actor) borne.3) in
           let reads = first_reads before first pass count unused own borne.3 in
           let told =
           list_told settings before (before ++ first) zone asker clocks count y standing clock c listing fate body outcome (own_events (before ++ first) actor) shown
           (list_done settings good before first legal zone asker clocks actor unused reads standing c outcome) borne.0 borne.1 borne.2 in
-          (standing.roots, told.is_said, told.left)
+          (record { roots = standing.roots; opened = standing.opened }, told.is_said, told.left)
 
     one_alone : (asked : Asked) (fate : Fate) (body : List ℕ) (shown : List ℕ) (history : List Event) → first ≡ [] → RestsOn settings zone asker pass history asked fate body shown alone
-        → ((z : ℕ) → (state_of settings (before ++ first)).root z ≡ (state_of settings before).root z)
+        → RowsStay before first
         × IsSaidTo (fixed_by settings before zone asker clocks) (slots_in settings before zone) asked fate body alone shown
         × (left_behind (fixed_by settings before zone asker clocks) (slots_in settings before zone) (command_in asked fate body) alone ≡ slots_in settings (before ++ first) zone)
     one_alone asked fate body shown history none rests =
         let same : before ++ first ≡ before = ap (λ l. before ++ l) none ∙ append-nil before in
         by_asked asked rests same
       where
+        nothing_done : before ++ first ≡ before → RowsStay before first
+        nothing_done same = record { roots = λ z. ap (λ l. (state_of settings l).root z) same; opened = subst (IsOpen settings) (sym same) opened }
+
         by_asked : (asked : Asked) → RestsOn settings zone asker pass history asked fate body shown alone → before ++ first ≡ before
-            → ((z : ℕ) → (state_of settings (before ++ first)).root z ≡ (state_of settings before).root z)
+            → RowsStay before first
             × IsSaidTo (fixed_by settings before zone asker clocks) (slots_in settings before zone) asked fate body alone shown
             × (left_behind (fixed_by settings before zone asker clocks) (slots_in settings before zone) (command_in asked fate body) alone ≡ slots_in settings (before ++ first) zone)
-        by_asked Asks.BadHost rests same = ((λ z. ap (λ l. (state_of settings l).root z) same), rests.1, ap (λ l. slots_in settings l zone) (sym same))
-        by_asked (Asks.Refused why) rests same = ((λ z. ap (λ l. (state_of settings l).root z) same), rests.1, ap (λ l. slots_in settings l zone) (sym same))
+        by_asked Asks.BadHost rests same = (nothing_done same, rests.1, ap (λ l. slots_in settings l zone) (sym same))
+        by_asked (Asks.Refused why) rests same = (nothing_done same, rests.1, ap (λ l. slots_in settings l zone) (sym same))
         by_asked (Asks.Put c) rests same = absurd rests.0
         by_asked (Asks.Unfed u) rests same = absurd rests.0
 
@@ -238,7 +246,7 @@ module _ (settings : SettingsView) (good : IsSettings settings) (zone : ℕ) (as
       -- the rows, the reply and the slots
       abbrev Leaves : Ground → Type 0
       Leaves g =
-          ((z : ℕ) → (state_of settings (before ++ first)).root z ≡ (state_of settings before).root z)
+          RowsStay before first
           × IsSaidTo (fixed_by settings before zone asker clocks) (slots_in settings before zone) call.asked call.fate call.request.body g call.shown
           × (left_behind (fixed_by settings before zone asker clocks) (slots_in settings before zone) (command_in call.asked call.fate call.request.body) g ≡ slots_in settings (before ++ first) zone)
 
@@ -259,7 +267,7 @@ module _ (settings : SettingsView) (good : IsSettings settings) (zone : ℕ) (as
       steps : IsOfNext next call.ground → AreMadeFor pass call.ground first → RestsOn settings zone asker pass ((before ++ first) ++ others) call.asked call.fate call.request.body call.shown call.ground → Steps before first call
       steps of_next own rests =
           let parts = by_ground call.ground right of_next own rests in
-          record { roots = parts.0; is_said = parts.1; left = parts.2 }
+          record { rows = parts.0; is_said = parts.1; left = parts.2 }
 
   -- ---- calls
 
@@ -276,7 +284,7 @@ module _ (settings : SettingsView) (good : IsSettings settings) (zone : ℕ) (as
   one_more : (before first others more : List Event) (call : Call) (calls : List Call) → more ≡ first ++ others → Steps before first call → AreOfMaps settings zone asker (before ++ first) others calls clocks
       → AreOfMaps settings zone asker before more (call ∷ calls) clocks
   one_more before first others more call calls both s rest =
-      let rows : rows_in settings (before ++ first) zone ≡ rows_in settings before zone = λ i name. at (s.roots zone i).buckets name in
+      let rows : rows_in settings (before ++ first) zone ≡ rows_in settings before zone = λ i name. at ((s.rows).roots zone i).buckets name in
       let x = fixed_by settings before zone asker clocks in
       let x_is : fixed_by settings (before ++ first) zone asker clocks ≡ x =
       λ i. record { zone = zone; asker = asker; rows = rows i; clocks = clocks } in
@@ -311,9 +319,9 @@ module _ (settings : SettingsView) (good : IsSettings settings) (zone : ℕ) (as
 
   pub fold : (before more : List Event) (next : ℕ) (calls : List Call) (last : ℕ) (later : List Event) → Legal settings (before ++ more) → length (before ++ more) ≤ 2 ^ 62
       → NoneFrom pass next before → AreRight settings zone asker pass (before ++ more) next calls last → AreMade pass calls more later → AreBy pass last later
-      → AreClocks settings pass (before ++ more) next clocks → AreOfMaps settings zone asker before more calls clocks
-  fold before more next [] last later legal few unused right made by_last are = no_more before more
-  fold before more next (call ∷ calls) last later legal few unused right (first, others, both, own, made) by_last are =
+      → IsOpen settings before → AreClocks settings pass (before ++ more) next clocks → AreOfMaps settings zone asker before more calls clocks
+  fold before more next [] last later legal few unused right made by_last opened are = no_more before more
+  fold before more next (call ∷ calls) last later legal few unused right (first, others, both, own, made) by_last opened are =
       let whole : before ++ more ≡ (before ++ first) ++ others = ap (λ l. before ++ l) both ∙ sym (append_assoc before first others) in
       let legal' = subst (Legal settings) whole legal in
       let few' = subst (λ l. length l ≤ 2 ^ 62) whole few in
@@ -321,10 +329,10 @@ module _ (settings : SettingsView) (good : IsSettings settings) (zone : ℕ) (as
       let are' = subst (λ l. AreClocks settings pass l next clocks) whole are in
       let fewer = shorter (before ++ first) others in
       let s =
-      steps before first (legal_front settings (start settings) (before ++ first) others legal') (omega (arith, fewer, few'))
-      next call calls others later last (unused next (omega arith)) right'.2 made by_last (λ event. are' next event (omega arith)) right'.0 own right'.1 in
+      steps before first opened (legal_front settings (start settings) (before ++ first) others legal') (omega (arith, fewer, few'))
+      next call calls others later last (unused next (omega arith)) right'.2 made by_last (λ event. are' next event (omega arith)) right'.0 own right'.1.0 in
       one_more before first others more call calls both s
-      (fold (before ++ first) others (actor_after next call.ground) calls last later legal' few' (unused_behind next call.ground before first right'.0 own unused) right'.2 made by_last
+      (fold (before ++ first) others (actor_after next call.ground) calls last later legal' few' (unused_behind next call.ground before first right'.0 own unused) right'.2 made by_last (s.rows).opened
       (clocks_behind ((before ++ first) ++ others) next call.ground are'))
     where
       shorter : (xs ys : List Event) → length xs ≤ length (xs ++ ys)

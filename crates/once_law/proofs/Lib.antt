@@ -1,3 +1,4 @@
+pub mod Open
 pub mod Slots
 pub mod Standing
 pub mod Stamps
@@ -9,5 +10,13 @@ pub mod Moments
 pub mod Calm
 pub mod Calms
 pub mod Missing
+pub mod Calls
 pub mod Full
 pub mod Telling
+pub mod Preparing
+pub mod Looking
+pub mod Wanting
+pub mod Walking
+pub mod Leaving
+pub mod Readings
+pub mod Granting

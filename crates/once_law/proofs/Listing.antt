@@ -8,10 +8,13 @@ use Rattle.rgw_model.specs.declared.slot.Slot.{Slot}
 use Rattle.object_words.specs.declared.bucket.Bucket.{Bucket}
 use Rattle.object_words.specs.declared.head.SeenSlot.{SeenSlot}
 use Rattle.object_words.specs.declared.head.SeenSlot.TheVariants.{Nothing, Live, Mark}
-use Rattle.object_words.specs.Names.{name_cmp}
+use Rattle.object_words.specs.Names.{name_cmp, at}
+use Rattle.object_words.specs.Roots.{Root}
 use Rattle.object_words.specs.Rows.{RowView}
+use Rattle.realm_model.specs.Containers.{is_standing}
+use Rattle.index_law.proofs.Keeping.{holds}
 use Rattle.realm_model.specs.Accounts.{Account}
-use Rattle.realm_model.specs.Histories.{world_of, account_of, Legal}
+use Rattle.realm_model.specs.Histories.{world_of, state_of, account_of, Legal}
 use Rattle.realm_model.specs.Maps.{Maps, no_maps, mapped, mapped_by, heads, slot_at, whole_slot}
 use Rattle.realm_model.specs.Owns.{OwnEvent, clock_after, own_from, own_events, NoneBy}
 use Rattle.realm_model.specs.Phases.{ActorId}
@@ -48,7 +51,7 @@ use Rattle.stripe_law.proofs.Storing.{object_size, object_slot}
 use Rattle.once_law.specs.Maps.{Slots, rows_in, slots_in}
 use Rattle.once_law.specs.Folds.{row_in, AreLive, AreListed, IsListReply, IsListSaid}
 use Rattle.once_law.specs.Runs.{fixed_by}
-use Rattle.once_law.proofs.Standing.{Standing}
+use Rattle.once_law.proofs.Standing.{row_refuses, Standing}
 
 -- ---- rows
 
@@ -153,13 +156,18 @@ module _ (settings : SettingsView) (good : IsSettings settings) (before first : 
         | inr (inr many) ↦ absurd (omega (arith, none, many))
       ]
 
-  looked_row : (container : List ℕ) (refusal : Option Refusal) → LookedUp zone asker container ListContainer refusal y.looked → row_refusal asker (rows_in settings before zone container) ListContainer ≡ refusal
-  looked_row container refusal l =
-      subst (λ o. row_refusal asker o ListContainer ≡ refusal)
-      (standing.looked l.look l.is_last ∙ λ i. rows_in settings before (l.in_zone i) (l.under_name i)) l.refuses
-
   abbrev request : ListCommand → ListRequest
   request c = record { zone = zone; asker = asker; command = c }
+
+  -- the row that the listing read is that before it
+  row_read : (c : ListCommand) (rows : List ListedRow) (l : ListedBy (request c) rows y events) → rows_in settings before zone c.container ≡ Some l.row
+  row_read c rows l = sym (standing.looked l.look l.is_last ∙ λ i. rows_in settings before (l.in_zone i) (l.under_name i)) ∙ l.showed
+
+  stands : (c : ListCommand) (rows : List ListedRow) (l : ListedBy (request c) rows y events) → is_standing (world_of settings history).rows (state_of settings history) (l.row).id ≡ true
+  stands c rows l =
+      let kept : rows_in settings history zone c.container ≡ Some l.row = ap (λ (r : Root). at r.buckets c.container) (standing.roots zone) ∙ row_read c rows l in
+      let n = ((holds settings history good legal).rows_stand.kept zone c.container l.row kept).named in
+      standing.opened.stand (l.row).id n.home n.made
 
   listed : (c : ListCommand) (rows : List ListedRow) → y.changes ≡ 0 → (l : ListedBy (request c) rows y events) → AreListed (slots_in settings before zone) l.row c rows
   listed c rows none l = record {
@@ -171,7 +179,7 @@ module _ (settings : SettingsView) (good : IsSettings settings) (before first : 
           ∙ sym (row_shown settings history legal zone (l.row).id name)
           ∙ λ i. row_in (sym (slots_stay none) i (l.row).id name);
     };
-    rows_are = listed_of_calm_map settings history actor (request c) rows good legal l (λ own name there. calm own (l.row).id name there);
+    rows_are = listed_of_calm_map settings history actor (request c) rows good legal l (stands c rows l) (λ own name there. calm own (l.row).id name there);
   }
 
   abbrev Says : ListCommand → MapReply → Type 0
@@ -180,15 +188,14 @@ module _ (settings : SettingsView) (good : IsSettings settings) (before first : 
 
   listed_said : (c : ListCommand) (rows : List ListedRow) → y.changes ≡ 0 → ListedBy (request c) rows y events → Says c (Listed rows)
   listed_said c rows none l =
-      let row_is : rows_in settings before zone c.container ≡ Some l.row =
-      sym (standing.looked l.look l.is_last ∙ λ i. rows_in settings before (l.in_zone i) (l.under_name i)) ∙ l.showed in
+      let row_is = row_read c rows l in
       subst (λ found. IsListReply (row_refusal asker found ListContainer) found (slots_in settings before zone) c (Listed rows)) (sym row_is)
       (subst (λ refusal. IsListReply refusal (Some l.row) (slots_in settings before zone) c (Listed rows)) (sym l.granted) (listed c rows none l))
 
   refused_said : (c : ListCommand) (refusal : Refusal) → LookedUp zone asker c.container ListContainer (Some refusal) y.looked → Says c (Refused refusal)
   refused_said c refusal l =
       subst (λ found. IsListReply found (rows_in settings before zone c.container) (slots_in settings before zone) c (Refused refusal))
-      (sym (looked_row c.container (Some refusal) l)) refl
+      (sym (row_refuses settings before y.looked standing.looked zone asker c.container ListContainer (Some refusal) l)) refl
 
   reply_said : (c : ListCommand) (reply : MapReply) → y.changes ≡ 0 → IsListedReply (request c) reply y events → Says c reply
   reply_said c (Listed rows) none by = listed_said c rows none by

@@ -37,7 +37,7 @@ use Rattle.once_law.specs.Maps.{Slots, rows_in, slots_in, with_slot}
 use Rattle.once_law.specs.Folds.{Said, refused, has_other_etag, said_of_name, said_in, said_by, Fixed, said, IsSaid, left_by}
 use Rattle.once_law.specs.Runs.{fixed_by}
 use Rattle.once_law.proofs.Slots.{all_slots, with_zone_slot, with_slot_same}
-use Rattle.once_law.proofs.Standing.{Found, Unchanged, ChangedOnce, Standing}
+use Rattle.once_law.proofs.Standing.{Found, Unchanged, ChangedOnce, row_refuses, Standing, row_by_map}
 use Rattle.once_law.proofs.Stamps.{HasLater, moves}
 
 -- ---- the row
@@ -155,9 +155,7 @@ module _ (settings : SettingsView) (before history : List Event) (zone : ℕ) (a
   -- ---- by the row
 
   pub looked_row : (container : List ℕ) (deed : Deed) (refusal : Option Refusal) → LookedUp zone asker container deed refusal y.looked → row_refusal asker (rows_in settings before zone container) deed ≡ refusal
-  looked_row container deed refusal l =
-      subst (λ o. row_refusal asker o deed ≡ refusal)
-      (standing.looked l.look l.is_last ∙ λ i. rows_in settings before (l.in_zone i) (l.under_name i)) l.refuses
+  looked_row container deed refusal l = row_refuses settings before y.looked standing.looked zone asker container deed refusal l
 
   refusal_done : (command : Command) (refusal : Refusal) (shown : List ℕ) → LookedUp zone asker (container_of command) (deed_of command) (Some refusal) y.looked → y.changes ≡ 0 → shown ≡ [] → Does command (Done (Refused refusal)) shown
   refusal_done command refusal shown l none is =
@@ -181,10 +179,10 @@ module _ (settings : SettingsView) (before history : List Event) (zone : ℕ) (a
 
   module _ (command : Command) (reply : MapReply) (m : ByMap zone asker command reply y.decided) (found : Found settings before m.event) (right : has_other_etag command ≡ false) where
     is_row : rows_in settings before zone (container_of command) ≡ Some m.row
-    is_row = sym (found.of_row m.look m.looked ∙ λ i. rows_in settings before (m.look_in_zone i) (m.look_of_name i)) ∙ m.showed
+    is_row = row_by_map settings before history y standing zone asker command reply m
 
     is_slot : m.event.before ≡ slots m.row.id (name_of command)
-    is_slot = found.before ∙ λ i. all_slots settings before (m.in_zone i) (m.in_container i) (m.of_name i)
+    is_slot = found ∙ λ i. all_slots settings before (m.in_zone i) (m.in_container i) (m.of_name i)
 
     the_answer : answer (slots m.row.id (name_of command)) command zone (clocks actor) ≡ answer m.event.before command zone m.event.clock
     the_answer = λ i. answer (sym is_slot i) command zone (clock m.event m.is_last i)

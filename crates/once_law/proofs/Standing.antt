@@ -12,45 +12,33 @@ use Rattle.object_words.specs.declared.why.Why.{Why}
 use Rattle.object_words.specs.declared.why.Why.TheVariants.{Expired}
 use Rattle.object_words.specs.Names.{at}
 use Rattle.realm_model.specs.Settings.{SettingsView}
-use Rattle.realm_model.specs.States.{State, number_next, clock_at, at_moment, touched}
-use Rattle.realm_model.specs.Steps.{row_reply, reply_of, touch_of}
+use Rattle.realm_model.specs.States.{State, number_next, clock_at, at_moment}
+use Rattle.realm_model.specs.Steps.{row_reply, reply_of}
 use Rattle.realm_model.specs.Phases.{ActorId}
 use Rattle.realm_model.specs.Maps.{Maps, Made, heads, mapped, whole_slot}
 use Rattle.realm_model.specs.Accounts.{Looked, Decided, Account, blank, looked_after, slot_now, decided_at, tried_at, decided_after, changes_after, accounted}
 use Rattle.realm_model.specs.Worlds.{start, actor_of}
 use Rattle.realm_model.specs.Histories.{Doings, world_of, state_of, account_of, Legal}
 use Rattle.realm_model.specs.declared.op.Op.{Op}
-use Rattle.realm_model.specs.declared.op.Op.TheVariants.{BucketRead, BucketSwap, ShardMake, Prepare, Complete, Cancel, Page, Suggest, Stats, HeadRead, HeadWrite, TailMake, TailRead, Announce}
+use Rattle.realm_model.specs.declared.op.Op.TheVariants.{BucketRead, HeadRead, HeadWrite}
 use Rattle.realm_model.specs.declared.event.Reply.{Reply}
 use Rattle.realm_model.specs.declared.event.Reply.TheVariants.{No, Row, Head as head_reply, Changed as changed_reply}
 use Rattle.realm_model.specs.declared.event.Event.{Event}
 use Rattle.realm_model.proofs.Doing.{doings-next}
 use Rattle.realm_model.proofs.Runs.{state-next, last_is_next, legal_front}
+use Rattle.swift_auth.specs.declared.policy.Deed.{Deed}
+use Rattle.task_words.specs.declared.asker.Asker.{Asker}
+use Rattle.task_words.specs.declared.reply.Refusal.{Refusal}
+use Rattle.task_words.specs.declared.reply.MapReply.{MapReply}
+use Rattle.task_words.specs.Answers.{Command, container_of}
+use Rattle.task_words.specs.Outcomes.{LookedUp, ByMap}
+use Rattle.task_words.specs.Rows.{row_refusal}
 use Rattle.once_law.specs.Maps.{rows_in}
+use Rattle.once_law.specs.Runs.{IsOpen}
+use Rattle.once_law.proofs.Open.{keeps_open, root_kept, open_one}
 use Rattle.once_law.proofs.Slots.{all_slots, with_zone_slot, slots_still, slots_written}
 
 -- ---- operations
-
--- every operation but the swap of a row
-abbrev pub keeps_rows : Op → Bool
-keeps_rows (BucketSwap zone name expected new) = false
-keeps_rows op = true
-
-root_kept : (settings : SettingsView) (st : State) (op : Op) → keeps_rows op ≡ true → (touched settings st (touch_of settings st op)).root ≡ st.root
-root_kept settings st (BucketRead zone name) keeps = refl
-root_kept settings st (BucketSwap zone name expected new) keeps = let e : false ≡ true = keeps in absurd (cc)
-root_kept settings st (ShardMake zone key) keeps = refl
-root_kept settings st (Prepare zone key name) keeps = refl
-root_kept settings st (Complete zone key name tag version row) keeps = refl
-root_kept settings st (Cancel zone key name tag) keeps = refl
-root_kept settings st (Page zone key from limit) keeps = refl
-root_kept settings st (Suggest zone key name revision moment version row) keeps = refl
-root_kept settings st (Stats zone key) keeps = refl
-root_kept settings st (HeadRead zone container name) keeps = refl
-root_kept settings st (HeadWrite zone container name guard new when) keeps = refl
-root_kept settings st (TailMake zone write part bytes) keeps = refl
-root_kept settings st (TailRead zone write part begin count) keeps = refl
-root_kept settings st (Announce zone container instance shard bucket) keeps = refl
 
 -- a head was changed
 abbrev is_change : Op → Reply → Bool
@@ -92,6 +80,9 @@ changes_kept n op reply is = refl
 
 -- ---- what decides
 
+looked_by : {x y : Decided} → Some x ≡ Some y → x.looked ≡ y.looked
+looked_by same = cc
+
 -- an event that decides, and leaves the slot that it found
 record ReadsSlot (y : Account) (maps : Maps) (made : Made) (clock : ℕ) (d : Decided) : Type 0 where
   before : d.before ≡ slot_now maps made d.zone d.container d.name
@@ -117,6 +108,18 @@ module _ (y : Account) (maps : Maps) (made : Made) (number clock : ℕ) where
   decides (HeadRead zone container name) (head_reply head shown_at) is = inr (_, refl, reads_slot zone container name)
   decides (HeadWrite zone container name guard new when) reply is = tried zone container name guard new when reply is
   decides op reply is = inl refl
+
+  -- an event that decides comes behind what was looked up
+  tried_by : (zone container : ℕ) (name : List ℕ) (new : NewHead) (reply : Reply) (d : Decided) → tried_at y maps made zone container name new reply number clock y.decided ≡ Some d → (y.decided ≡ Some d) ⊎ (d.looked ≡ y.looked)
+  tried_by zone container name new (changed_reply change) d is = inr (sym (looked_by is))
+  tried_by zone container name new (No (Expired deadline late)) d is = inl is
+  tried_by zone container name new (No why) d is = inr (sym (looked_by is))
+  tried_by zone container name new reply d is = inl is
+
+  decided_by : (op : Op) (reply : Reply) (d : Decided) → decided_after y maps made op reply number clock ≡ Some d → (y.decided ≡ Some d) ⊎ (d.looked ≡ y.looked)
+  decided_by (HeadRead zone container name) (head_reply head shown_at) d is = inr (sym (looked_by is))
+  decided_by (HeadWrite zone container name guard new when) reply d is = tried_by zone container name new reply d is
+  decided_by op reply d is = inl is
 
 -- ---- rows
 
@@ -147,9 +150,8 @@ module _ (settings : SettingsView) (base : List Event) where
   looked_next st op reply number looked roots answer of l is = of l is
 
   -- an event found the slot of the history
-  pub record Found (d : Decided) : Type 0 where
-    pub before : d.before ≡ all_slots settings base d.zone d.container d.name
-    pub of_row : OfRow d.looked
+  abbrev pub Found : Decided → Type 0
+  Found d = d.before ≡ all_slots settings base d.zone d.container d.name
 
   -- no head was changed
   pub record Unchanged (history : List Event) (y : Account) : Type 0 where
@@ -166,10 +168,24 @@ module _ (settings : SettingsView) (base : List Event) where
     pub left : all_slots settings history ≡ with_zone_slot (all_slots settings base) change.zone change.container change.name change.after
     pub decided : (y.decided ≡ Some change) ⊎ ((d : Decided) → y.decided ≡ Some d → d.after ≡ d.before)
 
+  -- the row that was looked up refuses as that of the history
+  pub row_refuses : (looked : Option Looked) → OfRow looked → (zone : ℕ) (asker : Asker) (container : List ℕ) (deed : Deed) (refusal : Option Refusal) → LookedUp zone asker container deed refusal looked
+      → row_refusal asker (rows_in settings base zone container) deed ≡ refusal
+  row_refuses looked of zone asker container deed refusal l =
+      subst (λ o. row_refusal asker o deed ≡ refusal) (of l.look l.is_last ∙ λ i. rows_in settings base (l.in_zone i) (l.under_name i)) l.refuses
+
   pub record Standing (history : List Event) (y : Account) : Type 0 where
+    pub opened : IsOpen settings history
     pub roots : (zone : ℕ) → (state_of settings history).root zone ≡ (state_of settings base).root zone
     pub looked : OfRow y.looked
+    pub of_row : (d : Decided) → y.decided ≡ Some d → OfRow d.looked
     pub changes : Unchanged history y ⊎ (ChangedOnce history y ⊎ (2 ≤ y.changes))
+
+  -- the row that a reply of the bucket map rests on is that of the history
+  pub row_by_map : (history : List Event) (y : Account) → Standing history y → (zone : ℕ) (asker : Asker) (command : Command) (reply : MapReply) (m : ByMap zone asker command reply y.decided)
+      → rows_in settings base zone (container_of command) ≡ Some m.row
+  row_by_map history y standing zone asker command reply m =
+      sym (standing.of_row m.event m.is_last m.look m.looked ∙ λ i. rows_in settings base (m.look_in_zone i) (m.look_of_name i)) ∙ m.showed
 
   module _ (history : List Event) (e : Event) (legal : Legal settings (history ++ e ∷ [])) (y : Account) (standing : Standing history y) where
     abbrev w : Account
@@ -202,10 +218,7 @@ module _ (settings : SettingsView) (base : List Event) where
             | inl old ↦ u.found d (sym old ∙ now)
             | inr (n, here, x) ↦
                 let n_is : n ≡ d = cc in
-                subst Found n_is (record {
-                  before = x.before ∙ λ i. u.same i n.zone n.container n.name;
-                  of_row = subst OfRow (sym x.looked) standing.looked;
-                })
+                subst Found n_is (x.before ∙ λ i. u.same i n.zone n.container n.name)
           ];
           still = λ d now. elim (decided_now is) [
             | inl old ↦ u.still d (sym old ∙ now)
@@ -239,10 +252,7 @@ module _ (settings : SettingsView) (base : List Event) where
         record {
           one = let n = changes_now x in let none = u.none in omega (arith, n, none);
           change = d;
-          found = record {
-            before = λ i. u.same i x.zone x.container x.name;
-            of_row = standing.looked;
-          };
+          found = λ i. u.same i x.zone x.container x.name;
           left = slots_written settings history e legal x.zone x.container x.name x.guard x.new x.when_asked x.change x.op_is x.reply_is
               ∙ λ i. with_zone_slot (u.same i) x.zone x.container x.name new_slot;
           decided = inl (λ i. decided_after y (heads history) made (x.op_is i) (x.reply_is i) number clock);
@@ -256,18 +266,23 @@ module _ (settings : SettingsView) (base : List Event) where
     by_change (inr (inl c)) true is = inr (inr (let n = changes_now (change_is e.op e.reply is) in let one = c.one in omega (arith, n, one)))
     by_change (inr (inr many)) true is = inr (inr (let n = changes_now (change_is e.op e.reply is) in omega (arith, n, many)))
 
-    stands_next : keeps_rows e.op ≡ true → Standing longer w
+    stands_next : keeps_open e.op ≡ true → Standing longer w
     stands_next keeps =
         let st = at_moment (state_of settings history) e.moment in
         let answer = (last_is_next settings history e legal).answer in
         record {
+          opened = open_one settings history e keeps standing.opened;
           roots = λ zone. ap (λ (s : State). s.root zone) (state-next settings history e) ∙ (λ i. root_kept settings st e.op keeps i zone) ∙ standing.roots zone;
           looked = looked_next st e.op e.reply number y.looked standing.roots answer standing.looked;
+          of_row = λ d is. elim (decided_by y (heads history) made number clock e.op e.reply d is) [
+            | inl old ↦ standing.of_row d old
+            | inr same ↦ subst OfRow (sym same) standing.looked
+          ];
           changes = by_change standing.changes (is_change e.op e.reply) refl;
         }
 
   module _ (actor : ActorId) where
-    pub stands_one_more : (history : List Event) (e : Event) → Legal settings (history ++ e ∷ []) → actor_of e ≡ actor → keeps_rows e.op ≡ true → Standing history (account_of settings history actor) → Standing (history ++ e ∷ []) (account_of settings (history ++ e ∷ []) actor)
+    pub stands_one_more : (history : List Event) (e : Event) → Legal settings (history ++ e ∷ []) → actor_of e ≡ actor → keeps_open e.op ≡ true → Standing history (account_of settings history actor) → Standing (history ++ e ∷ []) (account_of settings (history ++ e ∷ []) actor)
     stands_one_more history e legal by keeps standing =
         let own = subst (λ a. Standing history (account_of settings history a)) (sym by) standing in
         let next = stands_next history e legal (account_of settings history (actor_of e)) own keeps in
@@ -276,7 +291,7 @@ module _ (settings : SettingsView) (base : List Event) where
         (subst (Standing (history ++ e ∷ [])) (sym account) next)
 
     -- the own events come one after another
-    pub stands_behind : (history es : List Event) → Legal settings (history ++ es) → AllByRecursion (λ e. actor_of e ≡ actor) es → AllByRecursion (λ e. keeps_rows e.op ≡ true) es
+    pub stands_behind : (history es : List Event) → Legal settings (history ++ es) → AllByRecursion (λ e. actor_of e ≡ actor) es → AllByRecursion (λ e. keeps_open e.op ≡ true) es
         → Standing history (account_of settings history actor) → Standing (history ++ es) (account_of settings (history ++ es) actor)
     stands_behind history [] legal by keeps standing =
         subst (λ l. Standing l (account_of settings l actor)) (sym (append-nil history)) standing
@@ -287,9 +302,11 @@ module _ (settings : SettingsView) (base : List Event) where
         subst (λ l. Standing l (account_of settings l actor)) whole (stands_behind (history ++ e ∷ []) es legal' by.1 keeps.1 next)
 
   -- an actor without events
-  pub stands_first : Standing base blank
-  stands_first = record {
+  pub stands_first : IsOpen settings base → Standing base blank
+  stands_first opened = record {
+    opened = opened;
     roots = λ zone. refl;
     looked = λ l is. absurd (cc);
+    of_row = λ d is. absurd (cc);
     changes = inl (record { none = refl; same = refl; found = λ d is. absurd (cc); still = λ d is. absurd (cc) });
   }

@@ -1,11 +1,14 @@
 -- Calls that nobody else's events come between, and what they leave.
-use Rattle.std.specs.Prelude.{◌≡◌, ℕ, ◌≤◌, List, ◌++◌, Some}
+use Rattle.std.specs.Prelude.{◌≡◌, ℕ, ◌≤◌, true, List, ◌++◌, Some}
 use Rattle.std.specs.List.{AllByRecursion}
 use Rattle.realm_model.specs.Accounts.{Decided}
-use Rattle.realm_model.specs.Histories.{account_of}
+use Rattle.realm_model.specs.Containers.{is_standing}
+use Rattle.realm_model.specs.Facts.{Home}
+use Rattle.realm_model.specs.Histories.{world_of, state_of, account_of}
 use Rattle.realm_model.specs.Owns.{NoneBy}
 use Rattle.realm_model.specs.Settings.{SettingsView}
 use Rattle.realm_model.specs.declared.event.Event.{Event}
+use Rattle.index_law.specs.Serving.{NoneCloses}
 use Rattle.realm_door.specs.Steps.{actor_of_pass}
 use Rattle.task_words.specs.declared.asker.Asker.{Asker}
 use Rattle.call_words.specs.Calls.{Call, AreRight}
@@ -17,9 +20,15 @@ use Rattle.once_law.specs.Folds.{Fixed, AreFolded, slots_behind}
 abbrev pub NoneFrom : ℕ → ℕ → List Event → Type 0
 NoneFrom pass next events = (count : ℕ) → next ≤ count → NoneBy (actor_of_pass pass count) events
 
+-- no event closed a shard, and each container that zone 1 made stands
+pub record IsOpen (settings : SettingsView) (history : List Event) : Type 0 where
+  pub closes : NoneCloses history
+  pub stand : (container : ℕ) (home : Home) → (world_of settings history).rows.homes container ≡ Some home → is_standing (world_of settings history).rows (state_of settings history) container ≡ true
+
 -- The replies to calls are right in a history. What came behind its first part was made for them, one after another, and then
--- by the actor behind theirs.
+-- by the actor behind theirs. Up to them all containers are open.
 pub record AreAlone (settings : SettingsView) (zone : ℕ) (asker : Asker) (pass : ℕ) (before more : List Event) (next : ℕ) (calls : List Call) (last : ℕ) : Type 0 where
+  pub opened : IsOpen settings before
   pub unused : NoneFrom pass next before
   pub right : AreRight settings zone asker pass (before ++ more) next calls last
   pub later : List Event

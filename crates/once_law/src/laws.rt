@@ -7,8 +7,11 @@ ghost use Rattle.realm_model.specs.declared.event.Event.{Event as EventOf};
 ghost use Rattle.task_words.specs.declared.asker.Asker.{Asker as AskerOf};
 ghost use Rattle.call_words.specs.Calls.{Call};
 ghost use Rattle.once_law.specs.Missing.{MissesNone};
-ghost use Rattle.once_law.specs.Maps.{Slots};
+ghost use Rattle.call_words.specs.Requests.{requests_of};
+ghost use Rattle.call_words.specs.Streams.{CallsEnd};
+ghost use Rattle.once_law.specs.Maps.{Rows, Slots};
 ghost use Rattle.once_law.specs.Folds.{Fixed, AreFolded, AreRepliedOrFull, AreReplied, AskTheSame, SayTheSame};
+ghost use Rattle.once_law.specs.Readings.{AreLeftAsRowsSay, AreReadAlone, IsCutGranted};
 ghost use Rattle.once_law.specs.Runs.{AreAlone, AreClocks, AreAt, AreOfMaps};
 
 /// Where nobody else makes events, the replies to calls are those of the rows and the bucket maps, folded
@@ -44,6 +47,27 @@ pub fn only_room_is_wanting()
         → AreAlone settings zone asker pass before more next calls last
         → (state_of settings before).clock ≤ counted_moment moment → AreAt moment more
         → AreRepliedOrFull calls }
+{}
+
+/// Where nobody else makes events, and each event brings one moment, it is no choice for which of the clients
+/// that wait no 100 is written: for those whose PUT the row of its container refuses. Nor is it one for a PUT
+/// that was cut off behind a 100, which the row grants. So the bytes of a connection are the same requests, with
+/// the same fates and the same end, over the same rows.
+pub fn which_bodies_are_left_is_no_choice()
+    ensures rows { (settings : SettingsView) (zone : ℕ) (asker : AskerOf) (rows : Rows) (k : ℕ) (bytes : List ℕ)
+        → (calls : List Call) (end : CallsEnd)
+        → IsSettings settings → AreReadAlone settings zone asker rows k bytes calls end
+        → AreLeftAsRowsSay rows asker calls }
+    ensures cut { (settings : SettingsView) (zone : ℕ) (asker : AskerOf) (rows : Rows) (k : ℕ) (bytes : List ℕ)
+        → (calls : List Call) (end : CallsEnd)
+        → IsSettings settings → AreReadAlone settings zone asker rows k bytes calls end
+        → IsCutGranted rows asker settings.largest k bytes calls end }
+    ensures reading { (settings : SettingsView) (zone : ℕ) (asker : AskerOf) (rows : Rows) (k : ℕ) (bytes : List ℕ)
+        → (calls others : List Call) (end other : CallsEnd)
+        → IsSettings settings
+        → AreReadAlone settings zone asker rows k bytes calls end
+        → AreReadAlone settings zone asker rows k bytes others other
+        → (requests_of calls ≡ requests_of others) × (end ≡ other) × AskTheSame calls others }
 {}
 
 /// Calls that ask the same are told the same: where the maps replied to each of them, and at one clock, the

@@ -6,4 +6,5 @@ mod laws;
 
 pub use laws::{
     calls_fold_over_the_maps, folds_tell_the_same, no_stripe_is_missed, only_room_is_wanting,
+    which_bodies_are_left_is_no_choice,
 };

@@ -1,5 +1,5 @@
 -- How the task of a PUT ended.
-use Rattle.std.proofs.Common.{◌≡◌, inl, inr, ℕ, true, false, List, [], ◌++◌, Option, Some, None, refl, sym, ◌∙◌, ap, subst, append_assoc}
+use Rattle.std.proofs.Common.{◌≡◌, ℕ, true, false, List, [], ◌++◌, Option, Some, None, refl, sym, ◌∙◌, ap, subst, append_assoc}
 use Rattle.std.proofs.lemmas.List.{append-nil}
 use Rattle.realm_model.specs.Accounts.{Account}
 use Rattle.realm_model.specs.Owns.{OwnEvent, own_events}
@@ -27,25 +27,26 @@ use Rattle.task_put.specs.Orders.{path_of, IsFinished}
 use Rattle.task_put.specs.Stages.{IsOver}
 use Rattle.task_put.specs.Taking.{fed_request, ended_request}
 use Rattle.task_put.specs.Runs.{request_of, stage_of, fault_of, fits}
-use Rattle.task_put.specs.Fits.{body_of}
+use Rattle.task_put.specs.Fits.{body_of as taken_of}
 use Rattle.task_put.proofs.Running.{run_means}
 use Rattle.http_chunks.specs.declared.body.BodyEnd.{BodyEnd as HttpEnd}
 use Rattle.http_chunks.specs.declared.body.BodyEnd.TheVariants as End
 use Rattle.call_words.specs.Bodies.{Fate, read_whole, broken_off, IsWrong}
-use Rattle.call_words.specs.Calls.{body_at, IsCutBy}
+use Rattle.call_words.specs.Calls.{body_at}
 use Rattle.call_words.specs.Events.{AreOfPut}
 use Rattle.http_intake.specs.Intake.{IntakeState}
 use Rattle.realm_model.specs.declared.event.Event.{Event}
-use Rattle.call_service.specs.Bodies.{HasGiven, HasGivenAll, ReadsTo, BreaksIn, HasFate, HasBegun, DropsBody, LeavesBody}
+use Rattle.call_service.specs.Bodies.{HasGiven, ReadsTo, FallsBehind, HasFate, HasComeTo, DropsBody, LeavesBody}
 use Rattle.call_service.specs.declared.fault.ServeFault.{ServeFault}
 use Rattle.call_service.specs.declared.fault.ServeFault.TheVariants.{ReadFault}
-use Rattle.call_service.proofs.Passing.{give_all, break_behind}
+use Rattle.call_service.proofs.Passing.{give_all, break_behind, fall_behind, falls_here}
 use Rattle.call_service.specs.Serving.{is_by_end}
 use Rattle.door_moments.specs.Acts.{Asks}
 use Rattle.door_moments.proofs.Asking.{both_ask}
-use Rattle.put_service.specs.Standing.{IsEnd, IsEndBy, IsEndAt, IsByEvent, IsByBody, IsSteadyAt, IsSteady}
+use Rattle.put_service.specs.Standing.{IsUp, IsEnd, IsEndBy, IsEndAt, IsByEvent, IsByBody, IsSteadyAt, IsSteady}
 use Rattle.put_service.proofs.Orders.{of_put}
-use Rattle.put_service.specs.Parts.{Place, AsksAt, EndsSo, HasEnded, task_end, RunsTask, StopsBody}
+use Rattle.put_service.specs.Parts.{Place, AsksAt, EndsSo, HasEnded, task_end, RunsShort, RunsTask, StopsBody, DoesSo}
+use Rattle.put_service.proofs.Doing.{has_done, done_of, done_ended}
 
 -- an event brought the outcome
 pub by_event : (r : PutRequest) (stage : Stage) → IsSteadyAt r stage → IsOver stage → (outcome : Outcome) × (stage ≡ Ended outcome) × IsByEvent outcome
@@ -147,26 +148,9 @@ module _ (zone : ℕ) (asker : Asker) (c : PutCommand) (bytes : List ℕ) (w : B
   before_end (NoSpace free needed) is m = m
   before_end outcome is m = absurd m
 
-module _ (zone : ℕ) (asker : Asker) (c : PutCommand) (bytes given : List ℕ) (y : Account) (events : List OwnEvent) where
-  -- where the body failed, it says nothing of its bytes
-  pub any_bytes : (outcome : Outcome) → IsPutOutcome zone asker c (record { bytes = bytes; end = Some Failed }) outcome y events → IsPutOutcome zone asker c (record { bytes = given; end = Some Failed }) outcome y events
-  any_bytes (Done (Stored etag stamp)) m = let clash : Some Failed ≡ Some Whole = m.0.whole in absurd (cc)
-  any_bytes (Done (Refused NotMet)) m = let clash : Some Failed ≡ Some Whole = m.0.whole in absurd (cc)
-  any_bytes (Done (Refused OtherEtag)) m = let clash : Some Failed ≡ Some Whole = m.0.whole in absurd (cc)
-  any_bytes (Done (Refused Unauthorized)) m = m
-  any_bytes (Done (Refused (Denied rule))) m = m
-  any_bytes (Done (Refused NoContainer)) m = m
-  any_bytes (Done reply) m = absurd m
-  any_bytes BodyFailed m = m
-  any_bytes (Busy id) m = m
-  any_bytes MovedOften m = m
-  any_bytes LateTag m = m
-  any_bytes (NoSpace free needed) m = m
-  any_bytes outcome m = absurd m
-
 -- what the outcome of a task says of the events of its actor
 pub means_put : (t : Stepping PutTask) (settings : SettingsView) (d : DoorView) (outcome : Outcome) → stage_of t ≡ Ended outcome → fault_of t ≡ None → fits t settings d
-    → IsPutOutcome (request_of t).zone (request_of t).asker (request_of t).command (body_of (request_of t)) outcome (account_of settings d.seen (actor_at d)) (own_events d.seen (actor_at d))
+    → IsPutOutcome (request_of t).zone (request_of t).asker (request_of t).command (taken_of (request_of t)) outcome (account_of settings d.seen (actor_at d)) (own_events d.seen (actor_at d))
 means_put t settings d outcome ended sound f = (run_means t settings d outcome ended sound f).0
 
 -- its events are such as a PUT makes
@@ -202,11 +186,11 @@ front_cut settings r t d front s over request none unended sound f more =
     cut_after r.zone settings.stripe r.bytes front None events none going more tt
 
 -- the outcome was there before the end of the body
-pub ended_before : (tells alone : Type 0) (settings : SettingsView) (r : PutRequest) (t : Stepping PutTask) (fate : Fate) (x y : Place) (body front : List ℕ) → HasFate fate x.intake y.intake x.left y.left body
+pub ended_before : (tells alone : Type 0) (settings : SettingsView) (r : PutRequest) (t : Stepping PutTask) (fate : Fate) (x y : Place) (body front rest : List ℕ) (end : Option BodyEnd) → body ≡ front ++ rest → body_at fate body ≡ record { bytes = body; end = end } → r.bytes ≡ [] → HasFate fate x.intake y.intake x.left y.left body
     → IsSteady t.stages → IsOver (stage_of t) → request_of t ≡ fed_request r front → r.end ≡ None → fault_of t ≡ None → (tells → fits t settings y.door)
-    → (tells → IsCutBy settings.stripe r.zone fate body (own_events y.door.seen (actor_at y.door))) → AsksAt tells alone settings false x y
+    → (tells → AreCut r.zone settings.stripe body (own_events y.door.seen (actor_at y.door))) → AsksAt tells alone settings false x y
     → HasEnded tells alone settings r t fate x y
-ended_before tells alone settings r t fate x y body front has_fate s over request unended sound up cut asks =
+ended_before tells alone settings r t fate x y body front rest end parts at_end none has_fate s over request unended sound up cut asks =
     let by = by_event (request_of t) (stage_of t) s over in
     let account = account_of settings y.door.seen (actor_at y.door) in
     let events = own_events y.door.seen (actor_at y.door) in
@@ -218,65 +202,46 @@ ended_before tells alone settings r t fate x y body front has_fate s over reques
       sound = sound;
       is_end = end_at by.0 fate by.2.0;
       right = λ told.
-          let at_request = subst (λ (q : PutRequest). IsPutOutcome q.zone q.asker q.command (body_of q) by.0 account events) request (means_put t settings y.door by.0 by.1 sound (up told)) in
+          let at_request = subst (λ (q : PutRequest). IsPutOutcome q.zone q.asker q.command (taken_of q) by.0 account events) request (means_put t settings y.door by.0 by.1 sound (up told)) in
           before_end r.zone r.asker r.command (r.bytes ++ front) (body_at fate body) account events by.0 by.2
           (subst (λ e. IsPutOutcome r.zone r.asker r.command (record { bytes = r.bytes ++ front; end = e }) by.0 account events) unended at_request);
       of_put = λ told. events_of_put t settings y.door by.0 by.1 sound (up told);
       finished = λ told. events_finished t settings y.door by.0 by.1 sound (up told);
       cut = cut;
+      so_far = λ told.
+          subst (λ (w : Body). DoesSo settings r w y.door) (sym at_end)
+          (done_of tells settings r (request_of t) y.door none unended body front rest end parts request (has_done tells settings t y.door sound up) told);
       asks = subst (λ m. AsksAt tells alone settings m x y) (sym by.2.1) asks;
     }
 
--- the task took the whole body, and ended behind it
-pub ended_behind : (tells alone : Type 0) (settings now : SettingsView) (r : PutRequest) (t : Stepping PutTask) (x y : Place) (d : DoorView) (b : Option (List ℕ)) (body : List ℕ) → now ≡ settings
-    → HasGivenAll x.intake y.intake x.left y.left body → request_of t ≡ ended_request (fed_request r body) Whole → r.bytes ≡ [] → r.end ≡ None → fault_of t ≡ None → (tells → fits t settings y.door)
-    → Asks tells alone settings false x.door d x.told b → EndsSo tells alone now t Whole d y.door b y.told → HasEnded tells alone settings r t read_whole x y
-ended_behind tells alone settings now r t x y d b body same given request none unended sound up first ends =
+-- the task took what came of the body up to its end, and ended behind it
+pub ended_behind : (tells alone : Type 0) (settings now : SettingsView) (r : PutRequest) (t : Stepping PutTask) (x y : Place) (d : DoorView) (b : Option (List ℕ)) (fate : Fate) (end : BodyEnd) (body : List ℕ) → now ≡ settings
+    → body_at fate body ≡ record { bytes = body; end = Some end } → ((outcome : Outcome) → IsEndBy outcome end → IsEndAt outcome fate)
+    → HasFate fate x.intake y.intake x.left y.left body → request_of t ≡ ended_request (fed_request r body) end → r.bytes ≡ [] → r.end ≡ None → fault_of t ≡ None → (tells → fits t settings y.door)
+    → Asks tells alone settings false x.door d x.told b → EndsSo tells alone now t end d y.door b y.told → HasEnded tells alone settings r t fate x y
+ended_behind tells alone settings now r t x y d b fate end body same at_end may_end has_fate request none unended sound up first ends =
     let account = account_of settings y.door.seen (actor_at y.door) in
     let events = own_events y.door.seen (actor_at y.door) in
     record {
       body = body;
-      has_fate = given;
+      has_fate = has_fate;
       outcome = ends.outcome;
       ended = ends.ended;
       sound = sound;
-      is_end = whole_end ends.outcome ends.is_end;
+      is_end = may_end ends.outcome ends.is_end;
       right = λ told.
-          let at_request = subst (λ (q : PutRequest). IsPutOutcome q.zone q.asker q.command (body_of q) ends.outcome account events) request (means_put t settings y.door ends.outcome ends.ended sound (up told)) in
-          subst (λ (w : Body). IsPutOutcome r.zone r.asker r.command w ends.outcome account events) (λ i. record { bytes = none i ++ body; end = first_end (unended i) Whole }) at_request;
+          let at_request = subst (λ (q : PutRequest). IsPutOutcome q.zone q.asker q.command (taken_of q) ends.outcome account events) request (means_put t settings y.door ends.outcome ends.ended sound (up told)) in
+          subst (λ (w : Body). IsPutOutcome r.zone r.asker r.command w ends.outcome account events) (sym at_end)
+          (subst (λ (w : Body). IsPutOutcome r.zone r.asker r.command w ends.outcome account events) (λ i. record { bytes = none i ++ body; end = first_end (unended i) end }) at_request);
       of_put = λ told. events_of_put t settings y.door ends.outcome ends.ended sound (up told);
       finished = λ told. events_finished t settings y.door ends.outcome ends.ended sound (up told);
       cut = λ told.
           let at_request = subst (λ (q : PutRequest). CutBody q.zone settings.stripe q.bytes q.end events) request (events_cut t settings y.door ends.outcome ends.ended sound (up told)) in
-          let whole = subst (λ (e : Option BodyEnd). CutBody r.zone settings.stripe (r.bytes ++ body) (first_end e Whole) events) unended at_request in
-          subst (λ (l : List ℕ). AreCut r.zone settings.stripe l events) (append-nil body) (cut_after r.zone settings.stripe r.bytes body (Some Whole) events none whole [] refl);
-      asks = both_ask tells alone settings now (is_by_end ends.outcome) x.door d y.door x.told b y.told same first ends.asks;
-    }
-
--- the task took what came of a body that broke off, and ended behind it
-pub failed_behind : (tells alone : Type 0) (settings now : SettingsView) (r : PutRequest) (t : Stepping PutTask) (x y : Place) (d : DoorView) (b : Option (List ℕ)) (front : List ℕ) (why : HttpEnd) → now ≡ settings
-    → IsWrong why → BreaksIn x.intake x.left y.left why → request_of t ≡ ended_request (fed_request r front) Failed → r.end ≡ None → fault_of t ≡ None → (tells → fits t settings y.door)
-    → Asks tells alone settings false x.door d x.told b → EndsSo tells alone now t Failed d y.door b y.told → HasEnded tells alone settings r t (broken_off why) x y
-failed_behind tells alone settings now r t x y d b front why same wrong breaks request unended sound up first ends =
-    let account = account_of settings y.door.seen (actor_at y.door) in
-    let events = own_events y.door.seen (actor_at y.door) in
-    record {
-      body = [];
-      has_fate = (wrong, breaks, refl);
-      outcome = ends.outcome;
-      ended = ends.ended;
-      sound = sound;
-      is_end = failed_end ends.outcome why wrong ends.is_end;
-      right = λ told.
-          let at_request = subst (λ (q : PutRequest). IsPutOutcome q.zone q.asker q.command (body_of q) ends.outcome account events) request (means_put t settings y.door ends.outcome ends.ended sound (up told)) in
-          any_bytes r.zone r.asker r.command (r.bytes ++ front) [] account events ends.outcome
-          (subst (λ (w : Body). IsPutOutcome r.zone r.asker r.command w ends.outcome account events) (λ i. record { bytes = r.bytes ++ front; end = first_end (unended i) Failed }) at_request);
-      of_put = λ told. events_of_put t settings y.door ends.outcome ends.ended sound (up told);
-      finished = λ told. events_finished t settings y.door ends.outcome ends.ended sound (up told);
-      cut = λ told.
-          let at_request = subst (λ (q : PutRequest). CutBody q.zone settings.stripe q.bytes q.end events) request (events_cut t settings y.door ends.outcome ends.ended sound (up told)) in
-          let failed = subst (λ (e : Option BodyEnd). CutBody r.zone settings.stripe (r.bytes ++ front) (first_end e Failed) events) unended at_request in
-          ((r.bytes ++ front) ++ [], failed [] refl);
+          let whole = subst (λ (e : Option BodyEnd). CutBody r.zone settings.stripe (r.bytes ++ body) (first_end e end) events) unended at_request in
+          subst (λ (l : List ℕ). AreCut r.zone settings.stripe l events) (append-nil body) (cut_after r.zone settings.stripe r.bytes body (Some end) events none whole [] refl);
+      so_far = λ told.
+          subst (λ (w : Body). DoesSo settings r w y.door) (sym at_end)
+          (done_ended tells settings r (request_of t) y.door none unended body end request (has_done tells settings t y.door sound up) told);
       asks = both_ask tells alone settings now (is_by_end ends.outcome) x.door d y.door x.told b y.told same first ends.asks;
     }
 
@@ -285,38 +250,47 @@ pub concluded : (tells alone : Type 0) (settings now : SettingsView) (r : PutReq
     → ReadsTo x.intake y.intake x.left y.left given end → request_of t ≡ ended_request (fed_request r given) (task_end end) → r.bytes ≡ [] → r.end ≡ None → fault_of t ≡ None → (tells → fits t settings y.door)
     → Asks tells alone settings false x.door d x.told b → EndsSo tells alone now t (task_end end) d y.door b y.told → RunsTask tells alone settings r t x y end
 concluded tells alone settings now r t x y d b given End.Whole not same reads request none unended sound up first ends =
-    ended_behind tells alone settings now r t x y d b given same reads request none unended sound up first ends
+    ended_behind tells alone settings now r t x y d b read_whole Whole given same refl whole_end reads request none unended sound up first ends
 concluded tells alone settings now r t x y d b given End.Cut not same reads request none unended sound up first ends = absurd (not refl)
 concluded tells alone settings now r t x y d b given End.BadChunk not same reads request none unended sound up first ends =
-    failed_behind tells alone settings now r t x y d b given End.BadChunk same tt reads request unended sound up first ends
+    ended_behind tells alone settings now r t x y d b (broken_off End.BadChunk) Failed given same refl (λ outcome is. failed_end outcome End.BadChunk tt is) reads request none unended sound up first ends
 concluded tells alone settings now r t x y d b given End.TooLarge not same reads request none unended sound up first ends =
-    failed_behind tells alone settings now r t x y d b given End.TooLarge same tt reads request unended sound up first ends
+    ended_behind tells alone settings now r t x y d b (broken_off End.TooLarge) Failed given same refl (λ outcome is. failed_end outcome End.TooLarge tt is) reads request none unended sound up first ends
 
-pub begun_to : (x y : Place) (given : List ℕ) (end : HttpEnd) → (end ≡ End.Cut → ⊥) → ReadsTo x.intake y.intake x.left y.left given end → HasBegun x.intake y.intake x.left y.left
-begun_to x y given End.Whole not reads = inl (given, reads.has_given)
-begun_to x y given End.Cut not reads = absurd (not refl)
-begun_to x y given End.BadChunk not reads = inr (End.BadChunk, tt, reads)
-begun_to x y given End.TooLarge not reads = inr (End.TooLarge, tt, reads)
+-- what came of a body that ended so
+pub come_to : (x y : Place) (given : List ℕ) (end : HttpEnd) → (end ≡ End.Cut → ⊥) → ReadsTo x.intake y.intake x.left y.left given end → HasComeTo (Some (task_end end)) x.intake y.intake x.left y.left given
+come_to x y given End.Whole not reads = reads
+come_to x y given End.Cut not reads = absurd (not refl)
+come_to x y given End.BadChunk not reads = (End.BadChunk, reads)
+come_to x y given End.TooLarge not reads = (End.TooLarge, reads)
 
 -- what is left of a body behind the outcome is dropped
-pub drops_behind : (tells alone : Type 0) (settings : SettingsView) (r : PutRequest) (t : Stepping PutTask) (x y : Place) (i : IntakeState) (l : Option (List ℕ)) (given front rest : List ℕ) (end : HttpEnd) → HasGiven x.intake i x.left l given
-    → IsSteady t.stages → IsOver (stage_of t) → given ≡ front ++ rest → request_of t ≡ fed_request r front → r.bytes ≡ [] → r.end ≡ None → fault_of t ≡ None → (tells → fits t settings y.door) → AsksAt tells alone settings false x y
-    → DropsBody i y.intake l y.left end → RunsTask tells alone settings r t x y end
-drops_behind tells alone settings r t x y i l given front rest End.Whole has s over parts request none unended sound up asks (more, all) =
-    let joined : front ++ (rest ++ more) ≡ given ++ more = sym (append_assoc front rest more) ∙ ap (λ l. l ++ more) (sym parts) in
-    ended_before tells alone settings r t read_whole x y (given ++ more) front (give_all x.intake i x.left l y.left given more y.intake has all) s over request unended sound up
-    (λ told. subst (λ (l : List ℕ). AreCut r.zone settings.stripe l (own_events y.door.seen (actor_at y.door))) joined (front_cut settings r t y.door front s over request none unended sound (up told) (rest ++ more))) asks
-drops_behind tells alone settings r t x y i l given front rest End.Cut has s over parts request none unended sound up asks (more, cut) =
-    ((break_behind x.intake i x.left l y.left given End.Cut has cut.0, cut.1), asks)
-drops_behind tells alone settings r t x y i l given front rest End.BadChunk has s over parts request none unended sound up asks (more, breaks) =
-    ended_before tells alone settings r t (broken_off End.BadChunk) x y [] front (tt, break_behind x.intake i x.left l y.left given End.BadChunk has breaks, refl) s over request unended sound up
-    (λ told. (front ++ [], front_cut settings r t y.door front s over request none unended sound (up told) [])) asks
-drops_behind tells alone settings r t x y i l given front rest End.TooLarge has s over parts request none unended sound up asks (more, breaks) =
-    ended_before tells alone settings r t (broken_off End.TooLarge) x y [] front (tt, break_behind x.intake i x.left l y.left given End.TooLarge has breaks, refl) s over request unended sound up
-    (λ told. (front ++ [], front_cut settings r t y.door front s over request none unended sound (up told) [])) asks
+module _ (tells alone : Type 0) (settings : SettingsView) (r : PutRequest) (t : Stepping PutTask) (x y : Place) (i : IntakeState) (l : Option (List ℕ)) (given front rest : List ℕ) (has : HasGiven x.intake i x.left l given)
+    (parts : given ≡ front ++ rest) (request : request_of t ≡ fed_request r front) (none : r.bytes ≡ []) (unended : r.end ≡ None) (sound : fault_of t ≡ None) (up : IsUp tells settings t y.door) (asks : AsksAt tells alone settings false x y) where
+  joined : (more : List ℕ) → given ++ more ≡ front ++ (rest ++ more)
+  joined more = ap (λ l. l ++ more) parts ∙ append_assoc front rest more
 
-pub leaves_behind : (tells alone : Type 0) (settings : SettingsView) (found : List Event) (x y : Place) (i : IntakeState) (l : Option (List ℕ)) (given : List ℕ) (fault : ServeFault) → HasGiven x.intake i x.left l given
-    → AsksAt tells alone settings false x y → LeavesBody i l y.left fault → StopsBody tells alone settings found x y fault
-leaves_behind tells alone settings found x y i l given ReadFault has asks fails =
-    (break_behind x.intake i x.left l y.left given End.Cut has fails, asks)
-leaves_behind tells alone settings found x y i l given fault has asks leaves = absurd leaves
+  short_of : (more : List ℕ) → FallsBehind x.intake x.left y.left (given ++ more) → RunsShort tells alone settings r x y
+  short_of more falls = record {
+    given = given ++ more;
+    falls = falls;
+    asks = asks;
+    so_far = done_of tells settings r (request_of t) y.door none unended (given ++ more) front (rest ++ more) None (joined more) request (has_done tells settings t y.door sound (λ told. (up told).1));
+  }
+
+  pub leaves_behind : (found : List Event) (fault : ServeFault) → i.failed ≡ None → LeavesBody i l y.left fault → StopsBody tells alone settings r found x y fault
+  leaves_behind found ReadFault unfailed fails = short_of [] (fall_behind x.intake i x.left l y.left given [] has (falls_here i l y.left unfailed fails))
+  leaves_behind found fault unfailed leaves = absurd leaves
+
+  module _ (s : IsSteady t.stages) (over : IsOver (stage_of t)) where
+    ended_with : (fate : Fate) (end : BodyEnd) (more : List ℕ) → body_at fate (given ++ more) ≡ record { bytes = given ++ more; end = Some end } → HasFate fate x.intake y.intake x.left y.left (given ++ more) → HasEnded tells alone settings r t fate x y
+    ended_with fate end more at_end fated =
+        ended_before tells alone settings r t fate x y (given ++ more) front (rest ++ more) (Some end) (joined more) at_end none fated s over request unended sound (λ told. (up told).1)
+        (λ told. subst (λ (l : List ℕ). AreCut r.zone settings.stripe l (own_events y.door.seen (actor_at y.door))) (sym (joined more))
+        (front_cut settings r t y.door front s over request none unended sound (up told).1 (rest ++ more))) asks
+
+    pub drops_behind : (end : HttpEnd) → DropsBody i y.intake l y.left end → RunsTask tells alone settings r t x y end
+    drops_behind End.Whole (more, all) = ended_with read_whole Whole more refl (give_all x.intake i x.left l y.left given more y.intake has all)
+    drops_behind End.Cut (more, cut) = (short_of more (fall_behind x.intake i x.left l y.left given more has cut.0), cut.1)
+    drops_behind End.BadChunk (more, breaks) = ended_with (broken_off End.BadChunk) Failed more refl (break_behind x.intake i x.left l y.left given End.BadChunk more has breaks)
+    drops_behind End.TooLarge (more, breaks) = ended_with (broken_off End.TooLarge) Failed more refl (break_behind x.intake i x.left l y.left given End.TooLarge more has breaks)

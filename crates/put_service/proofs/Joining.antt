@@ -1,5 +1,5 @@
 -- The parts of the service of a PUT, one behind the other.
-use Rattle.std.proofs.Common.{◌≡◌, ℕ, ◌+◌, ◌-◌, ◌≤◌, Bool, List, [], ◌++◌, take, drop, length, refl, sym, ap, ◌∙◌, subst, append_assoc, length-append, length-drop, take-append-drop, arith}
+use Rattle.std.proofs.Common.{◌≡◌, ℕ, ◌+◌, ◌-◌, ◌≤◌, List, [], ◌++◌, take, drop, length, refl, sym, ap, ◌∙◌, subst, append_assoc, length-append, length-drop, take-append-drop, arith}
 use Rattle.std.proofs.lemmas.List.{take_all, append-nil}
 use Rattle.realm_model.specs.Settings.{SettingsView}
 use Rattle.realm_model.specs.declared.event.Event.{Event}
@@ -10,19 +10,17 @@ use Rattle.task_put.specs.Bodies.{most_bytes}
 use Rattle.task_put.specs.Taking.{fed_request}
 use Rattle.task_put.specs.Runs.{request_of}
 use Rattle.task_put.specs.Tasks.{fed, request_of as stages_request}
-use Rattle.call_service.specs.Bodies.{HasBegun}
 use Rattle.call_service.specs.declared.fault.ServeFault.{ServeFault}
 use Rattle.call_service.specs.declared.fault.ServeFault.TheVariants as faults
 use Rattle.call_service.specs.Replying.{StopsEvent}
-use Rattle.put_service.specs.Parts.{Place, AsksAt, StopsBody}
+use Rattle.put_service.specs.Parts.{Place, IsRefusedStep, StopsBody}
 
-module _ (tells alone : Type 0) (settings : SettingsView) (found : List Event) where
+module _ (tells alone : Type 0) (settings : SettingsView) (r : PutRequest) (found : List Event) where
   -- a step was refused behind some of the body
-  pub step_stops : (fault : ServeFault) (x y : Place) (more : Bool) → StopsEvent tells found fault
-      → HasBegun x.intake y.intake x.left y.left → AsksAt tells alone settings more x y → StopsBody tells alone settings found x y fault
-  step_stops faults.OutOfMemory x y more stops begun asks = (begun, more, asks)
-  step_stops faults.Worn x y more stops begun asks = (stops, (begun, more, asks))
-  step_stops fault x y more stops begun asks = absurd stops
+  pub step_stops : (fault : ServeFault) (x y : Place) → StopsEvent tells found fault → IsRefusedStep tells alone settings r x y → StopsBody tells alone settings r found x y fault
+  step_stops faults.OutOfMemory x y stops refused = refused
+  step_stops faults.Worn x y stops refused = (stops, refused)
+  step_stops fault x y stops refused = absurd stops
 
 -- bytes behind bytes
 pub fed_behind : (r s t : PutRequest) (first second : List ℕ) → s ≡ fed_request r first → t ≡ fed_request s second → t ≡ fed_request r (first ++ second)

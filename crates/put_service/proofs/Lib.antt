@@ -2,6 +2,8 @@ pub mod Steps
 pub mod Pausing
 pub mod Joining
 pub mod Orders
+pub mod Doing
+pub mod Rows
 pub mod Ending
 pub mod Replying
 pub mod Serving

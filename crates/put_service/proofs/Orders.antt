@@ -61,5 +61,8 @@ from_path path (e ∷ es) ordered =
       | inr gone ↦ absurd (still_astray (path_after path e.op e.reply) es gone ordered)
     ]
 
+pub ordered_put : (events : List OwnEvent) → IsOrdered (path_of events) → AreOfPut events
+ordered_put events ordered = from_path begun events ordered
+
 pub of_put : (events : List OwnEvent) → IsFinished (path_of events) → AreOfPut events
-of_put events ended = from_path begun events (finished_ordered (path_of events) ended)
+of_put events ended = ordered_put events (finished_ordered (path_of events) ended)

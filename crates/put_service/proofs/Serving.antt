@@ -1,14 +1,16 @@
 -- A PUT as a whole: what its parts come to, beside what was written.
-use Rattle.std.proofs.Common.{◌≡◌, ℕ, inl, inr, Bool, List, [], Option, None, refl, sym, ap, ◌∙◌, subst}
+use Rattle.std.proofs.Common.{◌≡◌, ℕ, inl, Bool, true, false, List, [], ◌++◌, Option, None, refl, sym, ap, ◌∙◌, subst}
 use Rattle.std.specs.Io.KnownBytes.{Appends}
 use Rattle.gw_io.specs.Ends.{EndsState}
 use Rattle.http_model.specs.declared.reply.ReplyForm.{ReplyForm}
 use Rattle.http_intake.specs.Intake.{IntakeState}
+use Rattle.http_intake.specs.Grammar.{GoesWrongBy}
 use Rattle.realm_model.specs.Doors.{DoorView}
 use Rattle.realm_model.specs.declared.event.Event.{Event}
 use Rattle.swift_requests.specs.declared.asked.Asked.TheVariants.{Put}
 use Rattle.swift_requests.specs.declared.body.BodyUse.TheVariants.{Fed}
 use Rattle.call_words.specs.Bodies.{read_whole, broken_off, Suits}
+use Rattle.call_words.specs.Calls.{body_at}
 use Rattle.task_words.specs.declared.command.PutCommand.{PutCommand}
 use Rattle.task_words.specs.declared.outcome.Outcome.{Outcome}
 use Rattle.task_words.specs.declared.outcome.Outcome.TheVariants.{Done, BodyFailed, Busy, MovedOften, RacedOften, LateTag, LateRead, NoSpace}
@@ -23,13 +25,13 @@ use Rattle.task_put.specs.declared.stage.Draft.{Draft}
 use Rattle.task_put.specs.declared.stage.Stage.{Stage}
 use Rattle.task_put.specs.declared.stage.Stage.TheVariants.{Looking, Ended}
 use Rattle.task_put.specs.declared.task.PutTask.{PutTask}
-use Rattle.call_service.specs.Bodies.{HasFate, HasBegun}
-use Rattle.call_service.specs.Serving.{Site, Side, side, is_by_end, AppendsFront, form_at, IsServed, IsReplied, IsCutOff, IsLeft, IsStopped, LeavesText}
-use Rattle.door_moments.specs.Acts.{Asks}
+use Rattle.call_service.specs.Bodies.{HasFate}
+use Rattle.call_service.proofs.Passing.{fate_come}
+use Rattle.call_service.specs.Serving.{Site, Side, side, is_by_end, AppendsFront, form_at, IsServed, IsReplied, StopsShort, IsCutOff, IsLeft, IsStopped, LeavesText}
 use Rattle.call_service.specs.declared.fault.ServeFault.{ServeFault}
 use Rattle.call_service.specs.declared.fault.ServeFault.TheVariants as faults
 use Rattle.put_service.specs.Standing.{IsSteady, IsSteadyAt, IsEndAt}
-use Rattle.put_service.specs.Parts.{place, StopsBody, HasEnded, fate_of, RunsTask, text_of, served_so}
+use Rattle.put_service.specs.Parts.{Place, place, IsRefusedStep, RunsShort, StopsBody, HasEnded, fate_of, RunsTask, text_of, served_so}
 use Rattle.put_service.proofs.Replying.{end_has_reply}
 
 abbrev outcome_in : Stage → Outcome
@@ -51,6 +53,11 @@ first_request site c = record { zone = site.zone; asker = site.asker; command = 
 -- a request whose body has no byte and no end yet is that
 pub first_is : (r : PutRequest) → r.bytes ≡ [] → r.end ≡ None → r ≡ record { zone = r.zone; asker = r.asker; command = r.command; bytes = []; end = None }
 first_is r none unended = λ i. record { zone = r.zone; asker = r.asker; command = r.command; bytes = none i; end = unended i }
+
+-- chunks do not go wrong so
+never_cut : (chunked : Bool) (intake : IntakeState) (bytes came : List ℕ) → GoesWrongBy chunked intake bytes Body.Cut came → ⊥
+never_cut false intake bytes came goes = goes
+never_cut true intake bytes came goes = goes.0
 
 -- the ends of a connection
 abbrev pub ends_with : (left taken told : Option (List ℕ)) (plan : Option (ℕ → ℕ)) (read_faults write_faults : ℕ) → EndsState
@@ -77,31 +84,42 @@ module _ (tells alone : Type 0) (site : Site) (form : ReplyForm) (c : PutCommand
   has_run t r end request not ran =
       by_run t end not (subst (λ (q : PutRequest). RunsTask tells alone site.settings q t (place d i old.left old.told) (place e j new.left new.told) end) request ran)
 
+  abbrev there : Place
+  there = place d i old.left old.told
+
+  abbrev here : Place
+  here = place e j new.left new.told
+
   -- nothing was written
-  pub unwritten : (more : Bool) → Appends old.taken new.taken [] → HasBegun i j old.left new.left → Asks tells alone site.settings more d e old.told new.told → IsLeft tells alone site form (Put c) Fed from to
-  unwritten more none begun asks = inl (begun, more, record { unwritten = none; asks = asks })
+  unwritten : IsRefusedStep tells alone site.settings (first_request site c) there here → Appends old.taken new.taken [] → IsLeft tells alone site form (Put c) Fed from to
+  unwritten x none = inl (x.body, x.came, x.more, record { unwritten = none; asks = x.asks; so_far = x.so_far })
 
-  pub stops_unwritten : (found : List Event) (fault : ServeFault) → Appends old.taken new.taken [] → StopsBody tells alone site.settings found (place d i old.left old.told) (place e j new.left new.told) fault
+  short_unwritten : RunsShort tells alone site.settings (first_request site c) there here → Appends old.taken new.taken [] → StopsShort tells alone site (Put c) Fed from to
+  short_unwritten x none = record {
+    is_read = refl;
+    given = x.given;
+    falls = x.falls;
+    leaves = record { unwritten = none; asks = x.asks; so_far = x.so_far };
+  }
+
+  stops_so : (found : List Event) (fault : ServeFault) → Appends old.taken new.taken [] → StopsBody tells alone site.settings (first_request site c) found there here fault → IsStopped tells alone site form (Put c) Fed found from to fault
+  stops_so found faults.ReadFault none stops = short_unwritten stops none
+  stops_so found faults.OutOfMemory none stops = unwritten stops none
+  stops_so found faults.Worn none (worn, stops) = (worn, unwritten stops none)
+  stops_so found fault none stops = absurd stops
+
+  pub stops_unwritten : (r : PutRequest) (found : List Event) (fault : ServeFault) → r ≡ first_request site c → Appends old.taken new.taken [] → StopsBody tells alone site.settings r found there here fault
       → IsStopped tells alone site form (Put c) Fed found from to fault
-  stops_unwritten found faults.ReadFault none (fails, asks) = (refl, fails, record { unwritten = none; asks = asks })
-  stops_unwritten found faults.OutOfMemory none (begun, more, asks) = unwritten more none begun asks
-  stops_unwritten found faults.Worn none (worn, (begun, more, asks)) = (worn, unwritten more none begun asks)
-  stops_unwritten found fault none stops = absurd stops
+  stops_unwritten r found fault request none stops = stops_so found fault none (subst (λ (q : PutRequest). StopsBody tells alone site.settings q found there here fault) request stops)
 
-  pub cut_unwritten : (t : Stepping PutTask) (r : PutRequest) (end : BodyEnd) → end ≡ Body.Cut → Appends old.taken new.taken [] → RunsTask tells alone site.settings r t (place d i old.left old.told) (place e j new.left new.told) end → IsCutOff tells alone site Fed from to
-  cut_unwritten t r end is none ran =
-      let cut = subst (RunsTask tells alone site.settings r t (place d i old.left old.told) (place e j new.left new.told)) is ran in
-      (refl, cut.0, record { unwritten = none; asks = cut.1 })
-
-  begun_of : (end : BodyEnd) (body : List ℕ) → HasFate (fate_of end) i j old.left new.left body → HasBegun i j old.left new.left
-  begun_of Body.Whole body has = inl (body, has.has_given)
-  begun_of Body.Cut body has = absurd has.0
-  begun_of Body.BadChunk body has = inr (Body.BadChunk, has.0, has.1)
-  begun_of Body.TooLarge body has = inr (Body.TooLarge, has.0, has.1)
+  pub cut_unwritten : (t : Stepping PutTask) (r : PutRequest) (end : BodyEnd) → r ≡ first_request site c → end ≡ Body.Cut → Appends old.taken new.taken [] → RunsTask tells alone site.settings r t there here end → IsCutOff tells alone site (Put c) Fed from to
+  cut_unwritten t r end request is none ran =
+      let cut = subst (RunsTask tells alone site.settings r t there here) is ran in
+      (short_unwritten (subst (λ (q : PutRequest). RunsShort tells alone site.settings q there here) request cut.0) none, cut.1)
 
   suits_of : (end : BodyEnd) (body : List ℕ) → HasFate (fate_of end) i j old.left new.left body → Suits Fed (fate_of end)
   suits_of Body.Whole body has = tt
-  suits_of Body.Cut body has = absurd has.0
+  suits_of Body.Cut body has = absurd (never_cut i.chunked i (i.buffer ++ has.more) body has.wrong)
   suits_of Body.BadChunk body has = tt
   suits_of Body.TooLarge body has = tt
 
@@ -150,10 +168,15 @@ module _ (tells alone : Type 0) (site : Site) (form : ReplyForm) (c : PutCommand
       by_end end outcome not (subst (λ o. IsEndAt o (fate_of end)) (ap outcome_in (sym ran.ended ∙ ended)) ran.is_end) (reply_is t end outcome ran ended written) (ap outcome_in (sym ran.ended ∙ ended))
 
   -- or not, or a front of it
-  pub stops_reply : (found : List Event) (t : Stepping PutTask) (end : BodyEnd) (outcome : Outcome) (fault : ServeFault) → Ran t end → stage_of t ≡ Ended outcome → LeavesText old.taken new.taken (text_of (form_at form (fate_of end)) end outcome) fault
+  pub stops_reply : (found : List Event) (t : Stepping PutTask) (end : BodyEnd) (outcome : Outcome) (fault : ServeFault) → i.failed ≡ None → Ran t end → stage_of t ≡ Ended outcome → LeavesText old.taken new.taken (text_of (form_at form (fate_of end)) end outcome) fault
       → IsStopped tells alone site form (Put c) Fed found from to fault
-  stops_reply found t end outcome faults.OutOfMemory ran ended leaves = unwritten (is_by_end ran.outcome) leaves (begun_of end ran.body ran.has_fate) ran.asks
-  stops_reply found t end outcome faults.WriteFault ran ended leaves = (
+  stops_reply found t end outcome faults.OutOfMemory unfailed ran ended leaves = inl (
+    body_at (fate_of end) ran.body,
+    fate_come Fed (fate_of end) i j old.left new.left ran.body (suits_of end ran.body ran.has_fate) unfailed ran.has_fate,
+    is_by_end ran.outcome,
+    record { unwritten = leaves; asks = ran.asks; so_far = ran.so_far },
+  )
+  stops_reply found t end outcome faults.WriteFault unfailed ran ended leaves = (
     record {
       fate = fate_of end;
       suits = suits_of end ran.body ran.has_fate;
@@ -168,4 +191,4 @@ module _ (tells alone : Type 0) (site : Site) (form : ReplyForm) (c : PutCommand
     },
     refl,
   )
-  stops_reply found t end outcome fault ran ended leaves = absurd leaves
+  stops_reply found t end outcome fault unfailed ran ended leaves = absurd leaves

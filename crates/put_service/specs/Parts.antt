@@ -1,5 +1,6 @@
 -- What each part of the service of a PUT comes to, before its reply is written.
 use Rattle.std.specs.Prelude.{◌≡◌, ℕ, ◌^◌, Bool, true, false, List, [], ◌++◌, length, Option, None}
+use Rattle.std.specs.Io.KnownBytes.{IsAtEnd}
 use Rattle.realm_model.specs.Settings.{SettingsView}
 use Rattle.realm_model.specs.Doors.{DoorView, actor_at}
 use Rattle.realm_model.specs.Histories.{account_of}
@@ -10,12 +11,14 @@ use Rattle.task_words.specs.declared.command.BodyEnd.{BodyEnd as TaskBodyEnd}
 use Rattle.task_words.specs.declared.command.BodyEnd.TheVariants.{Whole, Failed}
 use Rattle.task_words.specs.declared.outcome.Outcome.{Outcome}
 use Rattle.task_words.specs.declared.outcome.Outcome.TheVariants.{BodyFailed}
-use Rattle.task_words.specs.Outcomes.{IsPutOutcome}
+use Rattle.task_words.specs.Cuts.{AreCut}
+use Rattle.task_words.specs.Outcomes.{Body, IsPutOutcome}
 use Rattle.http_model.specs.declared.reply.ReplyForm.{ReplyForm}
 use Rattle.http_chunks.specs.declared.body.BodyEnd.{BodyEnd}
-use Rattle.http_chunks.specs.declared.body.BodyEnd.TheVariants as Body
+use Rattle.http_chunks.specs.declared.body.BodyEnd.TheVariants as End
 use Rattle.call_words.specs.Bodies.{Fate, read_whole, broken_off}
-use Rattle.call_words.specs.Calls.{body_at, IsCutBy}
+use Rattle.swift_requests.specs.declared.asked.Asked.TheVariants.{Put}
+use Rattle.call_words.specs.Calls.{body_at}
 use Rattle.call_words.specs.Texts.{told_reply, text_if}
 use Rattle.call_words.specs.Events.{AreOfPut}
 use Rattle.realm_door.specs.declared.stepping.Stepping.{Stepping}
@@ -24,10 +27,11 @@ use Rattle.task_put.specs.declared.stage.Stage.TheVariants.{Ended}
 use Rattle.task_put.specs.declared.task.PutTask.{PutTask}
 use Rattle.task_put.specs.Orders.{path_of, IsFinished}
 use Rattle.task_put.specs.Stages.{IsOver}
+use Rattle.task_put.specs.Fits.{body_of as taken_of}
 use Rattle.task_put.specs.Taking.{WantsBytes, fed_request}
 use Rattle.task_put.specs.Runs.{request_of, stage_of, fault_of}
-use Rattle.call_service.specs.Bodies.{HasGiven, ReadsTo, IsCutIn, FailsIn, HasFate, HasBegun}
-use Rattle.call_service.specs.Serving.{Site, is_by_end}
+use Rattle.call_service.specs.Bodies.{HasGiven, ReadsTo, FallsBehind, HasFate, HasComeTo}
+use Rattle.call_service.specs.Serving.{Site, is_by_end, body_of, BearsOutSoFar}
 use Rattle.door_moments.specs.Acts.{Asks}
 use Rattle.call_service.specs.declared.fault.ServeFault.{ServeFault}
 use Rattle.call_service.specs.declared.fault.ServeFault.TheVariants as faults
@@ -40,6 +44,14 @@ use Rattle.put_service.specs.Standing.{IsEndBy, IsEndAt, IsSteady}
 -- where the task is served
 abbrev pub site_at : SettingsView → PutRequest → Site
 site_at settings r = record { settings = settings; zone = r.zone; asker = r.asker }
+
+-- what the door tells of its actor is what the PUT did so far, of whose body so much came
+abbrev pub DoesSo : SettingsView → PutRequest → Body → DoorView → Type 0
+DoesSo settings r body d = BearsOutSoFar (site_at settings r) (Put r.command) body d
+
+-- of whose body the task took so much
+abbrev pub HasDone : Type 0 → SettingsView → PutRequest → DoorView → Type 0
+HasDone tells settings r d = tells → DoesSo settings r (taken_of r) d
 
 -- ---- the body
 
@@ -72,18 +84,27 @@ TakesBody old new x y (takens.Ended end) =
 TakesBody old new x y takens.Over =
     (given : List ℕ) × HasGiven x.intake y.intake x.left y.left given × TakesBytes old new given false
 
--- some of the body was read before a step was refused
-abbrev pub IsRefusedStep : Type 0 → Type 0 → SettingsView → Place → Place → Type 0
-IsRefusedStep tells alone settings x y =
-    HasBegun x.intake y.intake x.left y.left × (more : Bool) × AsksAt tells alone settings more x y
+-- a step was refused when so much of the body had come
+pub record IsRefusedStep (tells alone : Type 0) (settings : SettingsView) (r : PutRequest) (x y : Place) : Type 0 where
+  pub body : Body
+  pub came : HasComeTo body.end x.intake y.intake x.left y.left body.bytes
+  pub more : Bool
+  pub asks : AsksAt tells alone settings more x y
+  pub so_far : tells → DoesSo settings r body y.door
+
+-- the body fell short behind these bytes
+pub record RunsShort (tells alone : Type 0) (settings : SettingsView) (r : PutRequest) (x y : Place) : Type 0 where
+  pub given : List ℕ
+  pub falls : FallsBehind x.intake x.left y.left given
+  pub asks : AsksAt tells alone settings false x y
+  pub so_far : tells → DoesSo settings r (body_of given) y.door
 
 -- a read failed inside the body, or a step of the task was refused
-abbrev pub StopsBody : Type 0 → Type 0 → SettingsView → List Event → Place → Place → ServeFault → Type 0
-StopsBody tells alone settings found x y faults.ReadFault =
-    FailsIn x.intake x.left y.left × AsksAt tells alone settings false x y
-StopsBody tells alone settings found x y faults.OutOfMemory = IsRefusedStep tells alone settings x y
-StopsBody tells alone settings found x y faults.Worn = (tells → length found ≡ 2 ^ 62) × IsRefusedStep tells alone settings x y
-StopsBody tells alone settings found x y fault = ⊥
+abbrev pub StopsBody : Type 0 → Type 0 → SettingsView → PutRequest → List Event → Place → Place → ServeFault → Type 0
+StopsBody tells alone settings r found x y faults.ReadFault = RunsShort tells alone settings r x y
+StopsBody tells alone settings r found x y faults.OutOfMemory = IsRefusedStep tells alone settings r x y
+StopsBody tells alone settings r found x y faults.Worn = (tells → length found ≡ 2 ^ 62) × IsRefusedStep tells alone settings r x y
+StopsBody tells alone settings r found x y fault = ⊥
 
 -- ---- the task as a whole
 
@@ -106,22 +127,23 @@ pub record HasEnded (tells alone : Type 0) (settings : SettingsView) (r : PutReq
       (account_of settings y.door.seen (actor_at y.door)) (own_events y.door.seen (actor_at y.door))
   pub of_put : tells → AreOfPut (own_events y.door.seen (actor_at y.door))
   pub finished : tells → IsFinished (path_of (own_events y.door.seen (actor_at y.door)))
-  pub cut : tells → IsCutBy settings.stripe r.zone fate body (own_events y.door.seen (actor_at y.door))
+  pub cut : tells → AreCut r.zone settings.stripe body (own_events y.door.seen (actor_at y.door))
+  pub so_far : tells → DoesSo settings r (body_at fate body) y.door
   pub asks : AsksAt tells alone settings (is_by_end outcome) x y
 
 -- what became of a body that ended so
 abbrev pub fate_of : BodyEnd → Fate
-fate_of Body.Whole = read_whole
+fate_of End.Whole = read_whole
 fate_of end = broken_off end
 
 -- how the task is told that a body ended so
 abbrev pub task_end : BodyEnd → TaskBodyEnd
-task_end Body.Whole = Whole
+task_end End.Whole = Whole
 task_end end = Failed
 
 -- the body ended so, and the task did; unless the input ended inside the body
 abbrev pub RunsTask : Type 0 → Type 0 → SettingsView → PutRequest → Stepping PutTask → Place → Place → BodyEnd → Type 0
-RunsTask tells alone settings r task x y Body.Cut = IsCutIn x.intake x.left y.left × AsksAt tells alone settings false x y
+RunsTask tells alone settings r task x y End.Cut = RunsShort tells alone settings r x y × IsAtEnd y.left
 RunsTask tells alone settings r task x y end = HasEnded tells alone settings r task (fate_of end) x y
 
 -- ---- the reply
@@ -132,6 +154,6 @@ text_of form end outcome = text_if form (told_reply None (fate_of end) outcome) 
 
 -- how the request was served then
 abbrev pub served_so : BodyEnd → Outcome → Served
-served_so Body.Whole outcome = services.Replied
+served_so End.Whole outcome = services.Replied
 served_so end BodyFailed = services.Refused
 served_so end outcome = services.Closed

@@ -27,7 +27,7 @@ use Rattle.index_update.specs.Refusals.{OnlyRowsRefuse}
 use Rattle.index_update.specs.Stages.{IsReady as IsUpdateReady}
 use Rattle.call_service.specs.Bodies.{ReadsAtFault, most_due}
 use Rattle.call_service.specs.declared.fault.ServeFault.{ServeFault}
-use Rattle.call_service.specs.Serving.{Outside, is_by_end, outside}
+use Rattle.call_service.specs.Serving.{Side, Around, Outside, is_by_end, outside}
 use Rattle.put_service.specs.declared.stepping.Pause.{Pause}
 use Rattle.put_service.specs.declared.stepping.Pause.TheVariants as pauses
 
@@ -99,12 +99,17 @@ abbrev pub IsReadable : IntakeState → Type 0
 IsReadable intake = (intake.failed ≡ None) × (most_due intake ≤ most_bytes)
 
 -- a task that took no byte yet may be served: the reply may have a body, and the buffer for pieces has room
-pub record IsReady (tells : Type 0) (settings : SettingsView) (task : Stepping PutTask) (d : DoorView) (form : ReplyForm) (intake : IntakeState) (buffer : ℕ) : Type 0 where
-  pub room : 0 < buffer
+pub record IsReady (tells : Type 0) (around : Around) (task : Stepping PutTask) (side : Side) (form : ReplyForm) : Type 0 where
+  pub room : 0 < around.buffer
   pub fresh : IsFresh task
-  pub readable : IsReadable intake
+  pub readable : IsReadable side.intake
   pub bodied : form.bodiless ≡ false
-  pub up : IsUp tells settings task d
+  pub up : IsUp tells around.settings task side.door
+
+-- the row of the container is to be read
+abbrev pub IsLooking : Stage → Type 0
+IsLooking (Looking draft) = Unit {0}
+IsLooking stage = ⊥
 
 -- ---- what stays
 

@@ -1,14 +1,14 @@
 // The body of a PUT, from the intake into its task.
-ghost use Rattle.std.specs.Prelude.{◌≡◌, ◌+◌, ◌<◌, ◌≤◌, None, Bool, length, false, IfOk, OnOk, IfErr, OnErr};
+ghost use Rattle.std.specs.Prelude.{◌≡◌, ◌+◌, ◌<◌, ◌≤◌, None, Bool, [], length, false, IfOk, OnOk, IfErr, OnErr};
 ghost use Rattle.task_put.specs.Bodies.{most_bytes};
-ghost use Rattle.task_put.specs.Taking.{WantsBytes};
+ghost use Rattle.task_put.specs.Taking.{WantsBytes, fed_request};
 ghost use Rattle.task_put.specs.Runs.{request_of, stage_of, fault_of};
 ghost use Rattle.call_service.specs.Bodies.{most_due};
 ghost use Rattle.door_moments.specs.Acts.{Asks};
 ghost use Rattle.call_service.specs.Serving.{Stays, outside};
 ghost use Rattle.put_service.specs.Standing.{IsGoing, IsUp, StaysReading, reading};
 ghost use Rattle.call_service.specs.Replying.{StopsEvent};
-ghost use Rattle.put_service.specs.Parts.{TakesBytes, TakesBody, StopsBody, place};
+ghost use Rattle.put_service.specs.Parts.{HasDone, TakesBytes, TakesBody, StopsBody, place};
 
 use crate::stepping::{Pause, advance};
 use call_service::{Piece, ServeFault, next_piece};
@@ -47,6 +47,7 @@ fn feed_all<D: Door, C: Clock>(
     ensures stopped { OnErr result ((more : Bool) × Asks D.tells D.alone (D.settings door.old) more (D.told door.old) (D.told door.new) (C.told clock.old) (C.told clock.new)) }
     ensures sound { OnOk result (fault_of task.new ≡ None) }
     ensures fault { IfErr result (StopsEvent D.tells (D.found door.new)) }
+    ensures left { OnErr result (HasDone D.tells (D.settings door.old) (fed_request (request_of task.old) bytes.now) (D.told door.new)) }
     ensures stays { Stays (outside (D.settings door.old) (D.home door.old) (C.plan clock.old)) (outside (D.settings door.new) (D.home door.new) (C.plan clock.new)) }
 {
     let mut rest = bytes;
@@ -75,6 +76,7 @@ pub(crate) fn take_body<D: Door, C: Clock, S: Source>(
 ) -> Result<Taken, ServeFault>
     requires room { 0 < length buffer.old }
     requires going { IsGoing D.tells (D.settings door.old) task.old (D.told door.old) }
+    requires none { (request_of task.old).bytes ≡ [] }
     requires open { (request_of task.old).end ≡ None }
     requires intake { intake.old.failed ≡ None }
     requires few { length ((request_of task.old).bytes) + most_due intake.old ≤ most_bytes }
@@ -84,7 +86,7 @@ pub(crate) fn take_body<D: Door, C: Clock, S: Source>(
         (place (D.told door.new) intake.new (S.left source.new) (C.told clock.new))) }
     ensures asks { OnOk result (Asks D.tells D.alone (D.settings door.old) false (D.told door.old) (D.told door.new) (C.told clock.old) (C.told clock.new)) }
     ensures sound { OnOk result (fault_of task.new ≡ None) }
-    ensures fault { IfErr result (StopsBody D.tells D.alone (D.settings door.old) (D.found door.new)
+    ensures fault { IfErr result (StopsBody D.tells D.alone (D.settings door.old) (request_of task.old) (D.found door.new)
         (place (D.told door.old) intake.old (S.left source.old) (C.told clock.old))
         (place (D.told door.new) intake.new (S.left source.new) (C.told clock.new))) }
     ensures stays { StaysReading (reading (D.settings door.old) (D.home door.old) (C.plan clock.old) (S.faults source.old) (length buffer.old))

@@ -5,6 +5,7 @@ ghost use Rattle.door_moments.specs.Acts.{Asks};
 ghost use Rattle.call_service.specs.Serving.{Stays, outside};
 ghost use Rattle.put_service.specs.Standing.{IsGoing, IsUp, PausesAt, StandsAfter, is_untold, is_untold_at};
 ghost use Rattle.call_service.specs.Replying.{StopsEvent};
+ghost use Rattle.put_service.specs.Parts.{HasDone};
 
 use call_service::ServeFault;
 use door_moments::act;
@@ -41,6 +42,7 @@ fn take_step<D: Door, C: Clock>(
     ensures request { request_of task.new ≡ request_of task.old }
     ensures sound { OnOk result (fault_of task.new ≡ None) }
     ensures fault { IfErr result (StopsEvent D.tells (D.found door.new)) }
+    ensures left { OnErr result (HasDone D.tells (D.settings door.old) (request_of task.old) (D.told door.new)) }
     ensures stays { Stays (outside (D.settings door.old) (D.home door.old) (C.plan clock.old)) (outside (D.settings door.new) (D.home door.new) (C.plan clock.new)) }
 {
     if task.stages.end().is_some() {
@@ -74,6 +76,7 @@ pub(crate) fn advance<D: Door, C: Clock>(
     ensures request { request_of task.new ≡ request_of task.old }
     ensures sound { OnOk result (fault_of task.new ≡ None) }
     ensures fault { IfErr result (StopsEvent D.tells (D.found door.new)) }
+    ensures left { OnErr result (HasDone D.tells (D.settings door.old) (request_of task.old) (D.told door.new)) }
     ensures stays { Stays (outside (D.settings door.old) (D.home door.old) (C.plan clock.old)) (outside (D.settings door.new) (D.home door.new) (C.plan clock.new)) }
 {
     'events: loop {

@@ -14,11 +14,16 @@ pub(crate) fn sizes_fit(op: &Op)
         Op::Suggest { row, .. } => row_fits(row),
         Op::BucketRead { .. }
         | Op::BucketSwap { .. }
+        | Op::AccountPage { .. }
+        | Op::BucketPage { .. }
         | Op::ShardMake { .. }
         | Op::Prepare { .. }
         | Op::Cancel { .. }
         | Op::Page { .. }
         | Op::Stats { .. }
+        | Op::CloseShard { .. }
+        | Op::Release { .. }
+        | Op::Shut { .. }
         | Op::HeadRead { .. }
         | Op::HeadWrite { .. }
         | Op::TailMake { .. }

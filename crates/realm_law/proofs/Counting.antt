@@ -18,7 +18,7 @@ use Rattle.object_words.proofs.NameLemmas.{at-none}
 use Rattle.object_words.proofs.KeyLemmas.{number_itself}
 use Rattle.object_words.proofs.Sums.{count_of}
 use Rattle.realm_model.specs.Settings.{SettingsView, IsSettings}
-use Rattle.realm_model.specs.Containers.{row_in, entry_in, key_of_name, entry_of_name, is_settled}
+use Rattle.realm_model.specs.Containers.{row_in, is_standing, entry_in, key_of_name, entry_of_name, is_settled}
 use Rattle.realm_model.specs.Counts.{live_count, live_bytes, counts_of}
 use Rattle.realm_model.specs.Histories.{world_of, state_of, Legal}
 use Rattle.realm_model.specs.Maps.{slot_at, heads}
@@ -28,7 +28,7 @@ use Rattle.realm_model.specs.declared.event.Event.{Event}
 use Rattle.realm_model.proofs.ObjectLemmas.{number_same}
 use Rattle.index_law.specs.Tables.{IsPlaced}
 use Rattle.index_law.proofs.Keeping.{holds}
-use Rattle.index_law.proofs.Consequences.{row_is_of, counted, sized}
+use Rattle.index_law.proofs.Consequences.{row_is_of, counted, sized, row_has_shards}
 use Rattle.realm_law.specs.Totals.{counted_in, over_shards, names_of_shard, IsAtRest}
 use Rattle.realm_law.proofs.MapSums.{at-where_name, Alike, alike_totals, count-le-total, sum_same, parts_of_map}
 
@@ -76,7 +76,7 @@ untagged_in (Some s) q empty =
     ap (λ k. k == 0) zero
 
 module _ (settings : SettingsView) (history : List Event) (zone container : ℕ) (row : Bucket) (good : IsSettings settings) (legal : Legal settings history)
-    (row_is : row_in (world_of settings history).rows (state_of settings history) zone container ≡ Some row) where
+    (row_is : row_in (world_of settings history).rows (state_of settings history) zone container ≡ Some row) (stands : is_standing (world_of settings history).rows (state_of settings history) container ≡ true) where
   abbrev w : World
   w = world_of settings history
 
@@ -127,10 +127,10 @@ module _ (settings : SettingsView) (history : List Event) (zone container : ℕ)
         ∙ parts_of_map g (λ q. shard_of q row.shards) row.shards (within row some) map
 
   objects_shown : (q : List ℕ) → IsSettled q → object_count (entry_of_name w.state zone row q) ≡ live_count (slot_at map q)
-  objects_shown q settled = counted settings history zone container q row good legal row_is settled
+  objects_shown q settled = counted settings history zone container q row good legal row_is stands settled
 
   bytes_shown_of : (q : List ℕ) → IsSettled q → byte_count (entry_of_name w.state zone row q) ≡ live_bytes (slot_at map q)
-  bytes_shown_of q settled = sized settings history zone container q row good legal row_is settled
+  bytes_shown_of q settled = sized settings history zone container q row good legal row_is stands settled
 
   module _ (n : ℕ) (s : Shard) (there : shard n ≡ Some s) (untagged : (stats_of s).tags ≡ 0) where
     settled_there : (q : List ℕ) → shard_of q row.shards ≡ n → IsSettled q
@@ -173,11 +173,11 @@ module _ (settings : SettingsView) (history : List Event) (zone container : ℕ)
   pub objects_counted : over_shards (λ s. (stats_of s).objects) st zone row ≡ (counts_of (heads history zone container)).objects
   objects_counted =
       sum_same (λ n. counted_in (λ s. (stats_of s).objects) (at_shard n)) (λ n. counted_in (sum_over object_count) (at_shard n)) (λ n. header_objects (at_shard n)) (range_with_len 0 row.shards)
-      ∙ row_counts settings history zone container row good legal rests.row_is object_count live_count refl refl (objects_shown settings history zone container row good legal rests.row_is) rests.some rests.settled
+      ∙ row_counts settings history zone container row good legal rests.row_is rests.stands object_count live_count refl refl (objects_shown settings history zone container row good legal rests.row_is rests.stands) (row_has_shards settings history zone container row good legal rests.row_is) rests.settled
 
   pub bytes_counted : over_shards (sum_over byte_count) st zone row ≡ (counts_of (heads history zone container)).bytes
   bytes_counted =
-      row_counts settings history zone container row good legal rests.row_is byte_count live_bytes refl refl (bytes_shown_of settings history zone container row good legal rests.row_is) rests.some rests.settled
+      row_counts settings history zone container row good legal rests.row_is rests.stands byte_count live_bytes refl refl (bytes_shown_of settings history zone container row good legal rests.row_is rests.stands) (row_has_shards settings history zone container row good legal rests.row_is) rests.settled
 
   pub bytes_shown : min (over_shards (λ s. (stats_of s).bytes) st zone row) greatest ≡ min (counts_of (heads history zone container)).bytes greatest
   bytes_shown =

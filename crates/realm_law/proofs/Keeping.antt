@@ -9,15 +9,17 @@ use Rattle.index_law.proofs.Keeping.{starts, keeps}
 use Rattle.index_law.proofs.Consequences.{shards_at}
 use Rattle.index_law.proofs.Stamping.{given_next}
 use Rattle.index_law.proofs.Shards.{serves_next}
+use Rattle.index_law.proofs.HoldEvents.{holds_start as free_start, holds_next as held_next}
 use Rattle.stripe_law.proofs.Keeping.{holds_start, holds_next}
 use Rattle.realm_law.specs.Invariant.{RealmHolds}
 
--- before the first event; that shards serve is told of a history of no events
+-- before the first event; that shards are there is told of a history of no events
 pub realm_starts : (settings : SettingsView) → RealmHolds settings (start settings)
 realm_starts settings = record {
   index = starts settings;
   stamps = record { own = λ zone container name stamp is. absurd cc; reached = λ container name stamp slot is. absurd cc };
   shards = shards_at settings [] [] tt;
+  holds = free_start settings;
   stripes = holds_start settings;
 }
 
@@ -26,6 +28,7 @@ realm_next settings w e good j next = record {
   index = keeps settings good w j.index e next;
   stamps = given_next settings w e j.index j.stamps next;
   shards = serves_next settings w e j.shards next;
+  holds = held_next settings good w j.index j.holds e next;
   stripes = holds_next settings w e next j.stripes;
 }
 

@@ -1,5 +1,5 @@
 -- Sums over all shards of a container's row, and the names of one of them.
-use Rattle.std.specs.Prelude.{◌≡◌, ℕ, ◌≤◌, ◌==◌, true, List, Option, Some, None, sum_by}
+use Rattle.std.specs.Prelude.{◌≡◌, ℕ, ◌==◌, true, List, Option, Some, None, sum_by}
 use Rattle.std.specs.List.{range_with_len}
 use Rattle.object_words.specs.declared.bucket.Bucket.{Bucket}
 use Rattle.object_words.specs.declared.head.SeenSlot.{SeenSlot}
@@ -7,7 +7,7 @@ use Rattle.object_words.specs.Hashes.{shard_of}
 use Rattle.object_words.specs.Keys.{shard_key}
 use Rattle.object_words.specs.Names.{Named, where_name}
 use Rattle.object_words.specs.Shards.{Shard}
-use Rattle.realm_model.specs.Containers.{row_in, entry_of_name, is_settled}
+use Rattle.realm_model.specs.Containers.{row_in, is_standing, entry_of_name, is_settled}
 use Rattle.realm_model.specs.States.{State}
 use Rattle.realm_model.specs.Worlds.{World}
 
@@ -25,8 +25,8 @@ over_shards f st zone row =
 abbrev pub names_of_shard : Bucket → ℕ → Named SeenSlot → Named SeenSlot
 names_of_shard row number map = where_name (λ name. shard_of name row.shards == number) map
 
--- the container has this row in the zone, with a shard at least, and no change of its names is under way
+-- the container stands and has this row in the zone, and no change of its names is under way
 pub record IsAtRest (w : World) (zone container : ℕ) (row : Bucket) : Type 0 where
   pub row_is : row_in w.rows w.state zone container ≡ Some row
-  pub some : 1 ≤ row.shards
+  pub stands : is_standing w.rows w.state container ≡ true
   pub settled : (name : List ℕ) → is_settled (entry_of_name w.state zone row name) ≡ true

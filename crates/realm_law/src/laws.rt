@@ -4,7 +4,7 @@ ghost use Rattle.object_words.specs.declared.bucket.Bucket.{Bucket as BucketOf};
 ghost use Rattle.object_words.specs.Keys.{shard_key};
 ghost use Rattle.object_words.specs.Numbers.{greatest};
 ghost use Rattle.object_words.specs.Shards.{Shard as ShardOf, sum_over, byte_count, stats_of};
-ghost use Rattle.realm_model.specs.Containers.{row_in, entry_of_name, is_settled};
+ghost use Rattle.realm_model.specs.Containers.{row_in, is_standing, entry_of_name, is_settled};
 ghost use Rattle.realm_model.specs.Counts.{counts_of};
 ghost use Rattle.realm_model.specs.Maps.{heads};
 ghost use Rattle.realm_model.specs.Settings.{SettingsView, IsSettings};
@@ -31,12 +31,13 @@ pub fn each_event_keeps_the_realm()
         → RealmHolds settings (happens settings w e) }
 {}
 
-/// A shard of a container whose header counts no tag counts what is in the bucket map under its names:
+/// A shard of a container that stands, whose header counts no tag, counts what is in the bucket map under its names:
 /// the live ones, and the sum of their sizes, which stops at the end of 64 bits.
 pub fn untagged_shards_count_their_names()
     ensures objects { (settings : SettingsView) (history : List EventOf) (zone container number : ℕ)
         → (row : BucketOf) (shard : ShardOf) → IsSettings settings → Legal settings history
         → row_in (world_of settings history).rows (state_of settings history) zone container ≡ Some row
+        → is_standing (world_of settings history).rows (state_of settings history) container ≡ true
         → (state_of settings history).shards zone (shard_key row.id row.instance number) ≡ Some shard
         → (stats_of shard).tags ≡ 0
         → (stats_of shard).objects
@@ -44,13 +45,14 @@ pub fn untagged_shards_count_their_names()
     ensures bytes { (settings : SettingsView) (history : List EventOf) (zone container number : ℕ)
         → (row : BucketOf) (shard : ShardOf) → IsSettings settings → Legal settings history
         → row_in (world_of settings history).rows (state_of settings history) zone container ≡ Some row
+        → is_standing (world_of settings history).rows (state_of settings history) container ≡ true
         → (state_of settings history).shards zone (shard_key row.id row.instance number) ≡ Some shard
         → (stats_of shard).tags ≡ 0
         → (stats_of shard).bytes
         ≡ min (counts_of (names_of_shard row number (heads history zone container))).bytes greatest }
 {}
 
-/// Where no name of a container has a tag, the headers of the shards of its row count together what is
+/// Where no name of a container that stands has a tag, the headers of the shards of its row count together what is
 /// in its bucket map: the live names, and the sum of their sizes. What a header shows of bytes stops at
 /// the end of 64 bits, and with such headers so does their sum.
 pub fn settled_containers_count_their_maps()

@@ -13,12 +13,12 @@ use Rattle.object_words.proofs.KeyLemmas.{same_key, key_itself, same_text, numbe
 use Rattle.object_words.proofs.NameLemmas.{is_name_of, name_itself, at-none, at-with_name}
 use Rattle.realm_model.specs.Settings.{SettingsView}
 use Rattle.realm_model.specs.States.{State, number_next, at_moment, put_in, touched}
-use Rattle.realm_model.specs.Steps.{reply_or, reply_of, touch_of, after}
+use Rattle.realm_model.specs.Steps.{reply_or, reply_of, touch_of}
 use Rattle.realm_model.specs.Maps.{Maps, slot_at, with_slot, mapped, mapped_by, heads}
 use Rattle.realm_model.specs.Worlds.{World, start, happens}
 use Rattle.realm_model.specs.Histories.{run, state_of, LegalFrom, Legal}
 use Rattle.realm_model.specs.declared.op.Op.{Op}
-use Rattle.realm_model.specs.declared.op.Op.TheVariants.{BucketRead, BucketSwap, ShardMake, Prepare, Complete, Cancel, Page, Suggest, Stats, HeadRead, HeadWrite, TailMake, TailRead, Announce}
+use Rattle.realm_model.specs.declared.op.Op.TheVariants.{HeadWrite}
 use Rattle.realm_model.specs.declared.event.Reply.{Reply}
 use Rattle.realm_model.specs.declared.event.Reply.TheVariants.{Changed}
 use Rattle.realm_model.specs.declared.event.Event.{Event}

@@ -19,6 +19,7 @@ use Rattle.object_words.specs.Entries.{EntryView, entry_of, with_tags, stored_if
 use Rattle.object_words.specs.Refusals.{unless_refused}
 use Rattle.object_words.specs.Shards.{Shard, entry_at, with_entry}
 use Rattle.object_words.specs.ShardCalls.{made, settled, logged_if_newer}
+use Rattle.object_words.specs.HoldCalls.{shut_down}
 use Rattle.object_words.specs.Heads.{Head, seen_stamp}
 use Rattle.object_words.specs.HeadCalls.{write_refusal, written}
 use Rattle.object_words.specs.Roots.{Root, version_of, swap_refusal, swapped, with_bucket, stored_or_none}
@@ -101,6 +102,16 @@ changed_steps (Some s) refusal new steps fits =
 pub made_steps : (s : Option Shard) → ShardFits s → ShardSteps s (made s)
 made_steps None fits name = rw at-none (tt, tt)
 made_steps (Some s) fits name = shard_stays (Some s) fits name
+
+-- a shard of which only the hold and the fence change
+pub held_steps : (s : Option Shard) (new : Shard → Shard) → ((s : Shard) → (new s).entries ≡ s.entries) → ShardFits s → ShardSteps s (change_at s new)
+held_steps None new same fits name = shard_stays None fits name
+held_steps (Some s) new same fits name =
+    subst (λ entries. EntryRises (at s.entries name) (at entries name) × RevisionFits (at entries name)) (sym (same s)) (entry_stays (at s.entries name), fits name)
+
+pub shut_steps : (s : Option Shard) → ShardFits s → ShardSteps s (change_at s shut_down)
+shut_steps None fits name = shard_stays None fits name
+shut_steps (Some s) fits name = rw at-none (tt, tt)
 
 -- ---- heads
 

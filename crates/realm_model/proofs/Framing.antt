@@ -18,12 +18,12 @@ use Rattle.realm_model.proofs.ObjectLemmas.{number_same}
 use Rattle.realm_model.proofs.TouchLemmas.{head_same, tail_same}
 use Rattle.realm_model.specs.Settings.{SettingsView}
 use Rattle.realm_model.specs.States.{State, opening, number_next, at_moment, put_in, free_after, at_head, at_tail, touched}
-use Rattle.realm_model.specs.Steps.{touch_of, after}
+use Rattle.realm_model.specs.Steps.{touch_of}
 use Rattle.realm_model.specs.Worlds.{World, start, happens}
 use Rattle.realm_model.specs.Histories.{run, state_of}
 use Rattle.realm_model.specs.Stripes.{framed_bytes, FrameSum, HasFrameSum}
 use Rattle.realm_model.specs.declared.op.Op.{Op}
-use Rattle.realm_model.specs.declared.op.Op.TheVariants.{BucketRead, BucketSwap, ShardMake, Prepare, Complete, Cancel, Page, Suggest, Stats, HeadRead, HeadWrite, TailMake, TailRead, Announce}
+use Rattle.realm_model.specs.declared.op.Op.TheVariants.{HeadWrite, TailMake}
 use Rattle.realm_model.specs.declared.event.Event.{Event}
 use Rattle.realm_model.proofs.FrameLemmas.{frame_same, frame_moves}
 

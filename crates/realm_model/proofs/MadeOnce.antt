@@ -9,7 +9,7 @@ use Rattle.object_words.specs.Tails.{Tail, no_tail, tail_refusal}
 use Rattle.object_words.proofs.KeyLemmas.{same_key, key_itself, number_itself}
 use Rattle.realm_model.specs.Settings.{SettingsView}
 use Rattle.realm_model.specs.States.{State, at_moment, put_in, touched}
-use Rattle.realm_model.specs.Steps.{reply_or, reply_of, touch_of, after}
+use Rattle.realm_model.specs.Steps.{reply_or, reply_of, touch_of}
 use Rattle.realm_model.specs.Ops.{zone_of}
 use Rattle.realm_model.specs.Phases.{ActorId, Bundle, unused, opened, spent, Phase}
 use Rattle.realm_model.specs.Needs.{is_between, is_own_write, is_next_part, holder_of}
@@ -19,7 +19,7 @@ use Rattle.realm_model.specs.Maps.{Made}
 use Rattle.realm_model.specs.Worlds.{World, start, put_actor, actor_of, made_after, happens}
 use Rattle.realm_model.specs.Histories.{run, world_of, state_of, IsNext, LegalFrom, Legal}
 use Rattle.realm_model.specs.declared.op.Op.{Op}
-use Rattle.realm_model.specs.declared.op.Op.TheVariants.{BucketRead, BucketSwap, ShardMake, Prepare, Complete, Cancel, Page, Suggest, Stats, HeadRead, HeadWrite, TailMake, TailRead, Announce}
+use Rattle.realm_model.specs.declared.op.Op.TheVariants.{HeadWrite, TailMake}
 use Rattle.realm_model.specs.declared.event.Reply.{Reply}
 use Rattle.realm_model.specs.declared.event.Reply.TheVariants.{Done, Changed}
 use Rattle.realm_model.specs.declared.event.Event.{Event}

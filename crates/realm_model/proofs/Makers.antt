@@ -9,7 +9,7 @@ use Rattle.realm_model.specs.Settings.{SettingsView}
 use Rattle.realm_model.specs.Tests.{is_so}
 use Rattle.realm_model.specs.Ops.{zone_of}
 use Rattle.realm_model.specs.Phases.{ActorId, FirstEvent, Bundle, unused, spent, Phase, fresh}
-use Rattle.realm_model.specs.Needs.{is_between, is_first, is_own_write, has_sizes, tail_sizes, holder_of, has_parts, may_change_head}
+use Rattle.realm_model.specs.Needs.{is_between, is_first, is_own_write, has_sizes, tail_sizes, is_open, holder_of, has_parts, may_change_head}
 use Rattle.realm_model.specs.Allowed.{meets_need, allowed}
 use Rattle.realm_model.specs.Learnt.{first_after, put_bundle, own_after, reads_after, learnt}
 use Rattle.realm_model.specs.declared.op.Op.{Op}
@@ -109,8 +109,8 @@ own_learnt settings by count actor p (HeadWrite zone container name guard new wh
     let m = new.manifest in
     let b = p.stripes.own zone m.write (holder_of m) in
     let parts = right_of (may_change_head p zone container name guard) (has_parts p zone new) may in
-    let tails = right_of (length new.first == part_size m 0) (tails_of m == 0 || has_sizes b (tail_sizes m)) parts in
-    elim (tails_of m == 0) as (λ none. (none || has_sizes b (tail_sizes m)) ≡ true → OwnFacts by count actor (cond none p.stripes.own (put_bundle p.stripes.own zone m.write (holder_of m) spent))) [
+    let tails = right_of (length new.first == part_size m 0) (cond (tails_of m == 0) (not (is_open b)) (has_sizes b (tail_sizes m))) parts in
+    elim (tails_of m == 0) as (λ none. cond none (not (is_open b)) (has_sizes b (tail_sizes m)) ≡ true → OwnFacts by count actor (cond none p.stripes.own (put_bundle p.stripes.own zone m.write (holder_of m) spent))) [
       | true ↦ λ is. k.own
       | false ↦ λ has.
           put_bundle_cases (λ z w h x. (x ≡ unused) ⊎ IsBy by count actor w) p.stripes.own zone m.write (holder_of m) spent

@@ -1,11 +1,14 @@
 -- No event lowers a stamp, a version or a revision.
-use Rattle.std.proofs.Common.{ℕ, ◌+◌, ◌<◌, ◌≤◌, ◌^◌, List, [], ◌∷◌, ◌++◌, length, Some, sym, subst, arith}
+use Rattle.std.proofs.Common.{◌≡◌, ℕ, ◌+◌, ◌==◌, ◌<◌, ◌≤◌, ◌^◌, Bool, true, false, cond, List, [], ◌∷◌, ◌++◌, length, Some, refl, sym, subst, arith}
+use Rattle.std.specs.Prelude.{max}
 use Rattle.rgw_types.specs.declared.pool_key.Key.{Key}
 use Rattle.object_words.specs.Keys.{head_key}
 use Rattle.object_words.specs.Names.{at}
 use Rattle.object_words.specs.Tags.{with_tag, without_tag, tags_due_taken}
-use Rattle.object_words.specs.Shards.{entry_at}
+use Rattle.object_words.specs.Shards.{Shard, entry_at}
 use Rattle.object_words.specs.ShardCalls.{prepare_refusal, complete_refusal, suggest_refusal, settled}
+use Rattle.object_words.specs.HoldCalls.{hold_number, close_refusal, taken, released}
+use Rattle.object_words.specs.declared.shard.Hold.TheVariants.{Closing}
 use Rattle.object_words.proofs.NameLemmas.{at-none}
 use Rattle.realm_model.specs.Settings.{SettingsView}
 use Rattle.realm_model.specs.States.{State, opening, at_moment, Touch, nothing, at_root, at_shard, at_head, at_tail, at_changes, touched}
@@ -14,11 +17,11 @@ use Rattle.realm_model.specs.Worlds.{World, start, happens}
 use Rattle.realm_model.specs.Histories.{run, state_of}
 use Rattle.realm_model.specs.Rises.{Rises}
 use Rattle.realm_model.specs.declared.op.Op.{Op}
-use Rattle.realm_model.specs.declared.op.Op.TheVariants.{BucketRead, BucketSwap, ShardMake, Prepare, Complete, Cancel, Page, Suggest, Stats, HeadRead, HeadWrite, TailMake, TailRead, Announce}
+use Rattle.realm_model.specs.declared.op.Op.TheVariants.{BucketSwap, ShardMake, Prepare, Complete, Cancel, Suggest, CloseShard, Release, Shut, HeadWrite}
 use Rattle.realm_model.specs.declared.event.Event.{Event}
 use Rattle.realm_model.proofs.Runs.{count_from, state-next, touched-count, touched-clock}
 use Rattle.realm_model.proofs.ObjectLemmas.{put_cases, put_in_cases}
-use Rattle.realm_model.proofs.Bounds.{late, counted_early, HeadFits, RowFits, ShardFits, ShardSteps, HeadSteps, RootSteps, head_stays, written_steps, root_stays, swapped_steps, shard_stays, changed_steps, made_steps, tags_step, settled_steps, unless}
+use Rattle.realm_model.proofs.Bounds.{late, counted_early, HeadFits, RowFits, ShardFits, ShardSteps, HeadSteps, RootSteps, head_stays, written_steps, root_stays, swapped_steps, shard_stays, changed_steps, made_steps, held_steps, shut_steps, tags_step, settled_steps, unless}
 
 -- the numbers that a state keeps are below the next ones
 pub record Bounded (st : State) : Type 0 where
@@ -50,6 +53,15 @@ TouchSteps st (at_head zone key head) = HeadSteps st.count (st.heads zone key) h
 TouchSteps st (at_tail zone key tail) = Unit {0}
 TouchSteps st (at_changes zone log) = Unit {0}
 
+-- the hold of a shard is taken, or is held already
+taken_entries : (s : Shard) (id : ℕ) (test : Bool) → (cond test s (record s { hold = Closing id; fence = max s.fence (hold_number s.hold) })).entries ≡ s.entries
+taken_entries s id true = refl
+taken_entries s id false = refl
+
+unless_taken : (s : Shard) (id : ℕ) → ShardFits (Some s) → ShardSteps (Some s) (Some (taken s id (Closing id)))
+unless_taken s id fits =
+    held_steps (Some s) (λ x. taken x id (Closing id)) (λ x. taken_entries x id (hold_number x.hold == id)) fits
+
 touch_steps : (settings : SettingsView) (st : State) (op : Op) → Bounded st → TouchSteps st (touch_of settings st op)
 unfolding TouchSteps
 touch_steps settings st (BucketSwap zone name expected new) b =
@@ -71,6 +83,12 @@ touch_steps settings st (Suggest zone key name revision moment version row) b =
     (settled s name (tags_due_taken moment (entry_at s name).tags) version row) (shard_stays (Some s) fits)
     (settled_steps s name (tags_due_taken moment (entry_at s name).tags) version row fits))
     (b.entries zone key)
+touch_steps settings st (CloseShard zone key id force) b =
+    changed_steps (st.shards zone key) (λ s. close_refusal s id force) _
+    (λ s fits. unless_taken s id fits) (b.entries zone key)
+touch_steps settings st (Release zone key id) b =
+    held_steps (st.shards zone key) (λ s. released s id) (λ s. refl) (b.entries zone key)
+touch_steps settings st (Shut zone key) b = shut_steps (st.shards zone key) (b.entries zone key)
 touch_steps settings st (HeadWrite zone container name guard new when) b =
     written_steps (st.heads zone (head_key container name)) guard new when zone st.count st.clock (st.free zone) settings.frame
     b.clock (b.heads zone (head_key container name))

@@ -1,5 +1,5 @@
 -- The answer of the step suits its operation.
-use Rattle.std.proofs.Common.{ℕ, Bool, true, false, cond, List, Option, Some, None}
+use Rattle.std.proofs.Common.{ℕ, Bool, true, false, cond, List, [], ◌∷◌, length, Option, Some, None}
 use Rattle.std.specs.Prelude.{IfSome, nat_lt, nat_le, ◌==◌, ◌&&◌, not}
 use Rattle.object_words.specs.declared.entry.Guard.{Guard}
 use Rattle.object_words.specs.declared.head.NewHead.{NewHead}
@@ -9,7 +9,7 @@ use Rattle.object_words.specs.declared.shard.Fate.TheVariants as Fates
 use Rattle.object_words.specs.declared.shard.Hold.{Hold}
 use Rattle.object_words.specs.declared.shard.Hold.TheVariants.{Free, Reshard, Closing}
 use Rattle.object_words.specs.declared.why.Why.{Why}
-use Rattle.object_words.specs.declared.why.Why.TheVariants.{Raced, Moved, Closed, NoTag, Stale, Expired, Gone}
+use Rattle.object_words.specs.declared.why.Why.TheVariants.{Raced, Held, Moved, Closed, Fenced, NotEmpty, Unsettled, NoTag, Stale, Expired, Gone}
 use Rattle.object_words.specs.Keys.{head_key, tail_key}
 use Rattle.object_words.specs.Names.{at}
 use Rattle.object_words.specs.Tags.{has_tag, has_due}
@@ -18,15 +18,18 @@ use Rattle.object_words.specs.Refusals.{first_refusal, fate_refusal, hold_refusa
 use Rattle.object_words.specs.ShardCalls.{tag_refusal, complete_refusal, stale_refusal, suggest_refusal, untimely_refusal}
 use Rattle.object_words.specs.Conditions.{fails}
 use Rattle.object_words.specs.Heads.{Head, etag_of, frames_for}
+use Rattle.object_words.specs.Names.{entries}
+use Rattle.object_words.specs.Entries.{EntryView}
+use Rattle.object_words.specs.HoldCalls.{hold_number, fence_refusal, greater_refusal, take_refusal, entry_refusal, close_refusal}
 use Rattle.object_words.specs.HeadCalls.{guard_refusal, condition_refusal, space_refusal, write_refusal}
 use Rattle.object_words.specs.Roots.{version_of, swap_refusal}
 use Rattle.object_words.specs.Tails.{is_there, tail_refusal, read_refusal}
 use Rattle.realm_model.specs.Settings.{SettingsView}
 use Rattle.realm_model.specs.States.{State}
 use Rattle.realm_model.specs.Steps.{reply_or, on_shard, row_reply, suggest_event_refusal, reply_of}
-use Rattle.realm_model.specs.Suits.{IsLeft, IsBarred, IsUntagged, IsOutdated, IsUnwritten, Suits}
+use Rattle.realm_model.specs.Suits.{IsLeft, IsBarred, IsUntagged, IsOutdated, IsNotClosed, IsUnwritten, Suits}
 use Rattle.realm_model.specs.declared.op.Op.{Op}
-use Rattle.realm_model.specs.declared.op.Op.TheVariants.{BucketRead, BucketSwap, ShardMake, Prepare, Complete, Cancel, Page, Suggest, Stats, HeadRead, HeadWrite, TailMake, TailRead, Announce}
+use Rattle.realm_model.specs.declared.op.Op.TheVariants.{BucketRead, BucketSwap, AccountPage, BucketPage, ShardMake, Prepare, Complete, Cancel, Page, Suggest, Stats, CloseShard, Release, Shut, HeadRead, HeadWrite, TailMake, TailRead, Announce}
 use Rattle.realm_model.specs.declared.event.Reply.{Reply}
 use Rattle.realm_model.specs.declared.event.Reply.TheVariants.{No}
 
@@ -72,6 +75,12 @@ barred_outdated : (why : Why) → IsBarred why → IsOutdated why
 barred_outdated (Stale revision) is = tt
 barred_outdated why is = is
 
+barred_not_closed : (why : Why) → IsBarred why → IsNotClosed why
+barred_not_closed (Fenced fence) is = tt
+barred_not_closed (NotEmpty name) is = tt
+barred_not_closed (Unsettled name) is = tt
+barred_not_closed why is = is
+
 change_barred : (s : Shard) → IfSome (change_refusal s) IsBarred
 change_barred s =
     first_is IsBarred (fate_refusal s.fate) (hold_refusal s.hold) (weaker IsLeft IsBarred (fate_refusal s.fate) left_barred (fate_left s.fate))
@@ -91,6 +100,23 @@ suggest_outdated s name revision seen =
     (first_is IsOutdated (change_refusal s) (stale_refusal e revision)
     (weaker IsBarred IsOutdated (change_refusal s) barred_outdated (change_barred s))
     (untested IsOutdated (e.revision == revision) (Stale e.revision) tt))
+
+entry_not_closed : (es : List (List ℕ × EntryView)) (force : Bool) → IfSome (entry_refusal es force) IsNotClosed
+entry_not_closed [] force = tt
+entry_not_closed (e ∷ es) force =
+    elim (length (e.1).tags == 0) as (λ b. IfSome (cond b (cond force None (Some (NotEmpty e.0))) (Some (Unsettled e.0))) IsNotClosed) [
+      | true ↦ untested IsNotClosed force (NotEmpty e.0) tt
+      | false ↦ tt
+    ]
+
+close_not_closed : (s : Shard) (id : ℕ) (force : Bool) → IfSome (close_refusal s id force) IsNotClosed
+close_not_closed s id force =
+    first_is IsNotClosed (take_refusal s id) (entry_refusal (entries s.entries) force)
+    (first_is IsNotClosed (fate_refusal s.fate) _
+    (weaker IsLeft IsNotClosed (fate_refusal s.fate) (λ why is. barred_not_closed why (left_barred why is)) (fate_left s.fate))
+    (first_is IsNotClosed (fence_refusal s id) (greater_refusal s id) (tested IsNotClosed (nat_le id s.fence) (Fenced s.fence) tt)
+    (tested IsNotClosed (nat_lt id (hold_number s.hold)) (Held (hold_number s.hold)) tt)))
+    (entry_not_closed (entries s.entries) force)
 
 write_unwritten : (head : Head) (guard : Guard) (new : NewHead) (when : Conditions) (clock free frame : ℕ) → IfSome (write_refusal head guard new when clock free frame) IsUnwritten
 write_unwritten head guard new when clock free frame =
@@ -117,6 +143,8 @@ reply_suits settings st (BucketSwap zone name expected new) =
     let version = version_of (at (st.root zone).buckets name) in
     answer_suits (BucketSwap zone name expected new) _ (swap_refusal (st.root zone) name expected) tt
     (untested (λ why. Suits (BucketSwap zone name expected new) (No why)) (version == expected) (Raced version) tt)
+reply_suits settings st (AccountPage zone account after limit) = tt
+reply_suits settings st (BucketPage zone after limit) = tt
 reply_suits settings st (ShardMake zone key) = tt
 reply_suits settings st (Prepare zone key name) =
     shard_suits (Prepare zone key name) (st.shards zone key) _ tt
@@ -138,6 +166,11 @@ reply_suits settings st (Suggest zone key name revision seen version row) =
 reply_suits settings st (Stats zone key) =
     shard_suits (Stats zone key) (st.shards zone key) _ tt
     (λ s. answer_suits (Stats zone key) _ (fate_refusal s.fate) tt (fate_left s.fate))
+reply_suits settings st (CloseShard zone key id force) =
+    shard_suits (CloseShard zone key id force) (st.shards zone key) _ tt
+    (λ s. answer_suits (CloseShard zone key id force) _ (close_refusal s id force) tt (close_not_closed s id force))
+reply_suits settings st (Release zone key id) = tt
+reply_suits settings st (Shut zone key) = tt
 reply_suits settings st (HeadRead zone container name) = tt
 reply_suits settings st (HeadWrite zone container name guard new when) =
     let head = st.heads zone (head_key container name) in

@@ -10,12 +10,13 @@ use Rattle.object_words.specs.Roots.{Root, swap_refusal}
 use Rattle.object_words.specs.Tails.{Tail, tail_refusal}
 use Rattle.object_words.specs.ShardCalls.{prepare_refusal, complete_refusal}
 use Rattle.object_words.specs.HeadCalls.{write_refusal}
+use Rattle.object_words.specs.HoldCalls.{close_refusal}
 use Rattle.object_words.proofs.KeyLemmas.{put_same, put_key_same}
 use Rattle.realm_model.specs.Settings.{SettingsView}
 use Rattle.realm_model.specs.States.{State, put_in, free_after, at_root, at_shard, at_head, at_tail, touched}
 use Rattle.realm_model.specs.Steps.{reply_or, on_shard, change_at, suggest_event_refusal, reply_of, touch_of}
 use Rattle.realm_model.specs.declared.op.Op.{Op}
-use Rattle.realm_model.specs.declared.op.Op.TheVariants.{BucketRead, BucketSwap, ShardMake, Prepare, Complete, Cancel, Page, Suggest, Stats, HeadRead, HeadWrite, TailMake, TailRead, Announce}
+use Rattle.realm_model.specs.declared.op.Op.TheVariants.{BucketSwap, ShardMake, Prepare, Complete, Cancel, Suggest, CloseShard, Release, Shut, HeadWrite, TailMake, Announce}
 use Rattle.realm_model.specs.declared.event.Reply.{Reply}
 use Rattle.realm_model.specs.declared.event.Reply.TheVariants.{Done, No}
 
@@ -77,6 +78,11 @@ refused_stays settings st (Cancel zone key name tag) why refused =
 refused_stays settings st (Suggest zone key name revision moment version row) why refused =
     shard_same settings st zone key _
     (kept_at (st.shards zone key) (λ s. suggest_event_refusal s name revision moment) _ _ why (λ s is. cc) refused)
+refused_stays settings st (CloseShard zone key id force) why refused =
+    shard_same settings st zone key _
+    (kept_at (st.shards zone key) (λ s. close_refusal s id force) _ _ why (λ s is. cc) refused)
+refused_stays settings st (Release zone key id) why refused = cc
+refused_stays settings st (Shut zone key) why refused = cc
 refused_stays settings st (HeadWrite zone container name guard new when) why refused =
     let head = st.heads zone (head_key container name) in
     head_same settings st zone (head_key container name) _

@@ -1,5 +1,5 @@
 -- A container in a zone: its row, the entry of a name, and what the entry shows of the name's slot.
-use Rattle.std.specs.Prelude.{◌≡◌, ℕ, ◌==◌, Bool, List, length, Option, Some, None, is_some, if◌then◌else◌}
+use Rattle.std.specs.Prelude.{◌≡◌, ℕ, ◌-◌, ◌==◌, Bool, List, length, Option, Some, None, is_some, if◌then◌else◌}
 use Rattle.rgw_types.specs.declared.pool_key.Key.{Key}
 use Rattle.object_words.specs.declared.bucket.Bucket.{Bucket}
 use Rattle.object_words.specs.declared.head.SeenSlot.{SeenSlot}
@@ -29,6 +29,10 @@ row_in rows st zone container = row_at_home (rows.homes container) st zone conta
 -- a container stands while zone 1 has its row
 abbrev pub is_standing : RowFacts → State → ℕ → Bool
 is_standing rows st container = is_some (row_in rows st 1 container)
+
+-- the greatest number that was set in the row and is no longer in progress
+abbrev pub over_in : Bucket → ℕ
+over_in row = if is_some row.busy then row.number - 1 else row.number
 
 -- the shard in which the row puts a name
 abbrev pub key_of_name : Bucket → List ℕ → Key

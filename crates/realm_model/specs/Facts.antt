@@ -30,21 +30,17 @@ pub record Home : Type 0 where
   pub name : List ℕ
   pub at : ℕ
 
--- what an instance of a container's index is doing
-pub data InstanceState : Type 0 where
-  idle : InstanceState
-
--- an instance that was put into a row: its shards, the last number that was given while a row named it, what it is doing
+-- an instance that was put into a row: its shards, and the greatest number that was set in its row and is no longer in
+-- progress
 pub record Instance : Type 0 where
   pub shards : ℕ
-  pub number : ℕ
-  pub state : InstanceState
+  pub over : ℕ
 
 -- facts of containers and of the instances of their index
 pub record RowFacts : Type 0 where
   -- by container: the swap that makes its row in zone 1
   pub homes : ℕ → Option Home
-  -- by zone, container and number: the swap that makes a row adds its instance
+  -- by zone, container and number: a swap that makes or changes a row says what its instance is
   pub instances : ℕ → ℕ → ℕ → Option Instance
 
 -- where the tails of one write are

@@ -49,6 +49,10 @@ set_to stripe frame frames life = record {
   threshold = 100000;
 }
 
+-- the same with two zones
+abbrev pub two_zones : ℕ → ℕ → ℕ → ℕ → SettingsView
+two_zones stripe frame frames life = record (set_to stripe frame frames life) { zones = 2 }
+
 -- what is set where no word says otherwise
 abbrev pub usual : SettingsView
 usual = set_to 4194304 4096 16384 120000000

@@ -1,10 +1,11 @@
 -- What an actor knows after an own event, kind of fact by kind of fact. Each event comes with its number and the clock
 -- at it.
-use Rattle.std.specs.Prelude.{ℕ, ◌+◌, ◌==◌, ◌&&◌, ◌||◌, Bool, true, false, nat_lt, List, [], ◌∷◌, ◌++◌, bytes_eq, length, Option, Some, None, if◌then◌else◌}
+use Rattle.std.specs.Prelude.{ℕ, ◌+◌, ◌==◌, ◌&&◌, ◌||◌, not, Bool, true, false, nat_lt, List, [], ◌∷◌, ◌++◌, bytes_eq, length, Option, Some, None, is_some, if◌then◌else◌}
 use Rattle.std.specs.FinMap.Entries.{find}
 use Rattle.rgw_types.specs.declared.pool_key.Key.{Key}
 use Rattle.rgw_types.specs.Stripes.{ManifestView, tails_of}
 use Rattle.object_words.specs.declared.bucket.Bucket.{Bucket}
+use Rattle.object_words.specs.declared.bucket.Busy.{Busy}
 use Rattle.object_words.specs.declared.head.SeenSlot.{SeenSlot}
 use Rattle.object_words.specs.declared.head.SeenSlot.TheVariants.{Live}
 use Rattle.object_words.specs.declared.why.Why.TheVariants.{Moved, Closed}
@@ -17,10 +18,10 @@ use Rattle.object_words.specs.Roots.{stored_or_none}
 use Rattle.realm_model.specs.Tests.{is_so}
 use Rattle.realm_model.specs.States.{put_in}
 use Rattle.realm_model.specs.Steps.{is_master}
-use Rattle.realm_model.specs.Phases.{FirstEvent, RowRead, OwnChange, Stage, pending, tried, over, OwnTag, Sighting, Bundle, unused, opened, spent, SeenManifest, OwnStripes, OwnShards, Phase}
+use Rattle.realm_model.specs.Phases.{FirstEvent, RowRead, OwnChange, Stage, pending, tried, over, OwnTag, Sighting, Bundle, unused, opened, spent, SeenManifest, OwnStripes, OwnShards, OwnNumber, OwnWork, Phase}
 use Rattle.realm_model.specs.Needs.{is_new_shard, holder_of}
 use Rattle.realm_model.specs.declared.op.Op.{Op}
-use Rattle.realm_model.specs.declared.op.Op.TheVariants.{BucketRead, BucketSwap, ShardMake, Prepare, Complete, Cancel, Page, HeadRead, HeadWrite, TailMake, Announce}
+use Rattle.realm_model.specs.declared.op.Op.TheVariants.{BucketRead, BucketSwap, ShardMake, Prepare, Complete, Cancel, Page, CloseShard, HeadRead, HeadWrite, TailMake, Announce}
 use Rattle.realm_model.specs.declared.event.Reply.{Reply}
 use Rattle.realm_model.specs.declared.event.Reply.TheVariants.{Done, No, Row, Prepared, Entries, Head as head_reply, Changed, Position}
 
@@ -81,15 +82,15 @@ abbrev pub at_stage : Option OwnTag → Stage → Option OwnTag
 at_stage None stage = None
 at_stage (Some t) stage = Some (record t { stage = stage })
 
--- a completion was answered Moved or Closed; the first such answer counts
-abbrev pub tried_from : Stage → ℕ → Stage
-tried_from (tried first) number = tried first
-tried_from stage number = tried number
+-- a completion was answered Moved by the event of this number, or Closed; the first answer Moved counts
+abbrev pub tried_from : Stage → Option ℕ → Stage
+tried_from (tried (Some first)) moved = tried (Some first)
+tried_from stage moved = tried moved
 
 -- the tag may be tried again
-abbrev pub with_try : Option OwnTag → ℕ → Option OwnTag
-with_try None number = None
-with_try (Some t) number = Some (record t { stage = tried_from t.stage number })
+abbrev pub with_try : Option OwnTag → Option ℕ → Option OwnTag
+with_try None moved = None
+with_try (Some t) moved = Some (record t { stage = tried_from t.stage moved })
 
 -- an announcement of the tag's shard announces it
 abbrev pub announced : Option OwnTag → ℕ → Key → Option OwnTag
@@ -111,8 +112,8 @@ tag_after tag (Announce zone container instance shard bucket) (Position position
     announced tag zone (shard_key container instance shard)
 tag_after tag (HeadWrite zone container name guard new when) (Changed change) number =
     changed tag (record { version = change.version; row = change.row })
-tag_after tag (Complete zone key name t version row) (No (Moved instance)) number = with_try tag number
-tag_after tag (Complete zone key name t version row) (No Closed) number = with_try tag number
+tag_after tag (Complete zone key name t version row) (No (Moved instance)) number = with_try tag (Some number)
+tag_after tag (Complete zone key name t version row) (No Closed) number = with_try tag None
 tag_after tag (Complete zone key name t version row) reply number = at_stage tag over
 tag_after tag (Cancel zone key name t) reply number = at_stage tag over
 tag_after tag op reply number = tag
@@ -220,6 +221,52 @@ shards_after shards p (Announce zone container instance shard bucket) (Position 
     else shards
 shards_after shards p op reply = shards
 
+-- ---- numbers in rows
+
+-- the own work on the row that names an instance changes
+abbrev pub with_work : (ℕ → ℕ → ℕ → OwnWork) → ℕ → ℕ → ℕ → (OwnWork → OwnWork) → ℕ → ℕ → ℕ → OwnWork
+with_work work zone container instance change =
+    put_bundle work zone container instance (change (work zone container instance))
+
+-- a number that was just set: no shard is closed under it
+abbrev pub set_in : Busy → OwnNumber
+set_in busy = record { closing = busy.closing; closed = λ shard. false }
+
+-- a number is set where none was, or the one that was is cleared
+abbrev pub numbered : OwnWork → Option Busy → Option Busy → OwnWork
+numbered w None (Some busy) = record w { begun = put w.begun busy.number (Some (set_in busy)) }
+numbered w (Some busy) None = record w { cleared = put w.cleared busy.number true }
+numbered w old new = w
+
+-- a swap of the row that was known for another, or for none
+abbrev pub worked : (ℕ → ℕ → ℕ → OwnWork) → ℕ → Option Bucket → Option Bucket → ℕ → ℕ → ℕ → OwnWork
+worked work zone (Some old) (Some new) = with_work work zone old.id old.instance (λ w. numbered w old.busy new.busy)
+worked work zone (Some old) None = with_work work zone old.id old.instance (λ w. record w { removed = Some old.shards })
+worked work zone None new = work
+
+-- a shard is closed under a number that was set
+abbrev pub with_closed : Option OwnNumber → ℕ → Option OwnNumber
+with_closed None shard = None
+with_closed (Some n) shard = Some (record n { closed = put n.closed shard true })
+
+-- own swaps set and clear numbers and take rows away, and own closings close shards
+abbrev pub work_after : (ℕ → ℕ → ℕ → OwnWork) → (ℕ → Named RowRead) → Op → Reply → ℕ → ℕ → ℕ → OwnWork
+work_after work rows (BucketSwap zone name expected new) Done = worked work zone (row_known (rows zone) name) new
+work_after work rows (CloseShard zone key id force) Done =
+    with_work work zone (container_of key) (instance_of key) (λ w. record w { begun = put w.begun id (with_closed (w.begun id) (number_of key)) })
+work_after work rows op reply = work
+
+-- a swap sets a number in a row where none was
+abbrev pub is_begun : Option Bucket → Option Bucket → Bool
+is_begun (Some old) (Some new) = not (is_some old.busy) && is_some new.busy
+is_begun old new = false
+
+-- own swaps that set a number begin a reshard or a closing
+abbrev pub began_after : (ℕ → ℕ → Bool) → (ℕ → Named RowRead) → Op → Reply → ℕ → ℕ → Bool
+began_after began rows (BucketSwap zone name expected (Some new)) Done =
+    if is_begun (row_known (rows zone) name) (Some new) then put began zone (put (began zone) new.id true) else began
+began_after began rows op reply = began
+
 -- ---- all of it
 
 -- what an actor knows after an own event with this number, at this clock
@@ -232,4 +279,6 @@ learnt p op reply number clock = record {
   seen = seen_after p.seen p.named op reply;
   stripes = stripes_after p.stripes op reply number clock;
   shards = shards_after p.shards p op reply;
+  work = work_after p.work p.rows op reply;
+  began = began_after p.began p.rows op reply;
 }

@@ -28,11 +28,11 @@ pub record OwnChange : Type 0 where
   pub version : ℕ
   pub row : RowView
 
--- a tag is open; its completion was answered Moved or Closed, first by the event of this number, and may be tried again; it is
--- over
+-- a tag is open; its completion was answered Moved or Closed, first Moved by the event of this number, if so at all, and may
+-- be tried again; it is over
 pub data Stage : Type 0 where
   pending : Stage
-  tried : ℕ → Stage
+  tried : Option ℕ → Stage
   over : Stage
 
 -- the last own preparation that was not refused
@@ -85,6 +85,20 @@ pub record OwnShards : Type 0 where
   -- an own swap put them into a row
   pub placed : Bool
 
+-- a number that an own swap set in a row: for a closing or a reshard, and the shards that own calls closed under it
+pub record OwnNumber : Type 0 where
+  pub closing : Bool
+  pub closed : ℕ → Bool
+
+-- what an actor's own swaps did to the row that names an instance
+pub record OwnWork : Type 0 where
+  -- by number
+  pub begun : ℕ → Option OwnNumber
+  -- the numbers that an own swap cleared
+  pub cleared : ℕ → Bool
+  -- how many shards the row had that an own swap took away
+  pub removed : Option ℕ
+
 -- what an actor knows
 pub record Phase : Type 0 where
   pub first : Option FirstEvent
@@ -98,6 +112,10 @@ pub record Phase : Type 0 where
   pub stripes : OwnStripes
   -- by zone and container
   pub shards : ℕ → ℕ → OwnShards
+  -- by zone, container and instance
+  pub work : ℕ → ℕ → ℕ → OwnWork
+  -- an own swap began a reshard or a closing, by zone and container
+  pub began : ℕ → ℕ → Bool
 
 -- no tail was made, and none was seen
 abbrev pub no_stripes : OwnStripes
@@ -112,6 +130,10 @@ no_stripes = record {
 abbrev pub no_shards : OwnShards
 no_shards = record { made = 0; filled = false; announced = λ shard. false; placed = false }
 
+-- no number was set or cleared, and no row taken away
+abbrev pub no_work : OwnWork
+no_work = record { begun = λ number. None; cleared = λ number. false; removed = None }
+
 -- an actor that made no event
 abbrev pub fresh : Phase
 fresh = record {
@@ -122,4 +144,6 @@ fresh = record {
   seen = λ zone key name. None;
   stripes = no_stripes;
   shards = λ zone container. no_shards;
+  work = λ zone container instance. no_work;
+  began = λ zone container. false;
 }

@@ -1,12 +1,14 @@
 -- Changes of a name that an actor may not make, each after events that are legal.
-use Rattle.std.specs.Prelude.{codes, List, [], ◌∷◌, ◌++◌, None}
-use Rattle.object_words.specs.declared.why.Why.TheVariants.{Expired}
+use Rattle.std.specs.Prelude.{codes, ℕ, true, false, List, [], ◌∷◌, ◌++◌, Some, None}
+use Rattle.object_words.specs.declared.bucket.Bucket.{Bucket}
+use Rattle.object_words.specs.declared.head.SeenSlot.TheVariants.{Live}
+use Rattle.object_words.specs.declared.why.Why.TheVariants.{Absent, Closed, Expired}
 use Rattle.object_words.specs.Keys.{shard_key}
-use Rattle.object_words.specs.Rows.{no_row}
-use Rattle.realm_model.specs.declared.op.Op.TheVariants.{Prepare, Complete, Cancel, Page, HeadRead, HeadWrite, TailMake, Announce, Stats as stats_op}
-use Rattle.realm_model.specs.declared.event.Reply.TheVariants.{Done, No, Prepared, Entries, Stats, Changed, Position, Head as head_reply}
+use Rattle.object_words.specs.Rows.{RowView, no_row}
+use Rattle.realm_model.specs.declared.op.Op.TheVariants.{BucketRead, BucketSwap, ShardMake, Prepare, Complete, Cancel, Page, Suggest, CloseShard, Shut, HeadRead, HeadWrite, TailMake, Announce, Stats as stats_op}
+use Rattle.realm_model.specs.declared.event.Reply.TheVariants.{Done, No, Row, Prepared, Entries, Stats, Changed, Position, Head as head_reply}
 use Rattle.realm_model.specs.declared.event.Event.{Event}
-use Rattle.realm_model.specs.KnownWords.{by, made, reads, shard, box, k, guard, change, stats, no_conditions, letters, no_entries, one_entry, shows_nothing, xs, xs_row}
+use Rattle.realm_model.specs.KnownWords.{by, made, reads, shard, box, k, guard, tag, bucket, change, stats, no_conditions, letters, no_entries, one_entry, shows_nothing, xs, xs_row}
 
 -- changes the head before the change is announced
 abbrev pub unannounced : List Event
@@ -199,4 +201,59 @@ cancelled_elsewhere =
     ∷ by 5 10000000 (Announce 1 1 1 1 box) (Position 1)
     ∷ by 5 15000000 (HeadWrite 1 1 (codes "a") (guard 11 15000000) (xs 5 16 40) no_conditions) (No (Expired 15000000 15000000))
     ∷ by 5 15000000 (Cancel 1 (shard_key 1 1 2) (codes "a") 11) Done
+    ∷ []
+
+-- the row of box in zone 2, which has an instance of its own there
+abbrev pub row_there : ℕ → ℕ → Bucket
+row_there version instance = record (bucket 1 version 1) { shared = 3; instance = instance }
+
+-- a change that was made in zone 2, and its row
+abbrev pub row_of_change : RowView
+row_of_change = record (xs_row 5 0) { stamp = record { micros = 0; zone = 2 } }
+
+-- in zone 2 a change of k is made and not completed, and put right by another; box is removed, first in zone 1; then the
+-- completion finds its shard closed
+abbrev pub closed_first : List Event
+closed_first =
+    made 1 0 1
+    ++ reads 2 0 1
+    ∷ by 2 0 (BucketRead 2 box) (No Absent)
+    ∷ by 2 0 (ShardMake 2 (shard_key 1 4 0)) Done
+    ∷ by 2 0 (BucketSwap 2 box 0 (Some (row_there 0 4))) Done
+    ∷ reads 3 0 1
+    ∷ by 4 0 (BucketRead 2 box) (Row (row_there 7 4))
+    ∷ by 4 0 (Prepare 2 (shard_key 1 4 0) k) (Prepared (guard 10 1000000))
+    ∷ by 4 0 (Announce 2 1 4 0 box) (Position 1)
+    ∷ by 4 0 (HeadWrite 2 1 k (guard 10 1000000) (xs 9 16 5) no_conditions) (Changed (record (change 12 0 row_of_change None) { stamp = row_of_change.stamp }))
+    ∷ by 5 1000000 (BucketRead 2 box) (Row (row_there 7 4))
+    ∷ by 5 1000000 (Page 2 (shard_key 1 4 0) [] 2) (Entries (one_entry k 0 1 no_row (tag 10 1000000 ∷ []) 1000000))
+    ∷ by 5 1000000 (HeadRead 2 1 k) (head_reply (record { version = 12; slot = Live (xs 9 16 5) row_of_change.stamp }) 1000000)
+    ∷ by 5 1000000 (Suggest 2 (shard_key 1 4 0) k 1 1000000 12 row_of_change) Done
+    ∷ reads 6 1000000 1
+    ∷ by 6 1000000 (BucketSwap 1 box 3 (Some (record (bucket 1 3 1) { number = 1; busy = Some (record { number = 1; closing = true }) }))) Done
+    ∷ by 6 1000000 (CloseShard 1 shard 1 false) Done
+    ∷ by 6 1000000 (BucketSwap 1 box 18 None) Done
+    ∷ by 7 1000000 (BucketRead 2 box) (Row (row_there 7 4))
+    ∷ by 7 1000000 (BucketRead 1 box) (No Absent)
+    ∷ by 7 1000000 (BucketSwap 2 box 7 (Some (record (row_there 7 4) { number = 1; busy = Some (record { number = 1; closing = true }) }))) Done
+    ∷ by 7 1000000 (CloseShard 2 (shard_key 1 4 0) 1 true) Done
+    ∷ by 7 1000000 (BucketSwap 2 box 23 None) Done
+    ∷ by 7 1000000 (Shut 2 (shard_key 1 4 0)) Done
+    ∷ by 4 1000000 (Complete 2 (shard_key 1 4 0) k 10 12 row_of_change) (No Closed)
+    ∷ []
+
+-- announces a tag whose completion was answered Closed
+abbrev pub announced_when_closed : List Event
+announced_when_closed = closed_first ++ by 4 1000000 (Announce 2 1 4 0 box) Done ∷ []
+
+-- completes once more in the tag's shard, and then in the shard of a row that was made and read after the answer Closed
+abbrev pub completed_elsewhere : List Event
+completed_elsewhere =
+    closed_first
+    ++ by 4 1000000 (Complete 2 (shard_key 1 4 0) k 10 12 row_of_change) (No Closed)
+    ∷ by 3 1000000 (BucketRead 2 box) (No Absent)
+    ∷ by 3 1000000 (ShardMake 2 (shard_key 1 8 0)) Done
+    ∷ by 3 1000000 (BucketSwap 2 box 0 (Some (row_there 0 8))) Done
+    ∷ by 4 1000000 (BucketRead 2 box) (Row (row_there 31 8))
+    ∷ by 4 1000000 (Complete 2 (shard_key 1 8 0) k 10 12 row_of_change) Done
     ∷ []

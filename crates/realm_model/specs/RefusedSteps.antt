@@ -1,10 +1,11 @@
 -- First steps that an actor may not make, each after events that are legal.
-use Rattle.std.specs.Prelude.{codes, List, take, [], ◌∷◌, ◌++◌, Some, None}
+use Rattle.std.specs.Prelude.{codes, ℕ, List, take, [], ◌∷◌, ◌++◌, true, Option, Some, None}
+use Rattle.object_words.specs.declared.bucket.Bucket.{Bucket}
 use Rattle.object_words.specs.declared.why.Why.TheVariants.{Absent, NoSpace}
 use Rattle.object_words.specs.Keys.{shard_key}
 use Rattle.object_words.specs.Rows.{no_row}
-use Rattle.realm_model.specs.declared.op.Op.TheVariants.{BucketRead, BucketSwap, ShardMake, Prepare, Complete, Cancel, Page, Suggest, HeadRead, HeadWrite, TailMake, Announce}
-use Rattle.realm_model.specs.declared.event.Reply.TheVariants.{Done, No, Prepared, Entries, Changed, Position, Head as head_reply}
+use Rattle.realm_model.specs.declared.op.Op.TheVariants.{BucketRead, BucketSwap, AccountPage, BucketPage, ShardMake, Prepare, Complete, Cancel, Page, Suggest, HeadRead, HeadWrite, TailMake, Announce}
+use Rattle.realm_model.specs.declared.event.Reply.TheVariants.{Done, No, Names, Prepared, Entries, Changed, Position, Head as head_reply}
 use Rattle.realm_model.specs.declared.event.Event.{Event}
 use Rattle.realm_model.specs.StoppedWriterIsRepaired as stopped
 use Rattle.realm_model.specs.KnownWords.{by, then, made, reads, shard, box, k, guard, tag, bucket, change, no_conditions, letters, no_entries, one_entry, shows, shows_nothing, xs, xs_row, hello, hello_row}
@@ -51,6 +52,19 @@ prepared_unread =
     ∷ reads 6 0 1
     ∷ by 7 0 (Prepare 1 shard (codes "m-long-name")) Done
     ∷ []
+
+-- prepares a change of the empty name, of one that is too long, and of one with a byte 0
+abbrev pub prepares_name : List ℕ → List Event
+prepares_name name = made 1 0 1 ++ reads 2 0 1 ∷ by 2 0 (Prepare 1 shard name) Done ∷ []
+
+abbrev pub prepared_without_name : List Event
+prepared_without_name = prepares_name []
+
+abbrev pub prepared_with_long_name : List Event
+prepared_with_long_name = prepares_name (letters 1025)
+
+abbrev pub prepared_with_zero : List Event
+prepared_with_zero = prepares_name (0 ∷ [])
 
 -- prepares while its tag is open
 abbrev pub prepared_twice : List Event
@@ -148,7 +162,42 @@ more_shards =
 
 -- makes a container over one that is there
 abbrev pub made_over : List Event
-made_over = made 1 0 1 ++ by 1 0 (BucketSwap 1 box 3 (Some (bucket 1 3 1))) Done ∷ []
+made_over =
+    made 1 0 1
+    ++ reads 2 0 1
+    ∷ by 2 0 (ShardMake 1 (shard_key 4 4 0)) Done
+    ∷ by 2 0 (BucketSwap 1 box 3 (Some (bucket 4 3 1))) Done
+    ∷ []
+
+-- swaps the row that it read for another
+abbrev pub swapped_for : Option Bucket → List Event
+swapped_for new = made 1 0 1 ++ reads 2 0 1 ∷ by 2 0 (BucketSwap 1 box 3 new) Done ∷ []
+
+-- the row with another owner, another instance, more shards, a number that none was, a closing, or none
+abbrev pub other_owner : List Event
+other_owner = swapped_for (Some (record (bucket 1 3 1) { owner = codes "b" }))
+
+abbrev pub other_instance : List Event
+other_instance = swapped_for (Some (record (bucket 1 3 1) { instance = 4 }))
+
+abbrev pub other_shards : List Event
+other_shards = swapped_for (Some (bucket 1 3 2))
+
+abbrev pub other_number : List Event
+other_number = swapped_for (Some (record (bucket 1 3 1) { number = 1 }))
+
+abbrev pub number_in_progress : List Event
+number_in_progress = swapped_for (Some (record (bucket 1 3 1) { number = 1; busy = Some (record { number = 2; closing = true }) }))
+
+abbrev pub taken_away : List Event
+taken_away = swapped_for None
+
+-- asks for more names than a page has, and for none
+abbrev pub many_names : List Event
+many_names = by 1 0 (AccountPage 1 (codes "acme") [] 1001) (Names []) ∷ []
+
+abbrev pub no_names : List Event
+no_names = by 1 0 (BucketPage 1 [] 0) (Names []) ∷ []
 
 -- puts its shards into a second row
 abbrev pub made_again : List Event

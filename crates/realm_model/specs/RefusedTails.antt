@@ -87,6 +87,17 @@ part_not_made =
     ∷ by 21 5 (HeadWrite 1 1 (codes "a") (guard 9 120000005) (xs 6 16 56) no_conditions) Done
     ∷ []
 
+-- writes content without tails while a tail that it made of the same write is open
+abbrev pub tail_left_open : List Event
+tail_left_open =
+    made 1 0 1
+    ++ reads 2 0 1
+    ∷ by 2 0 (TailMake 1 4 1 (letters 16)) Done
+    ∷ by 2 0 (Prepare 1 shard k) (Prepared (guard 6 120000000))
+    ∷ by 2 0 (Announce 1 1 1 0 box) (Position 1)
+    ∷ by 2 0 (HeadWrite 1 1 k (guard 6 120000000) (xs 4 16 5) no_conditions) Done
+    ∷ []
+
 -- names tails of a write that is not its own
 abbrev pub tails_of_another : List Event
 tails_of_another =

@@ -14,14 +14,16 @@ use Rattle.object_words.specs.Shards.{Shard, stats_of}
 use Rattle.object_words.specs.Refusals.{first_refusal, unless_refused, fate_refusal}
 use Rattle.object_words.specs.ShardCalls.{made, prepare_refusal, prepared, complete_refusal, completed, cancelled, suggest_refusal, untimely_refusal, suggested, page_of}
 use Rattle.object_words.specs.HeadCalls.{seen, write_refusal, written, change_of}
+use Rattle.object_words.specs.HoldCalls.{close_refusal, closed, released, shut_down}
 use Rattle.object_words.specs.Roots.{swap_refusal, swapped}
+use Rattle.object_words.specs.Pages.{account_names, bucket_names}
 use Rattle.object_words.specs.Tails.{tail_refusal, tail_made, read_refusal, bytes_at}
 use Rattle.realm_model.specs.Settings.{SettingsView}
 use Rattle.realm_model.specs.States.{State, number_next, Touch, nothing, at_root, at_shard, at_head, at_tail, at_changes, touched}
 use Rattle.realm_model.specs.declared.op.Op.{Op}
-use Rattle.realm_model.specs.declared.op.Op.TheVariants.{BucketRead, BucketSwap, ShardMake, Prepare, Complete, Cancel, Page, Suggest, Stats as stats_op, HeadRead, HeadWrite, TailMake, TailRead, Announce}
+use Rattle.realm_model.specs.declared.op.Op.TheVariants.{BucketRead, BucketSwap, AccountPage, BucketPage, ShardMake, Prepare, Complete, Cancel, Page, Suggest, Stats as stats_op, CloseShard, Release, Shut, HeadRead, HeadWrite, TailMake, TailRead, Announce}
 use Rattle.realm_model.specs.declared.event.Reply.{Reply}
-use Rattle.realm_model.specs.declared.event.Reply.TheVariants.{Done, No, Row, Prepared, Entries, Stats, Head as head_reply, Changed, Bytes, Position}
+use Rattle.realm_model.specs.declared.event.Reply.TheVariants.{Done, No, Row, Names, Prepared, Entries, Stats, Head as head_reply, Changed, Bytes, Position}
 
 -- zone 1 is the master of the containers
 abbrev pub is_master : ℕ → Bool
@@ -59,6 +61,8 @@ suggest_event_refusal s name revision seen = first_refusal (untimely_refusal s n
 abbrev pub reply_of : SettingsView → State → Op → Reply
 reply_of settings st (BucketRead zone name) = row_reply (at (st.root zone).buckets name)
 reply_of settings st (BucketSwap zone name expected new) = reply_or Done (swap_refusal (st.root zone) name expected)
+reply_of settings st (AccountPage zone account after limit) = Names (account_names (st.root zone) account after limit)
+reply_of settings st (BucketPage zone after limit) = Names (bucket_names (st.root zone) after limit)
 reply_of settings st (ShardMake zone key) = Done
 reply_of settings st (Prepare zone key name) =
     on_shard (st.shards zone key) (λ s. reply_or (Prepared (guard_of (new_tag settings st))) (prepare_refusal s))
@@ -72,6 +76,10 @@ reply_of settings st (Suggest zone key name revision moment version row) =
     on_shard (st.shards zone key) (λ s. reply_or Done (suggest_event_refusal s name revision moment))
 reply_of settings st (stats_op zone key) =
     on_shard (st.shards zone key) (λ s. reply_or (Stats (stats_of s)) (fate_refusal s.fate))
+reply_of settings st (CloseShard zone key id force) =
+    on_shard (st.shards zone key) (λ s. reply_or Done (close_refusal s id force))
+reply_of settings st (Release zone key id) = Done
+reply_of settings st (Shut zone key) = Done
 reply_of settings st (HeadRead zone container name) =
     head_reply (seen (st.heads zone (head_key container name)) (number_next st)) st.clock
 reply_of settings st (HeadWrite zone container name guard new when) =
@@ -88,6 +96,8 @@ abbrev pub touch_of : SettingsView → State → Op → Touch
 touch_of settings st (BucketRead zone name) = nothing
 touch_of settings st (BucketSwap zone name expected new) =
     at_root zone (swapped (st.root zone) name expected new (is_master zone) (number_next st))
+touch_of settings st (AccountPage zone account after limit) = nothing
+touch_of settings st (BucketPage zone after limit) = nothing
 touch_of settings st (ShardMake zone key) = at_shard zone key (made (st.shards zone key))
 touch_of settings st (Prepare zone key name) =
     at_shard zone key (change_at (st.shards zone key) (λ s. prepared s name (new_tag settings st)))
@@ -100,6 +110,10 @@ touch_of settings st (Suggest zone key name revision moment version row) =
     at_shard zone key (change_at (st.shards zone key) (λ s.
     unless_refused (suggest_event_refusal s name revision moment) s (suggested s name revision moment version row)))
 touch_of settings st (stats_op zone key) = nothing
+touch_of settings st (CloseShard zone key id force) =
+    at_shard zone key (change_at (st.shards zone key) (λ s. closed s id force))
+touch_of settings st (Release zone key id) = at_shard zone key (change_at (st.shards zone key) (λ s. released s id))
+touch_of settings st (Shut zone key) = at_shard zone key (change_at (st.shards zone key) shut_down)
 touch_of settings st (HeadRead zone container name) = nothing
 touch_of settings st (HeadWrite zone container name guard new when) =
     let key = head_key container name in

@@ -1,10 +1,10 @@
 -- Which kinds of answer an operation may have.
 use Rattle.object_words.specs.declared.why.Why.{Why}
-use Rattle.object_words.specs.declared.why.Why.TheVariants.{Absent, Raced, Held, Moved, Closed, NoTag, Stale, Expired, NotMet, NoSpace, Gone}
+use Rattle.object_words.specs.declared.why.Why.TheVariants.{Absent, Raced, Held, Moved, Closed, Fenced, NotEmpty, Unsettled, NoTag, Stale, Expired, NotMet, NoSpace, Gone}
 use Rattle.realm_model.specs.declared.op.Op.{Op}
-use Rattle.realm_model.specs.declared.op.Op.TheVariants.{BucketRead, BucketSwap, ShardMake, Prepare, Complete, Cancel, Page, Suggest, Stats as stats_op, HeadRead, HeadWrite, TailMake, TailRead, Announce}
+use Rattle.realm_model.specs.declared.op.Op.TheVariants.{BucketRead, BucketSwap, AccountPage, BucketPage, ShardMake, Prepare, Complete, Cancel, Page, Suggest, Stats as stats_op, CloseShard, Release, Shut, HeadRead, HeadWrite, TailMake, TailRead, Announce}
 use Rattle.realm_model.specs.declared.event.Reply.{Reply}
-use Rattle.realm_model.specs.declared.event.Reply.TheVariants.{Done, No, Row, Prepared, Entries, Stats, Head as head_reply, Changed, Bytes, Position}
+use Rattle.realm_model.specs.declared.event.Reply.TheVariants.{Done, No, Row, Names, Prepared, Entries, Stats, Head as head_reply, Changed, Bytes, Position}
 
 -- a shard that no longer serves
 abbrev pub IsLeft : Why → Type 0
@@ -29,6 +29,13 @@ abbrev pub IsOutdated : Why → Type 0
 IsOutdated (Stale revision) = Unit {0}
 IsOutdated why = IsBarred why
 
+-- a shard that cannot be closed: it takes no change, the number is fenced, or an entry stands in the way
+abbrev pub IsNotClosed : Why → Type 0
+IsNotClosed (Fenced fence) = Unit {0}
+IsNotClosed (NotEmpty name) = Unit {0}
+IsNotClosed (Unsettled name) = Unit {0}
+IsNotClosed why = IsBarred why
+
 -- a tag whose life is over, a condition that fails, no room
 abbrev pub IsUnwritten : Why → Type 0
 IsUnwritten (Expired deadline clock) = Unit {0}
@@ -42,6 +49,8 @@ Suits (BucketRead zone name) (Row row) = Unit {0}
 Suits (BucketRead zone name) (No Absent) = Unit {0}
 Suits (BucketSwap zone name expected new) Done = Unit {0}
 Suits (BucketSwap zone name expected new) (No (Raced version)) = Unit {0}
+Suits (AccountPage zone account after limit) (Names names) = Unit {0}
+Suits (BucketPage zone after limit) (Names names) = Unit {0}
 Suits (ShardMake zone key) Done = Unit {0}
 Suits (Prepare zone key name) (Prepared guard) = Unit {0}
 Suits (Prepare zone key name) (No why) = IsBarred why
@@ -55,6 +64,10 @@ Suits (Suggest zone key name revision seen version row) Done = Unit {0}
 Suits (Suggest zone key name revision seen version row) (No why) = IsOutdated why
 Suits (stats_op zone key) (Stats stats) = Unit {0}
 Suits (stats_op zone key) (No why) = IsLeft why
+Suits (CloseShard zone key id force) Done = Unit {0}
+Suits (CloseShard zone key id force) (No why) = IsNotClosed why
+Suits (Release zone key id) Done = Unit {0}
+Suits (Shut zone key) Done = Unit {0}
 Suits (HeadRead zone container name) (head_reply head clock) = Unit {0}
 Suits (HeadWrite zone container name guard new when) (Changed change) = Unit {0}
 Suits (HeadWrite zone container name guard new when) (No why) = IsUnwritten why

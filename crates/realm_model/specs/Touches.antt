@@ -4,7 +4,7 @@ use Rattle.rgw_types.specs.declared.pool_key.Key.{Key}
 use Rattle.object_words.specs.Keys.{is_key}
 use Rattle.realm_model.specs.States.{State, Touch, at_root, at_shard, at_head, at_tail, at_changes}
 use Rattle.realm_model.specs.declared.op.Op.{Op}
-use Rattle.realm_model.specs.declared.op.Op.TheVariants.{BucketRead, Page, Stats, HeadRead, TailRead}
+use Rattle.realm_model.specs.declared.op.Op.TheVariants.{BucketRead, AccountPage, BucketPage, Page, Stats, HeadRead, TailRead}
 
 -- the root of the zone is touched
 abbrev pub is_at_root : Touch → ℕ → Bool
@@ -51,6 +51,8 @@ pub record KeepsOthers (touch : Touch) (old new : State) : Type 0 where
 -- the operation only reads
 abbrev pub is_read : Op → Bool
 is_read (BucketRead zone name) = true
+is_read (AccountPage zone account after limit) = true
+is_read (BucketPage zone after limit) = true
 is_read (Page zone key after limit) = true
 is_read (Stats zone key) = true
 is_read (HeadRead zone container name) = true

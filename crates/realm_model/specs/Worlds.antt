@@ -12,11 +12,12 @@ use Rattle.realm_model.specs.Tests.{same_stamp}
 use Rattle.realm_model.specs.States.{State, opening, number_next, at_moment}
 use Rattle.realm_model.specs.Steps.{is_master, after}
 use Rattle.realm_model.specs.Phases.{ActorId, OwnChange, Phase, fresh}
+use Rattle.realm_model.specs.Containers.{over_in}
 use Rattle.realm_model.specs.Needs.{holder_of}
 use Rattle.realm_model.specs.Learnt.{put_bundle, learnt}
 use Rattle.realm_model.specs.Maps.{Maps, Made, no_maps, mapped, whole_slot}
 use Rattle.realm_model.specs.Accounts.{Account, blank, accounted}
-use Rattle.realm_model.specs.Facts.{TagNote, IndexFacts, Home, Instance, idle, RowFacts, Place, nowhere, making, in_head, replaced, Ledger, StripeFacts, StampFacts}
+use Rattle.realm_model.specs.Facts.{TagNote, IndexFacts, Home, Instance, RowFacts, Place, nowhere, making, in_head, replaced, Ledger, StripeFacts, StampFacts}
 use Rattle.realm_model.specs.declared.op.Op.{Op}
 use Rattle.realm_model.specs.declared.op.Op.TheVariants.{BucketSwap, Prepare, Complete, Cancel, HeadWrite, TailMake}
 use Rattle.realm_model.specs.declared.event.Reply.{Reply}
@@ -114,17 +115,18 @@ abbrev pub homes_after : (ℕ → Option Home) → Op → Reply → ℕ → ℕ 
 homes_after homes (BucketSwap zone name expected new) Done number = with_home homes zone name expected new number
 homes_after homes op reply number = homes
 
--- a row that is made names its instance
-abbrev pub with_instance : (ℕ → ℕ → ℕ → Option Instance) → ℕ → ℕ → Option Bucket → ℕ → ℕ → ℕ → Option Instance
-with_instance instances zone expected None = instances
-with_instance instances zone expected (Some new) =
-    if expected == 0
-    then put_bundle instances zone new.id new.instance (Some (record { shards = new.shards; number = new.number; state = idle }))
-    else instances
+-- what a row says of its instance
+abbrev pub instance_in : Bucket → Instance
+instance_in row = record { shards = row.shards; over = over_in row }
+
+-- a row names its instance
+abbrev pub with_instance : (ℕ → ℕ → ℕ → Option Instance) → ℕ → Option Bucket → ℕ → ℕ → ℕ → Option Instance
+with_instance instances zone None = instances
+with_instance instances zone (Some row) = put_bundle instances zone row.id row.instance (Some (instance_in row))
 
 -- swaps put instances into rows
 abbrev pub instances_after : (ℕ → ℕ → ℕ → Option Instance) → Op → Reply → ℕ → ℕ → ℕ → Option Instance
-instances_after instances (BucketSwap zone name expected new) Done = with_instance instances zone expected new
+instances_after instances (BucketSwap zone name expected new) Done = with_instance instances zone new
 instances_after instances op reply = instances
 
 -- what an event adds to the facts of containers

@@ -1,7 +1,7 @@
 ghost use Rattle.std.specs.Prelude.{◌≡◌};
 
 use crate::Op;
-use object_words::{Bucket, Changed, EntryPage, Guard, HeadSeen, ShardStats, Why};
+use object_words::{Bucket, BucketNames, Changed, EntryPage, Guard, HeadSeen, ShardStats, Why};
 use rgw_types::Bytes;
 
 /// What an operation is answered.
@@ -12,6 +12,8 @@ pub enum Reply {
     No(Why),
     /// The row of a container.
     Row(Bucket),
+    /// Names of containers.
+    Names(BucketNames),
     /// The tag of a change that was prepared.
     Prepared(Guard),
     Entries(EntryPage),

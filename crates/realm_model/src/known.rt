@@ -4,8 +4,12 @@
 ghost use Rattle.std.specs.Prelude.{◌≡◌, ◌∷◌, [], codes, Some, None};
 ghost use Rattle.rgw_model.specs.declared.slot.Slot.TheVariants as slots;
 ghost use Rattle.object_words.specs.declared.head.SeenSlot.TheVariants.{Live};
-ghost use Rattle.object_words.specs.Keys.{head_key};
+ghost use Rattle.object_words.specs.declared.shard.Fate.TheVariants.{Closed};
+ghost use Rattle.object_words.specs.declared.shard.Hold.TheVariants.{Closing};
+ghost use Rattle.object_words.specs.Keys.{head_key, shard_key};
+ghost use Rattle.object_words.specs.Shards.{new_shard};
 ghost use Rattle.object_words.specs.Entries.{no_entry};
+ghost use Rattle.object_words.specs.Names.{at};
 ghost use Rattle.object_words.specs.Heads.{no_head};
 ghost use Rattle.realm_model.specs.Containers.{entry_in};
 ghost use Rattle.realm_model.specs.Maps.{heads};
@@ -19,6 +23,10 @@ ghost use Rattle.realm_model.specs.OlderCompletionLoses as older;
 ghost use Rattle.realm_model.specs.LateSuggestionIsRefused as late;
 ghost use Rattle.realm_model.specs.NoSpace as no_space;
 ghost use Rattle.realm_model.specs.TailsAreRead as tails;
+ghost use Rattle.realm_model.specs.RowIsChanged as row;
+ghost use Rattle.realm_model.specs.ContainerLifecycle as lifecycle;
+ghost use Rattle.realm_model.specs.CancelledClosing as cancelled;
+ghost use Rattle.realm_model.specs.UnsettledContainer as unsettled;
 
 /// What a writer left that stopped before its end is put right by a check.
 pub fn stopped_writer_is_repaired()
@@ -52,6 +60,45 @@ pub fn older_completion_loses()
     ensures head { (state_of words.usual older.history).heads 1 (head_key 1 words.k)
         ≡ record { version = 11; slot = Live (words.empty 8) (words.stamp 1) } }
     ensures free { (state_of words.usual older.history).free 1 ≡ 16384 }
+{}
+
+/// A container's metadata changes, and pages of names show it.
+pub fn row_is_changed()
+    ensures played { IsPlayed words.usual row.history }
+    ensures row { at ((state_of words.usual row.history).root 1).buckets words.box ≡ Some (row.changed 9 6) }
+    ensures logged { ((state_of words.usual row.history).root 1).log.last ≡ 2 }
+    ensures instance { (world_of words.usual row.history).rows.instances 1 1 1 ≡ Some (record { shards = 1; over = 0 }) }
+{}
+
+/// A container is made and removed; one that has an object is not.
+pub fn container_lifecycle()
+    ensures played { IsPlayed words.usual lifecycle.history }
+    ensures gone { at ((state_of words.usual lifecycle.history).root 1).buckets (codes "e") ≡ None }
+    ensures kept { at ((state_of words.usual lifecycle.history).root 1).buckets words.box
+        ≡ Some (record (words.bucket 1 14 2) { shared = 4; number = 1 }) }
+    ensures instance { (world_of words.usual lifecycle.history).rows.instances 1 1 1 ≡ Some (record { shards = 2; over = 1 }) }
+    ensures shut { (state_of words.usual lifecycle.history).shards 1 (shard_key 16 16 1)
+        ≡ Some (record new_shard { hold = Closing 1; fate = Closed }) }
+    ensures logged { ((state_of words.usual lifecycle.history).root 1).log.last ≡ 3 }
+{}
+
+/// A closing that another actor cancelled is begun anew, and finds an object.
+pub fn cancelled_closing()
+    ensures played { IsPlayed words.usual cancelled.history }
+    ensures row { at ((state_of words.usual cancelled.history).root 1).buckets (codes "e")
+        ≡ Some (record (words.bucket 5 27 2) { shared = 8; number = 2 }) }
+    ensures released { (state_of words.usual cancelled.history).shards 1 (shard_key 5 5 0)
+        ≡ Some (record new_shard { fence = 2 }) }
+    ensures instance { (world_of words.usual cancelled.history).rows.instances 1 5 5 ≡ Some (record { shards = 2; over = 2 }) }
+{}
+
+/// A container that is not empty is not removed: the closing is cleared, no shard is held, and a writer goes on.
+pub fn full_container_is_not_removed()
+    ensures played { IsPlayed words.usual unsettled.history }
+    ensures row { at ((state_of words.usual unsettled.history).root 1).buckets words.box
+        ≡ Some (record (words.bucket 1 12 1) { shared = 3; number = 1 }) }
+    ensures entry { entry_in ((state_of words.usual unsettled.history).shards 1 words.shard) words.k
+        ≡ record { version = 7; revision = 3; row = words.hello_row 0; tags = words.tag 14 120000000 ∷ [] } }
 {}
 
 /// A suggestion is refused where the entry changed since it was seen.

@@ -15,8 +15,9 @@ pub use actor::Actor;
 pub use clock::clock_at;
 pub use event::{Event, Reply};
 pub use known::{
-    expired_tag_is_prepared_again, late_suggestion_is_refused, no_space, older_completion_loses,
-    stopped_writer_is_repaired, tails_are_read,
+    cancelled_closing, container_lifecycle, expired_tag_is_prepared_again,
+    full_container_is_not_removed, late_suggestion_is_refused, no_space, older_completion_loses,
+    row_is_changed, stopped_writer_is_repaired, tails_are_read,
 };
 pub use laws::{
     a_step_adds_its_number, a_tail_is_made_once, an_event_touches_one_object, an_own_event_is_done,
@@ -25,5 +26,8 @@ pub use laws::{
     no_event_lowers_a_number, others_change_no_phase, replies_suit_their_operations,
 };
 pub use op::Op;
-pub use refused::{these_changes_are_refused, these_steps_are_refused, these_tails_are_refused};
+pub use refused::{
+    these_changes_are_refused, these_closings_are_refused, these_others_are_refused,
+    these_rows_are_refused, these_steps_are_refused, these_tails_are_refused,
+};
 pub use settings::Settings;

@@ -21,6 +21,19 @@ pub enum Op {
         expected: u64,
         new: Option<Bucket>,
     },
+    /// Reads at most so many names of an account's containers above a name.
+    AccountPage {
+        zone: u8,
+        account: Text,
+        after: Text,
+        limit: u32,
+    },
+    /// Reads at most so many names of containers above a name.
+    BucketPage {
+        zone: u8,
+        after: Text,
+        limit: u32,
+    },
     /// Makes a shard.
     ShardMake {
         zone: u8,
@@ -68,6 +81,25 @@ pub enum Op {
     },
     /// Reads the header of a shard.
     Stats {
+        zone: u8,
+        key: ShardKey,
+    },
+    /// Closes a shard to changes under a number, where no entry stands in the way: by force only none
+    /// with a change under way, and that at its first name.
+    CloseShard {
+        zone: u8,
+        key: ShardKey,
+        id: u64,
+        force: bool,
+    },
+    /// Takes a hold of a shard away whose number is not above this one.
+    Release {
+        zone: u8,
+        key: ShardKey,
+        id: u64,
+    },
+    /// Takes all entries of a shard away, and closes it for good.
+    Shut {
         zone: u8,
         key: ShardKey,
     },
@@ -122,6 +154,8 @@ impl Op {
         match self {
             Op::BucketRead { zone, .. }
             | Op::BucketSwap { zone, .. }
+            | Op::AccountPage { zone, .. }
+            | Op::BucketPage { zone, .. }
             | Op::ShardMake { zone, .. }
             | Op::Prepare { zone, .. }
             | Op::Complete { zone, .. }
@@ -129,6 +163,9 @@ impl Op {
             | Op::Page { zone, .. }
             | Op::Suggest { zone, .. }
             | Op::Stats { zone, .. }
+            | Op::CloseShard { zone, .. }
+            | Op::Release { zone, .. }
+            | Op::Shut { zone, .. }
             | Op::HeadRead { zone, .. }
             | Op::HeadWrite { zone, .. }
             | Op::TailMake { zone, .. }
@@ -144,6 +181,8 @@ impl Op {
         match self {
             Op::BucketRead { .. } => 1,
             Op::BucketSwap { .. } => 2,
+            Op::AccountPage { .. } => 3,
+            Op::BucketPage { .. } => 4,
             Op::ShardMake { .. } => 7,
             Op::Prepare { .. } => 8,
             Op::Complete { .. } => 9,
@@ -151,6 +190,9 @@ impl Op {
             Op::Page { .. } => 11,
             Op::Suggest { .. } => 12,
             Op::Stats { .. } => 13,
+            Op::CloseShard { .. } => 15,
+            Op::Release { .. } => 16,
+            Op::Shut { .. } => 19,
             Op::HeadRead { .. } => 22,
             Op::HeadWrite { .. } => 23,
             Op::TailMake { .. } => 27,

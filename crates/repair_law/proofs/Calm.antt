@@ -11,6 +11,8 @@ use Rattle.object_words.specs.declared.entry.Tag.{Tag}
 use Rattle.object_words.specs.declared.why.Why.{Why}
 use Rattle.object_words.specs.Entries.{EntryView, entry_of, with_tags, stored_if_newer}
 use Rattle.object_words.specs.Keys.{is_key, put_key, shard_key}
+use Rattle.object_words.specs.declared.shard.Hold.TheVariants.{Closing}
+use Rattle.object_words.specs.HoldCalls.{close_refusal, closed, taken, released, shut_down}
 use Rattle.object_words.specs.Names.{at}
 use Rattle.object_words.specs.Refusals.{unless_refused}
 use Rattle.object_words.specs.Logs.{logged}
@@ -28,24 +30,31 @@ use Rattle.realm_model.specs.Settings.{SettingsView}
 use Rattle.realm_model.specs.States.{State, at_moment, number_next, put_in}
 use Rattle.realm_model.specs.Steps.{is_master, change_at, new_tag, suggest_event_refusal, touch_of, after}
 use Rattle.realm_model.specs.declared.op.Op.{Op}
-use Rattle.realm_model.specs.declared.op.Op.TheVariants.{BucketSwap, ShardMake, Prepare, Complete, Cancel, Suggest}
+use Rattle.realm_model.specs.declared.op.Op.TheVariants.{BucketSwap, ShardMake, Prepare, Complete, Cancel, Suggest, CloseShard, Release, Shut}
 use Rattle.realm_model.proofs.EntryLemmas.{kept_or_none, at-with_entry}
 use Rattle.realm_model.proofs.ObjectLemmas.{number_same, put_in_cases}
 use Rattle.realm_model.proofs.Runs.{touched-clock}
+use Rattle.index_law.specs.Serving.{IsServing}
+use Rattle.index_law.proofs.Closing.{taken_entries}
+use Rattle.index_law.proofs.Served.{serves_here}
 use Rattle.index_law.proofs.EntryLaws.{kept_all}
 use Rattle.index_law.proofs.TagLists.{all_without, all_taken}
 use Rattle.repair_law.specs.Repaired.{tags_in, may_change}
-use Rattle.repair_law.specs.Settled.{prepares}
+use Rattle.repair_law.specs.Settled.{prepares, swaps}
 
--- the operation leaves the row under the name, and prepares no change in the shards that it names
+-- the operation leaves the row under the name, and neither prepares a change in the shards that it names nor closes one
 abbrev pub is_mild : ℕ → List ℕ → Bucket → Op → Bool
 is_mild zone bucket row (BucketSwap z name expected new) = not (z == zone && bytes_eq name bucket)
 is_mild zone bucket row (Prepare z key name) = not (z == zone && has_shard key row)
+is_mild zone bucket row (CloseShard z key id force) = not (z == zone && has_shard key row)
+is_mild zone bucket row (Shut z key) = not (z == zone && has_shard key row)
 is_mild zone bucket row op = true
 
 pub mild_from : (zone : ℕ) (bucket : List ℕ) (row : Bucket) (op : Op) → may_change zone bucket row op ≡ false → is_mild zone bucket row op ≡ true
 mild_from zone bucket row (BucketSwap z name expected new) other = ap not other
 mild_from zone bucket row (Prepare z key name) other = ap not other
+mild_from zone bucket row (CloseShard z key id force) other = ap not other
+mild_from zone bucket row (Shut z key) other = ap not other
 mild_from zone bucket row op other = refl
 
 pub mild_prepares : (zone : ℕ) (bucket : List ℕ) (row : Bucket) (op : Op) → is_mild zone bucket row op ≡ true → prepares zone row op ≡ false
@@ -94,7 +103,20 @@ module _ (zone : ℕ) (bucket : List ℕ) (row : Bucket) where
       put_in_else st.shards z k (change_at (st.shards z k) (λ s. cancelled s name tag)) zone (key_at number) (apart z k number less other)
   shard_stays settings st (Suggest z k name revision seen version shown) other number less =
       put_in_else st.shards z k (change_at (st.shards z k) (λ s. unless_refused (suggest_event_refusal s name revision seen) s (suggested s name revision seen version shown))) zone (key_at number) (apart z k number less other)
+  shard_stays settings st (CloseShard z k id force) other number less =
+      put_in_else st.shards z k (change_at (st.shards z k) (λ s. closed s id force)) zone (key_at number) (apart z k number less other)
+  shard_stays settings st (Release z k id) other number less =
+      put_in_else st.shards z k (change_at (st.shards z k) (λ s. released s id)) zone (key_at number) (apart z k number less other)
+  shard_stays settings st (Shut z k) other number less = put_in_else st.shards z k (change_at (st.shards z k) shut_down) zone (key_at number) (apart z k number less other)
   shard_stays settings st op other number less = refl
+
+  -- and serve where it closes none of them
+  pub serving_stays : (settings : SettingsView) (st : State) (op : Op) → is_mild zone bucket row op ≡ true → (number : ℕ) → number < row.shards → ((s : Shard) → st.shards zone (key_at number) ≡ Some s → IsServing s) → (s : Shard) → (after settings st op).shards zone (key_at number) ≡ Some s → IsServing s
+  serving_stays settings st (CloseShard z k id force) mild number less was s there =
+      was s (sym (put_in_else st.shards z k (change_at (st.shards z k) (λ s. closed s id force)) zone (key_at number) (apart z k number less (not-true _ mild))) ∙ there)
+  serving_stays settings st (Shut z k) mild number less was s there =
+      was s (sym (put_in_else st.shards z k (change_at (st.shards z k) shut_down) zone (key_at number) (apart z k number less (not-true _ mild))) ∙ there)
+  serving_stays settings st op mild number less was s there = serves_here settings st op zone (key_at number) refl was s there
 
   -- ---- the row stays
 
@@ -119,13 +141,19 @@ module _ (zone : ℕ) (bucket : List ℕ) (row : Bucket) where
   other_name name other =
       false_from_ne_true _ (λ tied. both_ways _ other ((bytes_eq-Decides name bucket).1 (sym (same_text bucket name tied))))
 
-  pub row_stays : (settings : SettingsView) (st : State) (op : Op) → is_mild zone bucket row op ≡ true → at ((after settings st op).root zone).buckets bucket ≡ at (st.root zone).buckets bucket
-  row_stays settings st (BucketSwap z name expected new) mild =
-      elim (z == zone) as (λ b. (z == zone) ≡ b → not (b && bytes_eq name bucket) ≡ true → at (cond b (swapped (st.root z) name expected new (is_master z) (number_next st)) (st.root zone)).buckets bucket ≡ at (st.root zone).buckets bucket) [
-        | true ↦ λ same apart. swapped_else (st.root z) name expected new (is_master z) (number_next st) (other_name name (not-true _ apart)) ∙ ap (λ y. at (st.root y).buckets bucket) (number_same z zone same)
+  pub row_left : (settings : SettingsView) (st : State) (op : Op) → swaps zone bucket op ≡ false → at ((after settings st op).root zone).buckets bucket ≡ at (st.root zone).buckets bucket
+  row_left settings st (BucketSwap z name expected new) none =
+      elim (z == zone) as (λ b. (z == zone) ≡ b → (b && bytes_eq name bucket) ≡ false → at (cond b (swapped (st.root z) name expected new (is_master z) (number_next st)) (st.root zone)).buckets bucket ≡ at (st.root zone).buckets bucket) [
+        | true ↦ λ same apart. swapped_else (st.root z) name expected new (is_master z) (number_next st) (other_name name apart) ∙ ap (λ y. at (st.root y).buckets bucket) (number_same z zone same)
         | false ↦ λ other apart. refl
-      ] refl mild
-  row_stays settings st op mild = refl
+      ] refl none
+  row_left settings st op none = refl
+
+  pub row_stays : (settings : SettingsView) (st : State) (op : Op) → is_mild zone bucket row op ≡ true → at ((after settings st op).root zone).buckets bucket ≡ at (st.root zone).buckets bucket
+  row_stays settings st op mild = row_left settings st op (mild_swaps op mild) where
+    mild_swaps : (op : Op) → is_mild zone bucket row op ≡ true → swaps zone bucket op ≡ false
+    mild_swaps (BucketSwap z name expected new) mild = not-true _ mild
+    mild_swaps op mild = refl
 
   -- ---- no operation but a preparation adds a change under way
 
@@ -179,6 +207,15 @@ module _ (zone : ℕ) (bucket : List ℕ) (row : Bucket) where
         (λ s. unless_less (suggest_event_refusal s name revision seen) s (suggested s name revision seen version shown) m
         (unless_less (suggest_refusal s name revision) s (settled s name (tags_due_taken seen (entry_at s name).tags) version shown) m
         (settled_less s name (tags_due_taken seen (entry_at s name).tags) version shown m (all_taken P seen (entry_at s name).tags))))) number all
+    fewer_tags settings st (CloseShard z k id force) none number m less all =
+        at_one st z k (change_at (st.shards z k) (λ s. closed s id force)) m
+        (change_less (st.shards z k) (λ s. closed s id force) m
+        (λ s. unless_less (close_refusal s id force) s (taken s id (Closing id)) m
+        (subst (λ es. AllByRecursion P (entry_of (at es m)).tags) (sym (taken_entries s id))))) number all
+    fewer_tags settings st (Release z k id) none number m less all =
+        at_one st z k (change_at (st.shards z k) (λ s. released s id)) m (change_less (st.shards z k) (λ s. released s id) m (λ s had. had)) number all
+    fewer_tags settings st (Shut z k) none number m less all =
+        at_one st z k (change_at (st.shards z k) shut_down) m (change_less (st.shards z k) shut_down m (λ s had. rw (at-none {X = EntryView} m) tt)) number all
     fewer_tags settings st op none number m less all = all
 
 -- the clock does not fall

@@ -1,11 +1,13 @@
 -- A known history in which a check puts right what a stopped writer left: it meets what the law asks for.
-use Rattle.std.proofs.Common.{◌≡◌, ℕ, zero, suc, ◌≤◌, ◌<◌, true, false, cond, List, [], ◌∷◌, take, drop, length, Some, None, refl, sym, subst, arith}
+use Rattle.std.proofs.Common.{◌≡◌, ℕ, zero, suc, ◌<◌, true, false, cond, List, [], ◌∷◌, take, drop, Some, None, refl, arith}
 use Rattle.std.specs.List.{AllByRecursion, slice_index_or}
 use Rattle.std.specs.Ordering.{eq_by_cmp}
 use Rattle.object_words.specs.Entries.{EntryView, entry_of}
 use Rattle.object_words.specs.Names.{name_cmp, at, none, with_name, without_name, where_name, entries}
+use Rattle.object_words.specs.declared.shard.Hold.TheVariants.{Free}
+use Rattle.object_words.specs.Keys.{shard_key}
+use Rattle.object_words.specs.Shards.{Shard}
 use Rattle.object_words.specs.Rows.{no_row}
-use Rattle.object_words.proofs.KeyLemmas.{same_text}
 use Rattle.realm_model.specs.Histories.{state_of, account_of}
 use Rattle.realm_model.specs.Owns.{own_events, NoneBy}
 use Rattle.realm_model.specs.KnownWords.{usual, box, k, tag, bucket, actor, one_entry, shows, hello}
@@ -18,22 +20,27 @@ use Rattle.repair_law.specs.Repaired.{tags_in, IsOverdue, IsDue, ComeFrom, IsLef
 left_open : EntryView
 left_open = record { version = 0; revision = 1; row = no_row; tags = tag 5 121000000 ∷ [] }
 
-overdue_of : (name : List ℕ) → AllByRecursion (IsOverdue 121000000 name) (entry_of (cond (eq_by_cmp name_cmp name k) (Some left_open) None)).tags
+overdue_of : (name : List ℕ) → AllByRecursion (IsOverdue 121000000) (entry_of (cond (eq_by_cmp name_cmp name k) (Some left_open) None)).tags
 unfolding left_open
 overdue_of name =
-    elim (eq_by_cmp name_cmp name k) as (λ b. eq_by_cmp name_cmp name k ≡ b → AllByRecursion (IsOverdue 121000000 name) (entry_of (cond b (Some left_open) None)).tags) [
-      | true ↦ λ tied. (record { due = omega arith; named = subst (λ n. 1 ≤ length n) (sym (same_text name k tied)) (omega arith) }, tt)
+    elim (eq_by_cmp name_cmp name k) as (λ b. eq_by_cmp name_cmp name k ≡ b → AllByRecursion (IsOverdue 121000000) (entry_of (cond b (Some left_open) None)).tags) [
+      | true ↦ λ tied. (omega arith, tt)
       | false ↦ λ other. tt
     ] refl
 
-overdue : (number : ℕ) (name : List ℕ) → number < 1 → AllByRecursion (IsOverdue 121000000 name) (tags_in (state_of usual (take 12 history)) 1 (bucket 1 3 1) number name)
+overdue : (number : ℕ) (name : List ℕ) → number < 1 → AllByRecursion (IsOverdue 121000000) (tags_in (state_of usual (take 12 history)) 1 (bucket 1 3 1) number name)
 unfolding at none with_name without_name where_name entries left_open
 overdue zero name less = overdue_of name
 overdue (suc n) name less = absurd (omega (arith, less))
 
+free : (number : ℕ) (s : Shard) → number < 1 → (state_of usual (take 12 history)).shards 1 (shard_key (bucket 1 3 1).id (bucket 1 3 1).instance number) ≡ Some s → s.hold ≡ Free
+unfolding at none with_name without_name where_name entries left_open
+free zero s less there = cc
+free (suc n) s less there = absurd (omega (arith, less))
+
 pub is_due : IsDue (state_of usual (take 12 history)) 121000000 1 box (bucket 1 3 1)
 unfolding at none with_name without_name where_name entries
-is_due = record { kept = refl; overdue = overdue }
+is_due = record { kept = refl; overdue = overdue; free = free }
 
 pub none_before : NoneBy (actor 5) (take 12 history)
 none_before = (refl, (refl, (refl, (refl, (refl, (refl, (refl, (refl, (refl, (refl, (refl, (refl, tt))))))))))))

@@ -14,6 +14,9 @@ use Rattle.object_words.specs.Names.{name_cmp, at}
 use Rattle.object_words.specs.Refusals.{fate_refusal}
 use Rattle.object_words.specs.Shards.{Shard}
 use Rattle.object_words.specs.ShardCalls.{page_of}
+use Rattle.object_words.specs.Limits.{is_name}
+use Rattle.rgw_types.specs.declared.pool_key.Key.{Key}
+use Rattle.realm_model.specs.Needs.{object_limit}
 use Rattle.realm_model.specs.Allowed.{page_limit}
 use Rattle.realm_model.specs.Containers.{entry_in}
 use Rattle.realm_model.specs.Settings.{SettingsView, IsSettings}
@@ -23,7 +26,6 @@ use Rattle.realm_model.specs.Worlds.{World}
 use Rattle.realm_model.specs.declared.event.Reply.TheVariants.{Entries}
 use Rattle.realm_model.proofs.ObjectLemmas.{number_same}
 use Rattle.task_repair.specs.Repairs.{Saying, asks_page, is_unsettled, visit_said, PageRead, page_said, IsPageRead, left_on, last_name, place_of, place_behind}
-use Rattle.repair_law.specs.Repaired.{tags_in, IsOverdue}
 use Rattle.repair_law.proofs.Rising.{is_before, Rises, rises_kept, found_passes, page_rises, page_shows, Reaches, page_finds}
 use Rattle.repair_law.proofs.Sayings.{Told, Says, split_says, waits_kept, waits_same, told_before, told_kept}
 use Rattle.repair_law.proofs.Suggested.{KeptAt, entry_there, shard_at, answered}
@@ -49,13 +51,6 @@ pub empty_name : (m : List ℕ) → is_before [] m ≡ false → m ≡ []
 empty_name [] upto = refl
 empty_name (b ∷ bs) upto = absurd cc
 
-pub overdue_empty : (clock : ℕ) (name : List ℕ) (tags : List Tag) → name ≡ [] → AllByRecursion (IsOverdue clock name) tags → tags ≡ []
-overdue_empty clock name [] is all = refl
-overdue_empty clock name (t ∷ ts) is all =
-    let some = (all.0).named in
-    let none = ap (λ (n : List ℕ). length n) is in
-    absurd (omega (arith, some, none))
-
 no_tags : (tags : List Tag) → (length tags == 0) ≡ true → tags ≡ []
 no_tags [] is = refl
 no_tags (t ∷ ts) is = let zero = number_same (length (t ∷ ts)) 0 is in absurd (omega (arith, zero))
@@ -72,6 +67,23 @@ module _ (settings : SettingsView) (good : IsSettings settings) (zone : ℕ) (bu
 
   abbrev pub EmptyNow : World → ℕ → List ℕ → Type 0
   EmptyNow = Empty settings zone bucket row
+
+  -- no shard has an entry under the empty name
+  pub nameless : (w : World) → KeptNow w → (number : ℕ) (m : List ℕ) → m ≡ [] → EmptyNow w number m
+  nameless w k number m is = by_shard (w.state.shards zone key) refl where
+    key : Key
+    key = shard_key row.id row.instance number
+
+    by_entry : (s : Shard) (o : Option EntryView) → w.state.shards zone key ≡ Some s → at s.entries m ≡ o → (entry_of o).tags ≡ []
+    by_entry s None there here = refl
+    by_entry s (Some e) there here =
+        let named = ((k.serve).held zone key s there m e here).named in
+        let bad : false ≡ true = ap (is_name object_limit) (sym is) ∙ named in
+        absurd cc
+
+    by_shard : (o : Option Shard) → w.state.shards zone key ≡ o → (entry_in o m).tags ≡ []
+    by_shard None there = refl
+    by_shard (Some s) there = by_entry s (at s.entries m) there refl
 
   -- the name in the shard of this number stands before the place
   abbrev pub IsPassed : ℕ × List ℕ → ℕ → List ℕ → Type 0
@@ -158,7 +170,7 @@ module _ (settings : SettingsView) (good : IsSettings settings) (zone : ℕ) (bu
           | false ↦ λ other. lower number m within (grind (arith, nat_tests, other, below))
         ] refl
     behind_by true end number m within (inr next) =
-        overdue_empty clock m (tags_in v.state zone row number m) (empty_name m next.1) (kept.overdue number m within)
+        nameless v kept number m (empty_name m next.1)
     behind_by false more number m within (inl below) = lower number m within below
     behind_by false more number m within (inr here) = subst (λ n. EmptyNow v n m) (sym here.0) (reached m (inr here.1))
 

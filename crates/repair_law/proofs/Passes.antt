@@ -23,7 +23,7 @@ use Rattle.repair_law.specs.Repaired.{HasNoTags, IsDue, ComeFrom, IsLeftAlone}
 use Rattle.repair_law.proofs.Sayings.{Told, Says, split_says, told_before, told_kept, says_kept, kept_at_start, says_from}
 use Rattle.repair_law.proofs.Suggested.{KeptAt, shard_at, answered}
 use Rattle.repair_law.proofs.Visits.{Mild, mild_both, mild_visits}
-use Rattle.repair_law.proofs.Pages.{Clear, empty_name, overdue_empty, PagedAll, pages}
+use Rattle.repair_law.proofs.Pages.{Clear, empty_name, nameless, PagedAll, pages}
 
 all_by : {X : Type 0} (P : X → Type 0) (xs : List X) → All P xs → AllByRecursion P xs
 all_by P [] all = tt
@@ -89,7 +89,7 @@ module _ (settings : SettingsView) (good : IsSettings settings) (zone : ℕ) (bu
   -- before the first page no name has been passed but the empty one
   clear_at_start : (w : World) → KeptNow w → Clear settings good zone bucket row clock (0, []) w
   clear_at_start w k number m within (inl below) = absurd (omega (arith, below))
-  clear_at_start w k number m within (inr first) = overdue_empty clock m _ (empty_name m first.1) (k.overdue number m within)
+  clear_at_start w k number m within (inr first) = nameless settings good zone bucket row clock w k number m (empty_name m first.1)
 
   -- the row that was read, no change under way, and none on the pages that stays
   pub record Passed (shown : Bucket) (ps : List PageRead) (v : World) : Type 0 where

@@ -1,9 +1,11 @@
 -- Sayings of one actor, and what the others do between them: from world to world.
-use Rattle.std.proofs.Common.{◌≡◌, ℕ, ◌+◌, ◌≤◌, ◌<◌, true, false, cond, List, [], ◌∷◌, ◌++◌, map, length, Some, refl, sym, ◌∙◌, ap, subst, arith}
+use Rattle.std.proofs.Common.{◌≡◌, ⊎_elim, ℕ, ◌+◌, ◌≤◌, ◌<◌, true, false, cond, List, [], ◌∷◌, ◌++◌, map, length, Some, refl, sym, ◌∙◌, ap, subst, arith}
 use Rattle.std.specs.List.{AllByRecursion}
 use Rattle.object_words.specs.declared.bucket.Bucket.{Bucket}
 use Rattle.object_words.specs.Keys.{shard_key}
 use Rattle.object_words.specs.Names.{at}
+use Rattle.object_words.specs.Shards.{Shard}
+use Rattle.object_words.specs.declared.shard.Fate.TheVariants.{Serving}
 use Rattle.realm_model.specs.Settings.{SettingsView, IsSettings}
 use Rattle.realm_model.specs.States.{at_moment, clock_at}
 use Rattle.realm_model.specs.Steps.{touch_of}
@@ -16,13 +18,14 @@ use Rattle.realm_model.proofs.Runs.{run-append, legal_front, legal_back, touched
 use Rattle.index_law.specs.Tables.{heads_of, rows_of}
 use Rattle.index_law.specs.Invariants.{IndexHolds}
 use Rattle.index_law.specs.Stamps.{StampsGiven}
-use Rattle.index_law.specs.Serving.{ShardsServe}
+use Rattle.index_law.specs.Serving.{IsServing, ShardsServe}
+use Rattle.index_law.proofs.HoldEvents.{holds_in}
 use Rattle.index_law.proofs.Keeping.{keeps, holds}
 use Rattle.index_law.proofs.Stamping.{given_next, stamps_given}
 use Rattle.index_law.proofs.Shards.{serves_next, shards_serve}
 use Rattle.task_repair.specs.Repairs.{Saying, said}
 use Rattle.repair_law.specs.Repaired.{tags_in, IsOverdue, IsDue, ComeFrom, may_change, IsLeftAlone}
-use Rattle.repair_law.proofs.Calm.{is_mild, mild_from, mild_prepares, shard_stays, row_stays, fewer_tags}
+use Rattle.repair_law.proofs.Calm.{is_mild, mild_from, mild_prepares, shard_stays, serving_stays, row_stays, fewer_tags}
 
 module _ (settings : SettingsView) (zone : ℕ) (bucket : List ℕ) (row : Bucket) (clock : ℕ) where
   -- ---- between sayings
@@ -148,7 +151,8 @@ module _ (settings : SettingsView) (good : IsSettings settings) (zone : ℕ) (bu
     pub stamps : StampsGiven (heads_of w.state.heads) w.stamps.slots
     pub serve : ShardsServe w.state.shards (rows_of w.state.root) w.phases
     pub row_is : at (w.state.root zone).buckets bucket ≡ Some row
-    pub overdue : (number : ℕ) (name : List ℕ) → number < row.shards → AllByRecursion (IsOverdue clock name) (tags_in w.state zone row number name)
+    pub overdue : (number : ℕ) (name : List ℕ) → number < row.shards → AllByRecursion (IsOverdue clock) (tags_in w.state zone row number name)
+    pub free : (number : ℕ) → number < row.shards → (s : Shard) → w.state.shards zone (shard_key row.id row.instance number) ≡ Some s → IsServing s
 
   pub kept_next : (w : World) (e : Event) → IsNext settings w e → is_mild zone bucket row e.op ≡ true → Kept w → Kept (happens settings w e)
   kept_next w e next mild k = record {
@@ -156,7 +160,8 @@ module _ (settings : SettingsView) (good : IsSettings settings) (zone : ℕ) (bu
     stamps = given_next settings w e k.index k.stamps next;
     serve = serves_next settings w e k.serve next;
     row_is = row_stays zone bucket row settings (at_moment w.state e.moment) e.op mild ∙ k.row_is;
-    overdue = λ number name less. fewer_tags zone bucket row (IsOverdue clock name) settings (at_moment w.state e.moment) e.op (mild_prepares zone bucket row e.op mild) number name less (k.overdue number name less);
+    overdue = λ number name less. fewer_tags zone bucket row (IsOverdue clock) settings (at_moment w.state e.moment) e.op (mild_prepares zone bucket row e.op mild) number name less (k.overdue number name less);
+    free = λ number less. serving_stays zone bucket row settings (at_moment w.state e.moment) e.op mild number less (k.free number less);
   }
 
   -- the shards of the row are the same
@@ -203,7 +208,17 @@ kept_at_start settings good zone bucket row clock before during legal due =
       serve = shards_serve settings before front;
       row_is = due.kept;
       overdue = due.overdue;
+      free = λ number less s there. record { fate = serves number s there; hold = due.free number s less there };
     }
+  where
+    w : World
+    w = world_of settings before
+
+    -- no row names a shard that was shut
+    serves : (number : ℕ) (s : Shard) → w.state.shards zone (shard_key row.id row.instance number) ≡ Some s → s.fate ≡ Serving
+    serves number s there =
+        ⊎_elim (λ is. is) (λ shut. absurd (shut.unnamed bucket row due.kept refl refl))
+        ((holds_in settings before good (legal_front settings (start settings) before during legal)).fates zone (shard_key row.id row.instance number) s there)
 
 -- the sayings of an actor that made no event before
 pub says_from : (settings : SettingsView) (zone : ℕ) (bucket : List ℕ) (row : Bucket) (clock : ℕ) (actor : ActorId) (before during : List Event) → Legal settings (before ++ during) → NoneBy actor before → IsLeftAlone actor zone bucket row during

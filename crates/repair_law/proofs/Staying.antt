@@ -15,13 +15,13 @@ use Rattle.index_law.specs.Tables.{IsPlaced}
 use Rattle.index_law.specs.Serving.{IsHeld}
 use Rattle.index_law.proofs.Shards.{shards_serve}
 use Rattle.object_words.proofs.KeyLemmas.{number_itself}
-use Rattle.realm_model.specs.Containers.{with_id, row_at_home, row_in, entry_in, entry_of_name, is_settled}
+use Rattle.realm_model.specs.Containers.{with_id, row_at_home, row_in, is_standing, entry_in, entry_of_name, is_settled}
 use Rattle.realm_model.specs.Settings.{SettingsView, IsSettings}
 use Rattle.realm_model.specs.Worlds.{World, start, happens}
 use Rattle.realm_model.specs.Histories.{run, world_of, state_of, Legal}
 use Rattle.realm_model.specs.declared.event.Event.{Event}
 use Rattle.realm_model.proofs.Runs.{run-append}
-use Rattle.index_law.proofs.Consequences.{row_is_of, shown, listed}
+use Rattle.index_law.proofs.Consequences.{row_is_of, row_has_shards, shown, listed}
 use Rattle.index_law.proofs.Keeping.{holds}
 use Rattle.realm_law.specs.Totals.{IsAtRest}
 use Rattle.realm_law.proofs.Counting.{objects_counted, bytes_shown}
@@ -69,13 +69,13 @@ module _ (settings : SettingsView) (history : List Event) (good : IsSettings set
       let one : p.instance ≡ n.instance = cc in
       sym (ap number_of p.key_is ∙ ap (λ i. shard_of name i.shards) one ∙ ap (shard_of name) n.shards_are)
 
-  blank_entry : (e : EntryView) → IsHeld e → e ≡ no_entry → ⊥
+  blank_entry : (e : EntryView) → IsHeld name e → e ≡ no_entry → ⊥
   blank_entry e held none = let revision = held.revision in let zero = ap (λ (x : EntryView). x.revision) none in absurd (omega (arith, revision, zero))
 
   found_once : (s : Shard) → w.state.shards zone key ≡ Some s → shard_of name row.shards ≢ number → (o : Option EntryView) → at s.entries name ≡ o → o ≡ None
   found_once s there other None here = refl
   found_once s there other (Some e) here =
-      let held = ((shards_serve settings history legal).serving zone key s there).held name e here in
+      let held = (shards_serve settings history legal).held zone key s there name e here in
       absurd (
       ⊎_elim (λ none. blank_entry e held (sym (ap (λ o. entry_in o name) there ∙ ap entry_of here) ∙ none)) (λ placed. other (placed_there placed))
       ((holds settings history good legal).tags_of_prepare.held zone key name))
@@ -87,15 +87,16 @@ module _ (settings : SettingsView) (history : List Event) (good : IsSettings set
         | Some s ↦ λ there. found_once s there other (at s.entries name) refl
       ] refl
 
-pub settled_at : (settings : SettingsView) (history : List Event) (zone container : ℕ) (row : Bucket) → IsSettings settings → Legal settings history → row_in (world_of settings history).rows (state_of settings history) zone container ≡ Some row → 1 ≤ row.shards
-    → HasNoTags (state_of settings history) zone row → IsSettled settings history zone container row
-settled_at settings history zone container row good legal is some none =
+pub settled_at : (settings : SettingsView) (history : List Event) (zone container : ℕ) (row : Bucket) → IsSettings settings → Legal settings history → row_in (world_of settings history).rows (state_of settings history) zone container ≡ Some row
+    → is_standing (world_of settings history).rows (state_of settings history) container ≡ true → HasNoTags (state_of settings history) zone row → IsSettled settings history zone container row
+settled_at settings history zone container row good legal is stands none =
+    let some = row_has_shards settings history zone container row good legal is in
     let settled : (name : List ℕ) → is_settled (entry_of_name (state_of settings history) zone row name) ≡ true =
     λ name. ap (λ (tags : List Tag). length tags == 0) (none (shard_of name row.shards) name (within row some name)) in
-    let rests : IsAtRest (world_of settings history) zone container row = record { row_is = is; some = some; settled = settled } in
+    let rests : IsAtRest (world_of settings history) zone container row = record { row_is = is; stands = stands; settled = settled } in
     record {
-      shown = λ name. shown settings history zone container name row good legal is (settled name);
-      listed = λ name. listed settings history zone container name row good legal is (settled name);
+      shown = λ name. shown settings history zone container name row good legal is stands (settled name);
+      listed = λ name. listed settings history zone container name row good legal is stands (settled name);
       once = once settings history good legal zone container row is;
       objects = objects_counted settings history zone container row good legal rests;
       bytes = bytes_shown settings history zone container row good legal rests;

@@ -44,15 +44,15 @@ use Rattle.repair_law.proofs.Sayings.{Told, Kept, told_before, waits_same}
 
 -- ---- changes that are overdue
 
-module _ (clock moment : ℕ) (name : List ℕ) (late : clock ≤ moment) where
-  due_now : (t : Tag) → IsOverdue clock name t → is_due moment t ≡ true
-  due_now t over = let due = over.due in grind (arith, nat_tests, due, late)
+module _ (clock moment : ℕ) (late : clock ≤ moment) where
+  due_now : (t : Tag) → IsOverdue clock t → is_due moment t ≡ true
+  due_now t due = grind (arith, nat_tests, due, late)
 
-  pub some_due : (tags : List Tag) → AllByRecursion (IsOverdue clock name) tags → not (length tags == 0) ≡ true → has_due moment tags ≡ true
+  pub some_due : (tags : List Tag) → AllByRecursion (IsOverdue clock) tags → not (length tags == 0) ≡ true → has_due moment tags ≡ true
   some_due [] over some = cc
   some_due (t ∷ ts) over some = rw (due_now t over.0) refl
 
-  pub all_taken_away : (tags : List Tag) → AllByRecursion (IsOverdue clock name) tags → tags_due_taken moment tags ≡ []
+  pub all_taken_away : (tags : List Tag) → AllByRecursion (IsOverdue clock) tags → tags_due_taken moment tags ≡ []
   all_taken_away [] over = refl
   all_taken_away (t ∷ ts) over =
       ap (λ b. cond (not b) (t ∷ tags_due_taken moment ts) (tags_due_taken moment ts)) (due_now t over.0) ∙ all_taken_away ts over.1
@@ -100,8 +100,8 @@ module _ (settings : SettingsView) (good : IsSettings settings) (zone : ℕ) (bu
 
   pub shard_at : (w : World) (number : ℕ) → KeptAt w → number < row.shards → ShardAt w number
   shard_at w number k less =
-      let m = k.serve.of_rows zone bucket row number k.row_is less in
-      record { shard = m.shard; there = m.there; serving = k.serve.serving zone (key_at number) m.shard m.there }
+      let m = k.serve.of_rows zone bucket row k.row_is number less in
+      record { shard = m.shard; there = m.there; serving = k.free number less m.shard m.there }
 
   -- what was told is the answer of the step
   pub answered : (s : Saying) (w v : World) (t : Told settings zone bucket row clock s w v) → s.1 ≡ reply_of settings (at_moment (t.before).state (t.e).moment) s.0
@@ -202,12 +202,12 @@ module _ (settings : SettingsView) (good : IsSettings settings) (zone : ℕ) (bu
       let same = waits_same settings good zone bucket row clock w u t.waits in
       let x = shard_at u shard b less in
       let at_u : entry_at x.shard e.0 ≡ e.1 = ap (λ o. entry_in o e.0) (sym x.there ∙ same shard less) ∙ is in
-      let over = subst (λ (y : EntryView). AllByRecursion (IsOverdue clock e.0) y.tags) is (k.overdue shard e.0 less) in
-      let due = some_due clock moment e.0 late (e.1).tags over some in
+      let over = subst (λ (y : EntryView). AllByRecursion (IsOverdue clock) y.tags) is (k.overdue shard e.0 less) in
+      let due = some_due clock moment late (e.1).tags over some in
       let done : suggest_event_refusal x.shard e.0 (e.1).revision moment ≡ None =
       subst (λ (y : EntryView). suggest_event_refusal x.shard e.0 y.revision moment ≡ None) at_u
       (not_refused x.shard e.0 moment x.serving (subst (λ (y : EntryView). has_due moment y.tags ≡ true) (sym at_u) due)) in
-      let taken = ap (λ (y : EntryView). tags_due_taken moment y.tags) at_u ∙ all_taken_away clock moment e.0 late (e.1).tags over in
+      let taken = ap (λ (y : EntryView). tags_due_taken moment y.tags) at_u ∙ all_taken_away clock moment late (e.1).tags over in
       let op = asks_suggest zone row shard moment e head in
       let state : v.state ≡ after settings st op = ap (λ (y : World). y.state) (sym t.there) ∙ ap (λ o. after settings st o) t.op_is in
       let told : reply ≡ reply_of settings st op = answered (op, reply) w v t in (

@@ -118,14 +118,14 @@ module _ (settings : SettingsView) (good : IsSettings settings) (zone : ℕ) (bu
       let u = says.0 in
       let done = suggest_done settings good zone bucket row clock shard moment e head reply w u says.1 k less late is some in
       let same = waits_same settings good zone bucket row clock u v says.2 in
-      let over = subst (λ (y : EntryView). AllByRecursion (IsOverdue clock e.0) y.tags) is (k.overdue shard e.0 less) in
+      let over = subst (λ (y : EntryView). AllByRecursion (IsOverdue clock) y.tags) is (k.overdue shard e.0 less) in
       record {
         kept = waits_kept settings good zone bucket row clock u v says.2 (told_kept settings good zone bucket row clock (asks_suggest zone row shard moment e head, reply) w u says.1 refl k);
         goes = record {
           none = ap (λ o. (entry_in o e.0).tags) (same shard less) ∙ (done.1).none;
           others = λ number m within other. ap (λ o. entry_in o m) (same number within) ∙ (done.1).others number m within other;
         };
-        left = ap (λ r. length (tags_left moment (e.1).tags (Some r))) done.0 ∙ ap length (all_taken_away clock moment e.0 late (e.1).tags over);
+        left = ap (λ r. length (tags_left moment (e.1).tags (Some r))) done.0 ∙ ap length (all_taken_away clock moment late (e.1).tags over);
       }
 
   visit : (shard moment : ℕ) (x : Visit) (w v : World) → shard < row.shards → clock ≤ moment → KeptNow w → entry_now w shard x.entry.0 ≡ x.entry.1 → is_unsettled x.entry ≡ true → is_some x.offer ≡ is_due_visit moment x
@@ -136,8 +136,8 @@ module _ (settings : SettingsView) (good : IsSettings settings) (zone : ℕ) (bu
       let read : Saying = (HeadRead zone row.id e.0, head_reply x.head x.at) in
       let same = told_same read w u says.1 refl in
       let after = told_kept settings good zone bucket row clock read w u says.1 refl k in
-      let over = subst (λ (y : EntryView). AllByRecursion (IsOverdue clock e.0) y.tags) is (k.overdue shard e.0 less) in
-      let due = some_due clock moment e.0 late (e.1).tags over some in
+      let over = subst (λ (y : EntryView). AllByRecursion (IsOverdue clock) y.tags) is (k.overdue shard e.0 less) in
+      let due = some_due clock moment late (e.1).tags over some in
       let may = head_stands settings good zone bucket row clock e.0 x.head x.at w u says.1 k in
       let offer : is_some x.offer ≡ true = made ∙ rw (due, may) refl in
       let seen = offered shard moment e x.head x.offer u v less late after (ap (λ o. entry_in o e.0) (same shard less) ∙ is) some offer says.2 in

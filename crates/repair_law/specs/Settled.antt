@@ -1,6 +1,6 @@
 -- What is shown of a container that is settled: each name is listed and counted as its head (developer documents of the
 -- bucket index: pending operations).
-use Rattle.std.specs.Prelude.{◌≡◌, ◌≢◌, ℕ, ◌==◌, ◌&&◌, Bool, false, min, List, None, is_some}
+use Rattle.std.specs.Prelude.{◌≡◌, ◌≢◌, ℕ, ◌==◌, ◌&&◌, Bool, false, min, bytes_eq, List, None, is_some}
 use Rattle.std.specs.List.{AllByRecursion}
 use Rattle.object_words.specs.declared.bucket.Bucket.{Bucket}
 use Rattle.object_words.specs.Hashes.{shard_of}
@@ -16,7 +16,7 @@ use Rattle.realm_model.specs.Maps.{slot_at, heads}
 use Rattle.realm_model.specs.Rises.{found_in}
 use Rattle.realm_model.specs.Settings.{SettingsView}
 use Rattle.realm_model.specs.declared.op.Op.{Op}
-use Rattle.realm_model.specs.declared.op.Op.TheVariants.{Prepare}
+use Rattle.realm_model.specs.declared.op.Op.TheVariants.{BucketSwap, Prepare}
 use Rattle.realm_model.specs.declared.event.Event.{Event}
 use Rattle.realm_law.specs.Totals.{over_shards}
 
@@ -28,6 +28,15 @@ prepares zone row op = false
 -- none of the events prepares a change in the shards that the row names
 abbrev pub NonePrepares : ℕ → Bucket → List Event → Type 0
 NonePrepares zone row events = AllByRecursion (λ e. prepares zone row e.op ≡ false) events
+
+-- the operation swaps the row under the name
+abbrev pub swaps : ℕ → List ℕ → Op → Bool
+swaps zone bucket (BucketSwap z name expected new) = z == zone && bytes_eq name bucket
+swaps zone bucket op = false
+
+-- none of the events does
+abbrev pub NoneSwaps : ℕ → List ℕ → List Event → Type 0
+NoneSwaps zone bucket events = AllByRecursion (λ e. swaps zone bucket e.op ≡ false) events
 
 -- Each name is listed as its head: its entry shows the slot that the container has under it, is there exactly where that is
 -- live, and is in no other shard. And each is counted as its head: the headers of the shards have together as many objects

@@ -4,6 +4,8 @@ use Rattle.std.proofs.KnownBytes.{Appends-nil}
 use Rattle.std.specs.Io.KnownBytes.{Appends}
 use Rattle.http_chunks.specs.declared.body.BodyEnd.{BodyEnd}
 use Rattle.http_model.specs.declared.reply.ReplyForm.{ReplyForm}
+use Rattle.http_intake.specs.Intake.{IntakeState}
+use Rattle.realm_model.specs.Doors.{DoorView}
 use Rattle.realm_model.specs.Histories.{Legal}
 use Rattle.realm_model.specs.declared.event.Event.{Event}
 use Rattle.swift_requests.specs.declared.asked.Asked.{Asked}
@@ -11,16 +13,17 @@ use Rattle.swift_requests.specs.declared.body.BodyUse.TheVariants.{Dropped}
 use Rattle.task_words.specs.declared.outcome.Outcome.{Outcome}
 use Rattle.task_words.specs.declared.outcome.Outcome.TheVariants.{BodyFailed}
 use Rattle.call_words.specs.Bodies.{broken_off, IsWrong}
-use Rattle.call_words.specs.Calls.{task, text_by}
+use Rattle.call_words.specs.Calls.{task, text_by, body_at}
 use Rattle.call_words.specs.Texts.{broken_text}
 use Rattle.call_service.specs.Bodies.{BreaksIn}
-use Rattle.call_service.specs.Serving.{Site, Side, is_by_end, LeavesText, BearsOut, form_at, IsServed, IsStopped}
+use Rattle.call_service.specs.Serving.{Site, Side, is_by_end, LeavesText, BearsOut, BearsOutSoFar, form_at, IsReplied, IsServed, IsStopped}
 use Rattle.door_moments.specs.Acts.{Asks}
 use Rattle.call_service.specs.declared.fault.ServeFault.{ServeFault}
 use Rattle.call_service.specs.declared.fault.ServeFault.TheVariants as faults
 use Rattle.call_service.specs.declared.served.Served.{Served}
 use Rattle.call_service.specs.declared.served.Served.TheVariants as services
 use Rattle.door_moments.proofs.Asking.{untold_asks, both_ask}
+use Rattle.call_service.proofs.Passing.{fate_come}
 use Rattle.call_service.proofs.Replying.{any_actor, broken_replied, broken_stops}
 use Rattle.request_service.specs.Requests.{IsUnfed, text_at}
 use Rattle.request_service.specs.Early.{is_by_row, early_end, early_text, AsksEarly, early_served, EndsEarly, LeavesEarly}
@@ -108,9 +111,17 @@ ends_so (Some outcome) = by_test (is_by_row outcome) refl
     by_test true is = inr (ap is_by_row (row_ends outcome is) ∙ is)
     by_test false is = inl (ap (λ b. cond b outcome BodyFailed) is)
 
+-- the body broke off for that cause behind these bytes, and what the door tells bears out that outcome, unless there was no memory
+pub record BreaksEarly (tells : Type 0) (site : Site) (asked : Asked) (why : BodyEnd) (broken : Bool) (outcome : Outcome) (old new : IntakeState) (before after : Option (List ℕ)) (e : DoorView) : Type 0 where
+  pub wrong : IsWrong why
+  pub came : List ℕ
+  pub breaks : BreaksIn old before after why came
+  pub right : broken ≡ false → tells → BearsOut site asked (broken_off why) came outcome [] e
+  pub so_far : tells → BearsOutSoFar site asked (body_at (broken_off why) came) e
+
 module _ (tells alone : Type 0) (site : Site) (form : ReplyForm) (asked : Asked) (found : List Event) (x y : Side) (told : Option (List ℕ))
-    (asks : Asks tells alone site.settings false x.door y.door x.ends.told told) (legal : tells → Legal site.settings y.door.seen)
-    (why : BodyEnd) (wrong : IsWrong why) (broken_in : BreaksIn x.intake x.ends.left y.ends.left why) where
+    (asks : Asks tells alone site.settings false x.door y.door x.ends.told told) (legal : tells → Legal site.settings y.door.seen) (sound : (x.intake).failed ≡ None)
+    (why : BodyEnd) (broken : Bool) (ended : Option Outcome) (b : BreaksEarly tells site asked why broken (early_end ended) x.intake y.intake x.ends.left y.ends.left y.door) where
   asked_so : (o : Outcome) → (o ≡ BodyFailed) ⊎ (is_by_row o ≡ true) → AsksEarly o told y.ends.told → Asks tells alone site.settings (is_by_end o) x.door y.door x.ends.told y.ends.told
   asked_so o (inl failed) early =
       let once = subst (λ q. AsksEarly q told y.ends.told) failed early in
@@ -126,32 +137,45 @@ module _ (tells alone : Type 0) (site : Site) (form : ReplyForm) (asked : Asked)
       untold o by_row early = early
 
   abbrev Bears : Outcome → Type 0
-  Bears o = tells → BearsOut site asked (broken_off why) [] o [] y.door
+  Bears o = tells → BearsOut site asked (broken_off why) b.came o [] y.door
 
   text_of_any : (o : Outcome) → early_text form asked why o ≡ text_by (form_at form (broken_off why)) asked (broken_off why) (task x.door.count o) []
   text_of_any o = any_actor (form_at form (broken_off why)) asked (broken_off why) o [] 0 x.door.count
+
+  abbrev is_replied : (o : Outcome) → Asks tells alone site.settings (is_by_end o) x.door y.door x.ends.told y.ends.told → Bears o → Appends x.ends.taken y.ends.taken (early_text form asked why o) → IsReplied tells alone site form asked (broken_off why) x y
+  is_replied o all right written =
+      broken_replied tells alone site form asked Dropped found x y why b.wrong b.came b.breaks sound o all right b.so_far (subst (Appends x.ends.taken y.ends.taken) (text_of_any o) written)
 
   served_at : (o : Outcome) (served : Served) → (o ≡ BodyFailed) ⊎ (is_by_row o ≡ true) → Bears o → served ≡ early_served o → AsksEarly o told y.ends.told
       → Appends x.ends.taken y.ends.taken (early_text form asked why o) → IsServed tells alone site form asked Dropped x y served
   served_at o served (inl failed) right is early written =
       let all = asked_so o (inl failed) early in
       subst (IsServed tells alone site form asked Dropped x y) (sym (is ∙ ap early_served failed))
-      (why, wrong, broken_replied tells alone site form asked Dropped found x y why wrong wrong broken_in o all right (subst (Appends x.ends.taken y.ends.taken) (text_of_any o) written), failed)
+      (why, b.wrong, is_replied o all right written, failed)
   served_at o served (inr by_row) right is early written =
       let all = asked_so o (inr by_row) early in
       subst (IsServed tells alone site form asked Dropped x y) (sym (is ∙ row_served o by_row))
-      (broken_off why, wrong, refl, broken_replied tells alone site form asked Dropped found x y why wrong wrong broken_in o all right (subst (Appends x.ends.taken y.ends.taken) (text_of_any o) written), λ failed. let clash : false ≡ true = sym (ap is_by_row failed) ∙ by_row in cc)
+      (broken_off why, b.wrong, refl, is_replied o all right written, λ failed. let clash : false ≡ true = sym (ap is_by_row failed) ∙ by_row in cc)
 
   -- it was replied
-  pub served_early : (broken : Bool) (ended : Option Outcome) (served : Served) → (broken ≡ false → Bears (early_end ended)) → EndsEarly form asked why broken (early_end ended) x.ends.taken y.ends.taken told y.ends.told served → IsServed tells alone site form asked Dropped x y served
-  served_early broken ended served right early =
-      served_at (early_end ended) served (ends_so ended) (right early.going) early.served_so early.asks early.written
+  pub served_early : (served : Served) → EndsEarly form asked why broken (early_end ended) x.ends.taken y.ends.taken told y.ends.told served → IsServed tells alone site form asked Dropped x y served
+  served_early served early =
+      served_at (early_end ended) served (ends_so ended) (b.right early.going) early.served_so early.asks early.written
 
   -- or not, or in part
-  pub stops_early : (broken : Bool) (ended : Option Outcome) (fault : ServeFault) → (broken ≡ false → Bears (early_end ended)) → LeavesEarly form asked why broken (early_end ended) x.ends.taken y.ends.taken told y.ends.told fault → IsStopped tells alone site form asked Dropped found x y fault
-  stops_early broken ended fault right (inl wants) =
+  pub stops_early : (fault : ServeFault) → LeavesEarly form asked why broken (early_end ended) x.ends.taken y.ends.taken told y.ends.told fault → IsStopped tells alone site form asked Dropped found x y fault
+  stops_early fault (inl wants) =
       subst (IsStopped tells alone site form asked Dropped found x y) (sym wants.memory)
-      (inl (inr (why, wrong, broken_in), false, record { unwritten = wants.unwritten; asks = subst (Asks tells alone site.settings false x.door y.door x.ends.told) (sym wants.untold) asks }))
-  stops_early broken ended fault right (inr part) =
-      broken_stops tells alone site form asked Dropped found x y why wrong wrong broken_in (early_end ended) (asked_so (early_end ended) (ends_so ended) part.asks) (right part.going) fault
+      (inl (
+        body_at (broken_off why) b.came,
+        fate_come Dropped (broken_off why) x.intake y.intake x.ends.left y.ends.left b.came b.wrong sound b.breaks,
+        false,
+        record {
+          unwritten = wants.unwritten;
+          asks = subst (Asks tells alone site.settings false x.door y.door x.ends.told) (sym wants.untold) asks;
+          so_far = b.so_far;
+        },
+      ))
+  stops_early fault (inr part) =
+      broken_stops tells alone site form asked Dropped found x y why b.wrong b.came b.breaks sound (early_end ended) (asked_so (early_end ended) (ends_so ended) part.asks) (b.right part.going) b.so_far fault
       (subst (λ text. LeavesText x.ends.taken y.ends.taken text fault) (text_of_any (early_end ended)) part.leaves)

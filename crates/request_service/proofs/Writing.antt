@@ -13,7 +13,8 @@ use Rattle.task_words.specs.declared.outcome.Outcome.TheVariants.{Done, LateRead
 use Rattle.task_words.specs.declared.reply.MapReply.{MapReply}
 use Rattle.call_words.specs.Bodies.{read_whole}
 use Rattle.call_words.specs.Calls.{task, text_by}
-use Rattle.call_service.specs.Serving.{Site, AppendsFront, BearsOut}
+use Rattle.task_words.specs.Outcomes.{Body}
+use Rattle.call_service.specs.Serving.{Site, AppendsFront, BearsOut, BearsOutSoFar}
 use Rattle.call_service.specs.Replying.{Replies, IsPartly}
 use Rattle.call_service.proofs.Fronts.{whole_front, front_longer, front_behind}
 use Rattle.call_service.proofs.Replying.{any_actor}
@@ -82,10 +83,10 @@ module _ (tells : Type 0) (site : Site) (form : ReplyForm) (asked : Asked) where
   }
 
   -- nothing was written, or a front of the reply
-  pub partly : (d : DoorView) (shown : Option MapReply) (brought whole : List ℕ) (begun : Bool) (before now : Option (List ℕ)) → (tells → (reply : MapReply) → shown ≡ Some reply → ShowsFront site asked reply brought whole d)
+  pub partly : (d : DoorView) (shown : Option MapReply) (brought whole : List ℕ) (begun : Bool) (before now : Option (List ℕ)) → (tells → (body : Body) → BearsOutSoFar site asked body d) → (tells → (reply : MapReply) → shown ≡ Some reply → ShowsFront site asked reply brought whole d)
       → HasWritten tells form asked shown brought begun before now → IsPartly tells site form asked d before now
-  partly d shown brought whole false before now fronts w = inl w.0
-  partly d shown brought whole true before now fronts w = inr (begun_in_part d shown brought whole before now fronts (begun_front shown brought before now w))
+  partly d shown brought whole false before now so_far fronts w = inl (w.0, so_far)
+  partly d shown brought whole true before now so_far fronts w = inr (begun_in_part d shown brought whole before now fronts (begun_front shown brought before now w))
 
   -- it is the same where the same is told
   pub replies_at : (d e : DoorView) (grown : List ℕ → Type 0) → (tells → e ≡ d) → Replies tells site form asked d grown → Replies tells site form asked e grown
@@ -98,7 +99,7 @@ module _ (tells : Type 0) (site : Site) (form : ReplyForm) (asked : Asked) where
   }
 
   pub partly_at : (d e : DoorView) (before now : Option (List ℕ)) → (tells → e ≡ d) → IsPartly tells site form asked d before now → IsPartly tells site form asked e before now
-  partly_at d e before now same (inl none) = inl none
+  partly_at d e before now same (inl none) = inl (none.0, λ is body. subst (BearsOutSoFar site asked body) (sym (same is)) (none.1 is body))
   partly_at d e before now same (inr part) = inr (replies_at d e (AppendsFront before now) same part)
 
   -- nothing more was written

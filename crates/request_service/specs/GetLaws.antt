@@ -17,7 +17,7 @@ use Rattle.task_words.specs.declared.reply.MapReply.{MapReply}
 use Rattle.task_words.specs.declared.reply.MapReply.TheVariants.{Shown, Same, Refused}
 use Rattle.task_words.specs.declared.reply.Refusal.TheVariants.{Unauthorized, Denied, NoContainer, OtherEtag}
 use Rattle.task_words.specs.Answers.{span_of}
-use Rattle.task_words.specs.Outcomes.{IsShown, IsGetOutcome}
+use Rattle.task_words.specs.Outcomes.{Body, IsShown, IsGetOutcome}
 use Rattle.task_get.specs.declared.request.GetRequest.{GetRequest}
 use Rattle.task_get.specs.declared.stage.Stage.{Stage}
 use Rattle.task_get.specs.declared.stage.Stage.TheVariants.{Look, Open, Tails, Ended, Late}
@@ -32,11 +32,11 @@ use Rattle.call_words.specs.Calls.{IsBorneOut}
 use Rattle.call_words.specs.Events.{AreOfGet}
 use Rattle.call_words.specs.Texts.{told_reply, HasReply}
 use Rattle.call_words.proofs.Fates.{broken_has_reply}
-use Rattle.call_service.specs.Serving.{BearsOut, is_by_end}
+use Rattle.call_service.specs.Serving.{BearsOut, BearsOutSoFar, IsNew, is_by_end}
 use Rattle.request_service.specs.Early.{early_end}
 use Rattle.request_service.specs.Gets.{brought_at, whole_by, whole_at}
 use Rattle.request_service.specs.Requests.{Question, site_of, HasBytes, MayEnd, GoesOn, EndsSo, ShowsFront}
-use Rattle.request_service.specs.OwnReads.{means_reads, stage_reads, misses_stripe}
+use Rattle.request_service.specs.OwnReads.{means_reads, stage_reads}
 
 abbrev asked_get : GetCommand → Asked
 asked_get c = Unfed (Get c)
@@ -174,7 +174,7 @@ stage_right r (Ended end given) settings d outcome sound fits is = absurd sound
 stage_right r (Late x (LateRead read_at clock)) settings d outcome sound fits is =
     let same : LateRead read_at clock ≡ outcome = cc in
     subst (EndsSo (site_of settings (asks r)) (asked_get r.get) (brought_at r d) d) same
-    (misses_stripe r read_at clock (account_at settings d) (events_at d) fits.0)
+    (fits.0.0, fits.0.1)
 stage_right r (Late x end) settings d outcome sound fits is = absurd sound
 stage_right r stage settings d outcome sound fits is = cc
 
@@ -182,11 +182,14 @@ pub right : (t : GetTask) (settings : SettingsView) (d : DoorView) (outcome : Ou
     → EndsSo (site_of settings (asks (request_of t))) (asked_get (request_of t).get) (brought_at (request_of t) d) d outcome
 right t settings d outcome sound fits is = stage_right (request_of t) (stage_of t) settings d outcome sound fits.stage is
 
+pub so_far : (t : GetTask) (settings : SettingsView) (d : DoorView) (body : Body) → Fits t settings d → BearsOutSoFar (site_of settings (asks (request_of t))) (asked_get (request_of t).get) body d
+so_far t settings d body fits = stage_reads (request_of t) (stage_of t) (account_at settings d) (phase_at settings d) (events_at d) fits.stage
+
 -- ---- behind a body that broke off
 
-early_borne : (stripe : ℕ) (r : GetRequest) (why : BodyEnd) (stage : Stage) (y : Account) (p : Phase) (events : List OwnEvent) → IsWrong why → IsBehindRow stage → FitsStage r stage y p events
-    → IsBorneOut stripe r.zone r.asker (asked_get r.get) (broken_off why) [] (early_end (ended_in stage)) [] y events
-early_borne stripe r why (Open container) y p events wrong behind fits = (
+early_borne : (stripe : ℕ) (r : GetRequest) (why : BodyEnd) (came : List ℕ) (stage : Stage) (y : Account) (p : Phase) (events : List OwnEvent) → IsWrong why → IsBehindRow stage → FitsStage r stage y p events
+    → IsBorneOut stripe r.zone r.asker (asked_get r.get) (broken_off why) came (early_end (ended_in stage)) [] y events
+early_borne stripe r why came (Open container) y p events wrong behind fits = (
   (
     record {
       by_row = record {
@@ -199,20 +202,21 @@ early_borne stripe r why (Open container) y p events wrong behind fits = (
       unchanged = fits.unchanged;
     },
     fits.undecided,
+    record { look = fits.look; alone = fits.stands; op = fits.granted.op },
   ),
   broken_has_reply (span_of r.get) why wrong,
   refl,
   stage_reads r (Open container) y p events fits,
 )
-early_borne stripe r why (Ended (Done (Refused Unauthorized)) given) y p events wrong behind fits =
+early_borne stripe r why came (Ended (Done (Refused Unauthorized)) given) y p events wrong behind fits =
     ((fits.0.0, tt), tt, refl, stage_reads r (Ended (Done (Refused Unauthorized)) given) y p events fits)
-early_borne stripe r why (Ended (Done (Refused (Denied rule))) given) y p events wrong behind fits =
+early_borne stripe r why came (Ended (Done (Refused (Denied rule))) given) y p events wrong behind fits =
     ((fits.0.0, tt), tt, refl, stage_reads r (Ended (Done (Refused (Denied rule))) given) y p events fits)
-early_borne stripe r why (Ended (Done (Refused NoContainer)) given) y p events wrong behind fits =
+early_borne stripe r why came (Ended (Done (Refused NoContainer)) given) y p events wrong behind fits =
     ((fits.0.0, tt), tt, refl, stage_reads r (Ended (Done (Refused NoContainer)) given) y p events fits)
-early_borne stripe r why stage y p events wrong behind fits = absurd behind
+early_borne stripe r why came stage y p events wrong behind fits = absurd behind
 
-pub early : (t u : GetTask) (settings : SettingsView) (e : DoorView) (why : BodyEnd) → stage_of t ≡ Look → Steps t u → false ≡ false → Fits u settings e → IsWrong why
-    → BearsOut (site_of settings (asks (request_of u))) (asked_get (request_of u).get) (broken_off why) [] (early_end (ended_in (stage_of u))) [] e
-early t u settings e why looks steps going fits wrong =
-    early_borne settings.stripe (request_of u) why (stage_of u) (account_at settings e) (phase_at settings e) (events_at e) wrong (steps.looked looks).0 fits.stage
+pub early : (t u : GetTask) (settings : SettingsView) (d e : DoorView) (moment : ℕ) (why : BodyEnd) (came : List ℕ) → stage_of t ≡ Look → Steps t u → false ≡ false → Fits u settings e → IsNew settings d → MakesEvent settings moment d e → IsWrong why
+    → BearsOut (site_of settings (asks (request_of u))) (asked_get (request_of u).get) (broken_off why) came (early_end (ended_in (stage_of u))) [] e
+early t u settings d e moment why came looks steps going fits new made wrong =
+    early_borne settings.stripe (request_of u) why came (stage_of u) (account_at settings e) (phase_at settings e) (events_at e) wrong (steps.looked looks).0 fits.stage

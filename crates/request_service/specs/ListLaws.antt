@@ -1,13 +1,18 @@
 -- The laws of a listing as a request.
-use Rattle.std.proofs.Common.{◌≡◌, ℕ, true, false, List, [], ◌++◌, Some, None, refl, sym, subst, arith}
+use Rattle.std.proofs.Common.{◌≡◌, ℕ, true, false, List, [], ◌∷◌, ◌++◌, Some, None, refl, sym, ap, ◌∙◌, subst, arith}
 use Rattle.http_chunks.specs.declared.body.BodyEnd.{BodyEnd}
 use Rattle.object_words.specs.declared.bucket.Bucket.{Bucket}
-use Rattle.realm_model.specs.Accounts.{Account}
+use Rattle.realm_model.specs.Accounts.{Looked, Account, decided_after}
 use Rattle.realm_model.specs.Doors.{DoorView, actor_at}
-use Rattle.realm_model.specs.Histories.{account_of}
+use Rattle.realm_model.specs.Histories.{Doings, account_of, world_of}
+use Rattle.realm_model.specs.Maps.{heads}
 use Rattle.realm_model.specs.Owns.{OwnEvent, own_events}
 use Rattle.realm_model.specs.Settings.{SettingsView}
+use Rattle.realm_model.specs.declared.op.Op.{Op}
+use Rattle.realm_door.specs.declared.door.Answered.{Answered}
+use Rattle.realm_door.specs.Steps.{Extends, own_event}
 use Rattle.realm_door.specs.Turns.{MakesEvent}
+use Rattle.realm_door.specs.Waiting.{Waited}
 use Rattle.swift_auth.specs.declared.policy.Deed.TheVariants.{ListContainer}
 use Rattle.swift_reply.specs.declared.reply.ListingForm.{ListingForm}
 use Rattle.swift_requests.specs.declared.asked.Asked.{Asked}
@@ -22,15 +27,17 @@ use Rattle.task_words.specs.Rows.{row_refusal}
 use Rattle.task_list.specs.declared.request.ListRequest.{ListRequest}
 use Rattle.task_list.specs.declared.stage.Stage.{Stage}
 use Rattle.task_list.specs.declared.stage.Stage.TheVariants.{Look, Page, Head, Suggest, Broken, Ended}
-use Rattle.task_list.specs.Listed.{IsListOutcome}
-use Rattle.task_list.specs.Tasks.{IsOver, IsPast, IsSound, MayEnd as MayEndListing, Going, Looking, FitsAt, Steps, ended_in, is_broken, request_of, stage_of, fits}
+use Rattle.task_words.specs.Outcomes.{Body, Granted}
+use Rattle.task_list.specs.Listed.{asks_row, is_of_listing, AreOfListing, IsListOutcome}
+use Rattle.task_list.specs.declared.task.ListTask.{ListTask}
+use Rattle.task_list.specs.Tasks.{IsOver, IsPast, IsSound, IsGoing, MayEnd as MayEndListing, Going, Looking, FitsAt, Steps, ended_in, is_broken, op_of, request_of, stage_of, fits}
 use Rattle.call_words.specs.Bodies.{read_whole, broken_off, IsWrong}
-use Rattle.call_words.specs.Calls.{IsBorneOut}
+use Rattle.call_words.specs.Calls.{ReadsRowAlone, IsBorneOut}
 use Rattle.call_words.proofs.Fates.{broken_has_list_reply}
-use Rattle.call_service.specs.Serving.{BearsOut}
+use Rattle.call_service.specs.Serving.{BearsOut, BearsOutSoFar, IsNew}
 use Rattle.request_service.specs.declared.listing.Listing.{Listing}
 use Rattle.request_service.specs.Early.{early_end}
-use Rattle.request_service.specs.Listings.{task_of, command_of}
+use Rattle.request_service.specs.Listings.{task_of, command_of, BeginsAtRow, Fits}
 use Rattle.request_service.specs.Requests.{Question, site_of, HasBytes, MayEnd, GoesOn, EndsSo, ShowsFront}
 
 abbrev no_bytes : List ℕ
@@ -41,6 +48,62 @@ asked_by c = Unfed (asks_listing c.0.command c.1)
 
 abbrev asks : ListRequest × ListingForm → Question
 asks c = record { zone = c.0.zone; asker = c.0.asker; asked = asked_by c }
+
+-- ---- its own events
+
+going_op : (r : ListRequest) (stage : Stage) → IsGoing stage → is_of_listing (op_of r stage) ≡ true
+going_op r (Look known) going = refl
+going_op r (Page m next) going = refl
+going_op r (Head m wanted) going = refl
+going_op r (Suggest m s) going = refl
+going_op r Broken going = absurd going
+going_op r (Ended outcome) going = absurd going
+
+one_more : (events : List OwnEvent) (own : OwnEvent) → AreOfListing events → is_of_listing own.op ≡ true → AreOfListing (events ++ own ∷ [])
+one_more [] own are is = (is, tt)
+one_more (e ∷ es) own are is = (are.0, one_more es own are.1 is)
+
+same_row : (t u : ListTask) → request_of u ≡ request_of t → asks_row (request_of t).zone (request_of t).command ≡ asks_row (request_of u).zone (request_of u).command
+same_row t u same = ap (λ (r : ListRequest). asks_row r.zone r.command) (sym same)
+
+row_first : (t u : ListTask) (events : List OwnEvent) (own : OwnEvent) → request_of u ≡ request_of t → own.op ≡ op_of (request_of t) (stage_of t) → BeginsAtRow t events → BeginsAtRow u (events ++ own ∷ [])
+row_first t u [] own same is begins = is ∙ ap (op_of (request_of t)) begins ∙ same_row t u same
+row_first t u (e ∷ es) own same is begins = begins ∙ same_row t u same
+
+-- a step adds its event
+events_after : (settings : SettingsView) (d e : DoorView) (op : Op) (moment : ℕ) (a : Answered) → Extends settings d op moment a e → own_events e.seen (actor_at e) ≡ own_events d.seen (actor_at d) ++ own_event op a ∷ []
+events_after settings d e op moment a x =
+    let actor : actor_at e ≡ actor_at d = λ i. record { pass = x.grows.pass i; count = x.grows.count i } in
+    ap (own_events e.seen) actor ∙ x.events
+
+pub fits_first : (t : Listing) (settings : SettingsView) (d : DoorView) → stage_of (task_of t) ≡ Look None → own_events d.seen (actor_at d) ≡ [] → fits (task_of t) settings d → Fits t settings d
+fits_first t settings d looks none stands = record {
+  stands = stands;
+  reads = subst AreOfListing (sym none) tt;
+  at_row = subst (BeginsAtRow (task_of t)) (sym none) looks;
+}
+
+pub fits_next : (t u : Listing) (settings : SettingsView) (d e : DoorView) (moment : ℕ) (a : Answered) → IsGoing (stage_of (task_of t)) → request_of (task_of u) ≡ request_of (task_of t) → Fits t settings d
+    → Extends settings d (op_of (request_of (task_of t)) (stage_of (task_of t))) moment a e → fits (task_of u) settings e → Fits u settings e
+fits_next t u settings d e moment a going same f x stands =
+    let r = request_of (task_of t) in
+    let op = op_of r (stage_of (task_of t)) in
+    let events = events_after settings d e op moment a x in
+    let before = own_events d.seen (actor_at d) in
+    record {
+      stands = stands;
+      reads = subst AreOfListing (sym events) (one_more before (own_event op a) f.reads (going_op r (stage_of (task_of t)) going));
+      at_row = subst (BeginsAtRow (task_of u)) (sym events) (row_first (task_of t) (task_of u) before (own_event op a) same refl f.at_row);
+    }
+
+pub fits_waiting : (t : Listing) (settings : SettingsView) (d e : DoorView) → Waited settings d e → Fits t settings d → fits (task_of t) settings e → Fits t settings e
+fits_waiting t settings d e waited f stands =
+    let actor : actor_at e ≡ actor_at d = λ i. record { pass = waited.pass i; count = waited.count i } in
+    let events : own_events e.seen (actor_at e) ≡ own_events d.seen (actor_at d) = ap (own_events e.seen) actor ∙ waited.same.events in
+    record { stands = stands; reads = subst AreOfListing (sym events) f.reads; at_row = subst (BeginsAtRow (task_of t)) (sym events) f.at_row }
+
+pub so_far : (t : Listing) (settings : SettingsView) (d : DoorView) (body : Body) → Fits t settings d → BearsOutSoFar (site_of settings (asks (command_of t))) (asked_by (command_of t)) body d
+so_far t settings d body f = f.reads
 
 -- ---- also where nothing is told
 
@@ -85,10 +148,10 @@ may_end t outcome sound is = stage_ends (command_of t) outcome (ends_so (stage_o
 pub unbrought : (c : ListRequest × ListingForm) (d : DoorView) → own_events d.seen (actor_at d) ≡ [] → no_bytes ≡ []
 unbrought c d none = refl
 
-pub brings : (t u : Listing) (settings : SettingsView) (d e : DoorView) (moment : ℕ) → command_of u ≡ command_of t → fits (task_of u) settings e → MakesEvent settings moment d e → no_bytes ≡ no_bytes ++ []
+pub brings : (t u : Listing) (settings : SettingsView) (d e : DoorView) (moment : ℕ) → command_of u ≡ command_of t → Fits u settings e → MakesEvent settings moment d e → no_bytes ≡ no_bytes ++ []
 brings t u settings d e moment same f made = refl
 
-pub front : (t : Listing) (settings : SettingsView) (d : DoorView) (reply : MapReply) → fits (task_of t) settings d → None ≡ Some reply
+pub front : (t : Listing) (settings : SettingsView) (d : DoorView) (reply : MapReply) → Fits t settings d → None ≡ Some reply
     → ShowsFront (site_of settings (asks (command_of t))) (asked_by (command_of t)) reply [] [] d
 front t settings d reply f is = cc
 
@@ -113,34 +176,60 @@ stage_means : (r : ListRequest) (stage : Stage) (moved last : ℕ) (y : Account)
 stage_means r (Ended found) moved last y events outcome f is = let same : found ≡ outcome = cc in subst (λ o. IsListOutcome r o y events) same f
 stage_means r stage moved last y events outcome f is = cc
 
-pub right : (t : Listing) (settings : SettingsView) (d : DoorView) (outcome : Outcome) → IsSound (stage_of (task_of t)) → fits (task_of t) settings d → ended_in (stage_of (task_of t)) ≡ Some outcome
+pub right : (t : Listing) (settings : SettingsView) (d : DoorView) (outcome : Outcome) → IsSound (stage_of (task_of t)) → Fits t settings d → ended_in (stage_of (task_of t)) ≡ Some outcome
     → EndsSo (site_of settings (asks (command_of t))) (asked_by (command_of t)) [] d outcome
 right t settings d outcome sound f is =
     end_right (command_of t) settings d outcome (ends_so (stage_of (task_of t)) outcome sound is)
-    (stage_means (request_of (task_of t)) (stage_of (task_of t)) _ _ (account_of settings d.seen (actor_at d)) (own_events d.seen (actor_at d)) outcome f.2 is)
+    (stage_means (request_of (task_of t)) (stage_of (task_of t)) _ _ (account_of settings d.seen (actor_at d)) (own_events d.seen (actor_at d)) outcome f.stands.2 is)
 
 -- ---- behind a body that broke off
 
-module _ (stripe : ℕ) (r : ListRequest) (listing : ListingForm) (why : BodyEnd) (wrong : IsWrong why) (moved last : ℕ) (y : Account) (events : List OwnEvent) where
+-- the first event alone was made: it read the row, and decided nothing
+record IsAlone (r : ListRequest) (y : Account) (events : List OwnEvent) : Type 0 where
+  undecided : y.decided ≡ None
+  row : ReadsRowAlone r.zone r.command.container events
+
+row_alone : (t : Listing) (settings : SettingsView) (d e : DoorView) (moment : ℕ) → Fits t settings e → IsNew settings d → MakesEvent settings moment d e → IsAlone (request_of (task_of t)) (account_of settings e.seen (actor_at e)) (own_events e.seen (actor_at e))
+row_alone t settings d e moment f new made =
+    let r = request_of (task_of t) in
+    let x = made.extends in
+    let a = made.answered in
+    let own : OwnEvent = own_event made.op a in
+    let maps = heads (d.seen ++ x.between) in
+    let tails = (world_of settings (d.seen ++ x.between)).stripes.made in
+    let alone : own_events e.seen (actor_at e) ≡ own ∷ [] = events_after settings d e made.op moment a x ∙ ap (λ l. l ++ own ∷ []) new.events in
+    let row : made.op ≡ asks_row r.zone r.command = subst (BeginsAtRow (task_of t)) alone f.at_row in
+    record {
+      undecided =
+          ap (λ (doings : Doings). doings.account.decided) x.own
+          ∙ ap (λ op. decided_after (account_of settings d.seen (actor_at d)) maps tails op a.reply a.number a.clock) row
+          ∙ ap (λ (y : Account). y.decided) new.account;
+      row = record { look = own; alone = alone; op = row };
+    }
+
+module _ (stripe : ℕ) (r : ListRequest) (listing : ListingForm) (why : BodyEnd) (wrong : IsWrong why) (came : List ℕ) (moved last : ℕ) (y : Account) (events : List OwnEvent) (alone : IsAlone r y events) where
   abbrev Right : Outcome → Type 0
-  Right outcome = IsBorneOut stripe r.zone r.asker (asked_by (r, listing)) (broken_off why) [] outcome [] y events
+  Right outcome = IsBorneOut stripe r.zone r.asker (asked_by (r, listing)) (broken_off why) came outcome [] y events
+
+  -- the row grants it, and the body decides
+  granted : Granted r.zone r.asker r.command.container ListContainer y → AreOfListing events → Right BodyFailed
+  granted by reads = ((by, alone.undecided, alone.row), broken_has_list_reply listing why wrong, refl, reads)
+
+  by_look : (row : Bucket) (look : Looked) → y.looked ≡ Some look → look.zone ≡ r.zone → look.name ≡ r.command.container → look.row ≡ Some row → row_refusal r.asker (Some row) ListContainer ≡ None → y.changes ≡ 0 → AreOfListing events → Right BodyFailed
+  by_look row look last zone name showed grants unchanged =
+      granted (record {
+        by_row = record {
+          look = look;
+          is_last = last;
+          in_zone = zone;
+          under_name = name;
+          refuses = subst (λ o. row_refusal r.asker o ListContainer ≡ None) (sym showed) grants;
+        };
+        unchanged = unchanged;
+      })
 
   still_going : Going r moved y events last → (row : Bucket) → Looking r row y last → Right BodyFailed
-  still_going g row l = (
-    record {
-      by_row = record {
-        look = l.look;
-        is_last = l.is_last;
-        in_zone = l.in_zone;
-        under_name = l.under_name;
-        refuses = subst (λ o. row_refusal r.asker o ListContainer ≡ None) (sym l.showed) l.granted;
-      };
-      unchanged = g.unchanged;
-    },
-    broken_has_list_reply listing why wrong,
-    refl,
-    g.reads,
-  )
+  still_going g row l = by_look row l.look l.is_last l.in_zone l.under_name l.showed l.granted g.unchanged g.reads
 
   right_at_first : (stage : Stage) → is_broken stage ≡ false → IsPast stage → FitsAt r stage moved y events last → Right (early_end (ended_in stage))
   right_at_first (Look known) going past f = absurd past
@@ -153,27 +242,13 @@ module _ (stripe : ℕ) (r : ListRequest) (listing : ListingForm) (why : BodyEnd
   right_at_first (Ended (Done (Refused NoContainer))) going past f = ((f, tt), tt, refl, (f.1).reads)
   right_at_first (Ended (Done (Refused refusal))) going past f = absurd past
   right_at_first (Ended (Done (Listed rows))) going past f =
-      let l = f.0 in (
-        record {
-          by_row = record {
-            look = l.look;
-            is_last = l.is_last;
-            in_zone = l.in_zone;
-            under_name = l.under_name;
-            refuses = subst (λ o. row_refusal r.asker o ListContainer ≡ None) (sym l.showed) l.granted;
-          };
-          unchanged = (f.1).unchanged;
-        },
-        broken_has_list_reply listing why wrong,
-        refl,
-        (f.1).reads,
-      )
-  right_at_first (Ended MovedOften) going past f =
-      (record { by_row = f.0; unchanged = (f.2).unchanged }, broken_has_list_reply listing why wrong, refl, (f.2).reads)
+      let l = f.0 in by_look l.row l.look l.is_last l.in_zone l.under_name l.showed l.granted (f.1).unchanged (f.1).reads
+  right_at_first (Ended MovedOften) going past f = granted (record { by_row = f.0; unchanged = (f.2).unchanged }) (f.2).reads
   right_at_first (Ended (Done reply)) going past f = absurd f.0
   right_at_first (Ended outcome) going past f = absurd f
 
-pub early : (t u : Listing) (settings : SettingsView) (e : DoorView) (why : BodyEnd) → stage_of (task_of t) ≡ Look None → Steps (task_of t) (task_of u) → is_broken (stage_of (task_of u)) ≡ false → fits (task_of u) settings e → IsWrong why
-    → BearsOut (site_of settings (asks (command_of u))) (asked_by (command_of u)) (broken_off why) [] (early_end (ended_in (stage_of (task_of u)))) [] e
-early t u settings e why looks steps going f wrong =
-    right_at_first settings.stripe (request_of (task_of u)) u.listing why wrong _ _ (account_of settings e.seen (actor_at e)) (own_events e.seen (actor_at e)) (stage_of (task_of u)) going (steps.looked looks) f.2
+pub early : (t u : Listing) (settings : SettingsView) (d e : DoorView) (moment : ℕ) (why : BodyEnd) (came : List ℕ) → stage_of (task_of t) ≡ Look None → Steps (task_of t) (task_of u) → is_broken (stage_of (task_of u)) ≡ false → Fits u settings e → IsNew settings d → MakesEvent settings moment d e → IsWrong why
+    → BearsOut (site_of settings (asks (command_of u))) (asked_by (command_of u)) (broken_off why) came (early_end (ended_in (stage_of (task_of u)))) [] e
+early t u settings d e moment why came looks steps going f new made wrong =
+    right_at_first settings.stripe (request_of (task_of u)) u.listing why wrong came _ _ (account_of settings e.seen (actor_at e)) (own_events e.seen (actor_at e)) (row_alone u settings d e moment f new made)
+    (stage_of (task_of u)) going (steps.looked looks) f.stands.2

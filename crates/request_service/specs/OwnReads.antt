@@ -15,8 +15,6 @@ use Rattle.task_words.specs.declared.reply.MapReply.{MapReply}
 use Rattle.task_words.specs.declared.reply.MapReply.TheVariants.{Refused}
 use Rattle.task_words.specs.declared.reply.Refusal.TheVariants.{Unauthorized, Denied, NoContainer}
 use Rattle.task_words.specs.declared.span.ByteRange.{ByteRange}
-use Rattle.task_words.specs.Outcomes.{IsGetOutcome}
-use Rattle.call_service.specs.Serving.{MissesStripe}
 use Rattle.task_get.specs.declared.request.GetRequest.{GetRequest}
 use Rattle.task_get.specs.declared.stage.Stage.{Stage}
 use Rattle.task_get.specs.declared.stage.Stage.TheVariants.{Look, Open, Tails, Ended, Late}
@@ -93,10 +91,3 @@ stage_reads r (Tails v) y p events x =
     (front_reads x.tails _ (subst OpsOfGet x.asked (tails_read r.zone r.get (Live x.new x.stamp))))
 stage_reads r (Ended outcome given) y p events x = means_reads r outcome y events x.0
 stage_reads r (Late v outcome) y p events x = means_reads r outcome y events x.0
-
--- a GET for which a stripe was gone: that is its last own event
-pub misses_stripe : (r : GetRequest) (read_at clock : ℕ) (y : Account) (events : List OwnEvent) → Means r (LateRead read_at clock) y events
-    → IsGetOutcome r.zone r.asker r.get (LateRead read_at clock) y × MissesStripe clock events
-misses_stripe r read_at clock y events x =
-    let m = x.1 in
-    (x.0, record { front = m.begins.look ∷ m.head ∷ m.tails; last = m.last; stands = m.begins.stands; missed = m.missed })

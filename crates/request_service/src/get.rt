@@ -28,7 +28,7 @@ impl Request for GetTask {
     ghost use Rattle.task_get.specs.declared.stage.Stage.TheVariants.{Look};
     ghost use Rattle.task_get.specs.Tasks.{stage_of, shown_of};
     ghost use Rattle.request_service.specs.Gets.{brought_at, whole_at};
-    ghost use Rattle.request_service.specs.GetLaws.{onward, begun, goes_on, first, shows, may_end, unbrought, brings, front, right, early};
+    ghost use Rattle.request_service.specs.GetLaws.{onward, begun, goes_on, first, shows, may_end, unbrought, brings, front, right, so_far, early};
 
     ghost question = { λ r. record { zone = r.zone; asker = r.asker; asked = Unfed (Get r.get) } };
 
@@ -92,6 +92,8 @@ impl Request for GetTask {
     ghost front = { front };
 
     ghost right = { right };
+
+    ghost so_far = { so_far };
 
     ghost early = { early };
 }

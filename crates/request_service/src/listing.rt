@@ -1,9 +1,9 @@
 //! A listing of a container.
 ghost use Rattle.std.specs.Prelude.{◌≡◌, None};
 ghost use Rattle.realm_door.specs.Turns.{FitsAtFirst};
-ghost use Rattle.task_list.specs.Tasks.{stage_of, fits};
+ghost use Rattle.task_list.specs.Tasks.{stage_of};
 ghost use Rattle.task_list.specs.declared.stage.Stage.TheVariants.{Look};
-ghost use Rattle.request_service.specs.Listings.{command_of, task_of};
+ghost use Rattle.request_service.specs.Listings.{command_of, task_of, Fits};
 
 use crate::request::Request;
 use call_words::push_list_outcome;
@@ -25,7 +25,7 @@ impl Listing {
     /// Stages of a listing that made no event.
     pub fn new(request: ListRequest, listing: ListingForm) -> Listing
         ensures command { command_of result ≡ (request, listing) }
-        ensures fits { FitsAtFirst request.zone (fits (task_of result)) }
+        ensures fits { FitsAtFirst request.zone (Fits result) }
         ensures looks { stage_of (task_of result) ≡ Look None }
     {
         Listing {
@@ -41,8 +41,8 @@ impl Staged for Listing {
     ghost use Rattle.realm_model.specs.Histories.{account_of};
     ghost use Rattle.realm_model.specs.Owns.{own_events};
     ghost use Rattle.task_list.specs.Listed.{IsListOutcome};
-    ghost use Rattle.task_list.specs.Tasks.{IsOver, IsGoing, op_of, request_of, stage_of, fits, Steps};
-    ghost use Rattle.request_service.specs.Listings.{command_of, task_of};
+    ghost use Rattle.task_list.specs.Tasks.{IsOver, IsGoing, op_of, request_of, stage_of, Steps};
+    ghost use Rattle.request_service.specs.Listings.{command_of, task_of, Fits};
 
     type Command = (ListRequest, ListingForm);
 
@@ -52,7 +52,7 @@ impl Staged for Listing {
 
     ghost command = { command_of };
 
-    ghost fits = { λ t. fits (task_of t) };
+    ghost fits = { Fits };
 
     ghost means = { λ c outcome settings d. IsListOutcome c.0 outcome
         (account_of settings d.seen (actor_at d)) (own_events d.seen (actor_at d)) };
@@ -68,7 +68,10 @@ impl Staged for Listing {
     ghost steps = { λ t u. Steps (task_of t) (task_of u) };
 
     fn settle(&mut self) -> Next {
-        self.task.settle()
+        match self.task.ended() {
+            Some(_) => Next::Done,
+            None => Next::Event,
+        }
     }
 
     fn end(&self) -> Option<&Outcome> {
@@ -99,7 +102,7 @@ impl Request for Listing {
     ghost use Rattle.task_list.specs.declared.stage.Stage.TheVariants.{Look};
     ghost use Rattle.task_list.specs.Tasks.{IsSound, ended_in, is_broken, stage_of};
     ghost use Rattle.request_service.specs.Listings.{task_of};
-    ghost use Rattle.request_service.specs.ListLaws.{onward, begun, goes_on, first, shows, may_end, unbrought, brings, front, right, early};
+    ghost use Rattle.request_service.specs.ListLaws.{onward, begun, goes_on, first, shows, may_end, unbrought, brings, front, right, so_far, early};
 
     ghost question = { λ c. record { zone = c.0.zone; asker = c.0.asker; asked = Unfed (asks_listing c.0.command c.1) } };
 
@@ -154,6 +157,8 @@ impl Request for Listing {
     ghost front = { front };
 
     ghost right = { right };
+
+    ghost so_far = { so_far };
 
     ghost early = { early };
 }

@@ -17,7 +17,8 @@ pub trait Request: Staged {
     ghost use Rattle.task_words.specs.declared.reply.MapReply.{MapReply as MapReplyOf};
     ghost use Rattle.call_words.specs.Bodies.{read_whole, broken_off, IsWrong};
     ghost use Rattle.call_words.specs.Texts.{HasReply};
-    ghost use Rattle.call_service.specs.Serving.{BearsOut};
+    ghost use Rattle.task_words.specs.Outcomes.{Body};
+    ghost use Rattle.call_service.specs.Serving.{BearsOut, BearsOutSoFar, IsNew};
     ghost use Rattle.request_service.specs.Early.{early_end};
     ghost use Rattle.request_service.specs.Requests.{Question, site_of, IsUnfed, reply_by, text_at, shown_text, HasBytes, MayEnd, GoesOn, EndsSo, ShowsFront};
 
@@ -99,7 +100,11 @@ pub trait Request: Staged {
         → is_sound t → Self.fits t settings d → ended t ≡ Some outcome
         → EndsSo (site_of settings (question (Self.command t))) (question (Self.command t)).asked (brought (Self.command t) d) d outcome };
 
-    ghost early: { (t u : Self) (settings : SettingsView) (e : DoorView) (why : BodyEnd)
-        → begins t → Self.steps t u → is_broken u ≡ false → Self.fits u settings e → IsWrong why
-        → BearsOut (site_of settings (question (Self.command u))) (question (Self.command u)).asked (broken_off why) [] (early_end (ended u)) [] e };
+    ghost so_far: { (t : Self) (settings : SettingsView) (d : DoorView) (body : Body) → Self.fits t settings d
+        → BearsOutSoFar (site_of settings (question (Self.command t))) (question (Self.command t)).asked body d };
+
+    ghost early: { (t u : Self) (settings : SettingsView) (d e : DoorView) (moment : ℕ) (why : BodyEnd) (came : List ℕ)
+        → begins t → Self.steps t u → is_broken u ≡ false → Self.fits u settings e
+        → IsNew settings d → MakesEvent settings moment d e → IsWrong why
+        → BearsOut (site_of settings (question (Self.command u))) (question (Self.command u)).asked (broken_off why) came (early_end (ended u)) [] e };
 }

@@ -1,11 +1,10 @@
 ghost use Rattle.std.specs.Prelude.{◌≡◌, [], true, false, None, length, IfOk, OnOk, IfErr};
 ghost use Rattle.std.specs.Io.KnownBytes.{Appends};
-ghost use Rattle.swift_requests.specs.declared.body.BodyUse.TheVariants.{Dropped};
 ghost use Rattle.realm_door.specs.Turns.{FitsAtFirst};
 ghost use Rattle.door_moments.specs.Acts.{Asks, IsUpTo};
 ghost use Rattle.call_words.specs.Bodies.{IsWrong};
 ghost use Rattle.call_service.specs.Bodies.{dropped_if};
-ghost use Rattle.call_service.specs.Serving.{MayServe, IsServed, IsStopped, Stays, StaysAround, WritesAtFault, around, outside, side};
+ghost use Rattle.call_service.specs.Serving.{MayServe, IsServed, IsStopped, Stays, StaysAround, WritesAtFault, outside};
 ghost use Rattle.call_service.specs.Replying.{Replies, StopsReply, stand};
 ghost use Rattle.request_service.specs.Requests.{site_of};
 ghost use Rattle.request_service.specs.Writing.{HasWritten};
@@ -13,11 +12,12 @@ ghost use Rattle.request_service.specs.Early.{is_by_row, early_end, EndsEarly, L
 
 use crate::request::Request;
 use crate::write::{send_end, send_outcome, send_piece};
-use call_service::{ServeFault, Served, closing, drop_body, send_broken_body};
+use call_service::{
+    Connected, Connection, ServeFault, Served, closing, drop_body, send_broken_body,
+};
 use door_moments::act;
-use gw_io::{Clock, Ends, Sink, Source};
+use gw_io::{Clock, Sink, Source};
 use http_chunks::BodyEnd;
-use http_intake::Intake;
 use http_model::ReplyForm;
 use realm_door::{Door, Staged, Stepping};
 use std::alloc::Global;
@@ -141,130 +141,72 @@ fn end_early<T: Request, C: Clock, K: Sink>(
     Ok(Served::Refused)
 }
 
-/// Serves the request of a new task, and drops the body of the request.
-fn serve_task<T: Request + Drop, D: Door, C: Clock, S: Source, K: Sink>(
-    alloc: Global,
-    task: &mut Stepping<T>,
-    form: ReplyForm,
-    door: &mut D,
-    clock: &mut C,
-    intake: &mut Intake,
-    source: &mut S,
-    sink: &mut K,
-    buffer: &mut [u8],
-    out: &mut Vec<u8>,
-) -> Result<Served, ServeFault>
-    requires unfaulted { task.old.fault ≡ None }
-    requires begins { T.begins task.old.stages }
-    requires fits { FitsAtFirst (T.question (T.command task.old.stages)).zone (T.fits task.old.stages) }
-    requires ready { MayServe D.tells (D.settings door.old) (T.question (T.command task.old.stages)).zone (D.told door.old) intake.old (length buffer.old) }
-    ensures served { IfOk result (IsServed D.tells D.alone (site_of (D.settings door.old) (T.question (T.command task.old.stages))) form
-        (T.question (T.command task.old.stages)).asked Dropped
-        (side (D.told door.old) intake.old (⟦<(S, K, C) as Ends>⟧.ends (source.old, sink.old, clock.old)))
-        (side (D.told door.new) intake.new (⟦<(S, K, C) as Ends>⟧.ends (source.new, sink.new, clock.new)))) }
-    ensures stopped { IfErr result (IsStopped D.tells D.alone (site_of (D.settings door.old) (T.question (T.command task.old.stages))) form
-        (T.question (T.command task.old.stages)).asked Dropped (D.found door.new)
-        (side (D.told door.old) intake.old (⟦<(S, K, C) as Ends>⟧.ends (source.old, sink.old, clock.old)))
-        (side (D.told door.new) intake.new (⟦<(S, K, C) as Ends>⟧.ends (source.new, sink.new, clock.new)))) }
-    ensures around { StaysAround
-        (around (⟦<(S, K, C) as Ends>⟧.ends (source.old, sink.old, clock.old)) (D.settings door.old) (D.home door.old) (length buffer.old))
-        (around (⟦<(S, K, C) as Ends>⟧.ends (source.new, sink.new, clock.new)) (D.settings door.new) (D.home door.new) (length buffer.new)) result }
-{
-    act(alloc, task, door, clock)?;
-    let end = drop_body(intake, source, buffer)?;
-    match end {
-        BodyEnd::Whole => {
-            send_reply(alloc, task, form, door, clock, sink, out)?;
-            Ok(Served::Replied)
-        }
-        BodyEnd::Cut => Ok(Served::Cut),
-        why => end_early(alloc, &task.stages, why, form, clock, sink, out),
-    }
-}
-
-/// Serves the request of a new task, whose body is dropped or left.
-fn serve_new<T: Request + Drop, D: Door, C: Clock, S: Source, K: Sink>(
-    alloc: Global,
-    task: &mut Stepping<T>,
-    form: ReplyForm,
-    read: bool,
-    door: &mut D,
-    clock: &mut C,
-    intake: &mut Intake,
-    source: &mut S,
-    sink: &mut K,
-    buffer: &mut [u8],
-    out: &mut Vec<u8>,
-) -> Result<Served, ServeFault>
-    requires unfaulted { task.old.fault ≡ None }
-    requires begins { T.begins task.old.stages }
-    requires fits { FitsAtFirst (T.question (T.command task.old.stages)).zone (T.fits task.old.stages) }
-    requires ready { MayServe D.tells (D.settings door.old) (T.question (T.command task.old.stages)).zone (D.told door.old) intake.old (length buffer.old) }
-    requires shut { read ≡ false → form.close ≡ true }
-    ensures served { IfOk result (IsServed D.tells D.alone (site_of (D.settings door.old) (T.question (T.command task.old.stages))) form
-        (T.question (T.command task.old.stages)).asked (dropped_if read)
-        (side (D.told door.old) intake.old (⟦<(S, K, C) as Ends>⟧.ends (source.old, sink.old, clock.old)))
-        (side (D.told door.new) intake.new (⟦<(S, K, C) as Ends>⟧.ends (source.new, sink.new, clock.new)))) }
-    ensures stopped { IfErr result (IsStopped D.tells D.alone (site_of (D.settings door.old) (T.question (T.command task.old.stages))) form
-        (T.question (T.command task.old.stages)).asked (dropped_if read) (D.found door.new)
-        (side (D.told door.old) intake.old (⟦<(S, K, C) as Ends>⟧.ends (source.old, sink.old, clock.old)))
-        (side (D.told door.new) intake.new (⟦<(S, K, C) as Ends>⟧.ends (source.new, sink.new, clock.new)))) }
-    ensures around { StaysAround
-        (around (⟦<(S, K, C) as Ends>⟧.ends (source.old, sink.old, clock.old)) (D.settings door.old) (D.home door.old) (length buffer.old))
-        (around (⟦<(S, K, C) as Ends>⟧.ends (source.new, sink.new, clock.new)) (D.settings door.new) (D.home door.new) (length buffer.new)) result }
-{
-    if read {
-        return serve_task(
-            alloc, task, form, door, clock, intake, source, sink, buffer, out,
-        );
-    }
-    send_reply(alloc, task, form, door, clock, sink, out)?;
-    Ok(Served::Replied)
-}
-
 /// Serves one request that wants no body, whose head was read, as the door's present actor, which made no event:
 /// reads the row of the container, drops the body of the request, makes the other events, and writes the reply,
 /// each piece of it as it comes. The clock is asked once for each event, and once where wrong chunks decide. A
-/// body that is not to be read is left. The buffers are for pieces of the body and for the text of the reply.
-pub fn serve_unfed<T: Request + Drop, D: Door, C: Clock, S: Source, K: Sink>(
+/// body that is not to be read is left.
+pub fn serve_unfed<'c, T: Request + Drop, D: Door, C: Clock, S: Source, K: Sink>(
     alloc: Global,
-    request: T,
+    task: &mut Stepping<T>,
     form: ReplyForm,
     read: bool,
-    door: &mut D,
-    clock: &mut C,
-    intake: &mut Intake,
-    source: &mut S,
-    sink: &mut K,
-    buffer: &mut [u8],
-    out: &mut Vec<u8>,
+    connection: &mut Connection<'c, D, C, S, K>,
 ) -> Result<Served, ServeFault>
-    requires begins { T.begins request }
-    requires fits { FitsAtFirst (T.question (T.command request)).zone (T.fits request) }
-    requires ready { MayServe D.tells (D.settings door.old) (T.question (T.command request)).zone (D.told door.old) intake.old (length buffer.old) }
+    requires unfaulted { task.old.fault ≡ None }
+    requires begins { T.begins task.old.stages }
+    requires fits { FitsAtFirst (T.question (T.command task.old.stages)).zone (T.fits task.old.stages) }
+    requires ready { MayServe D.tells (D.settings connection.old.door.now) (T.question (T.command task.old.stages)).zone
+        (D.told connection.old.door.now) connection.old.intake.now (length connection.old.buffer.now) }
     requires shut { read ≡ false → form.close ≡ true }
 
     // The whole reply was written behind the body, or with the body left; or the input ended inside the body and
     // nothing was.
-    ensures served { IfOk result (IsServed D.tells D.alone (site_of (D.settings door.old) (T.question (T.command request))) form
-        (T.question (T.command request)).asked (dropped_if read)
-        (side (D.told door.old) intake.old (⟦<(S, K, C) as Ends>⟧.ends (source.old, sink.old, clock.old)))
-        (side (D.told door.new) intake.new (⟦<(S, K, C) as Ends>⟧.ends (source.new, sink.new, clock.new)))) }
+    ensures served { IfOk result (IsServed D.tells D.alone (site_of (D.settings connection.old.door.now) (T.question (T.command task.old.stages))) form
+        (T.question (T.command task.old.stages)).asked (dropped_if read)
+        (⟦<Connection<'c, D, C, S, K> as Connected>⟧.side connection.old) (⟦<Connection<'c, D, C, S, K> as Connected>⟧.side connection.new)) }
 
     // Nothing was written, or a front of the reply.
-    ensures stopped { IfErr result (IsStopped D.tells D.alone (site_of (D.settings door.old) (T.question (T.command request))) form
-        (T.question (T.command request)).asked (dropped_if read) (D.found door.new)
-        (side (D.told door.old) intake.old (⟦<(S, K, C) as Ends>⟧.ends (source.old, sink.old, clock.old)))
-        (side (D.told door.new) intake.new (⟦<(S, K, C) as Ends>⟧.ends (source.new, sink.new, clock.new)))) }
+    ensures stopped { IfErr result (IsStopped D.tells D.alone (site_of (D.settings connection.old.door.now) (T.question (T.command task.old.stages))) form
+        (T.question (T.command task.old.stages)).asked (dropped_if read) (⟦<Connection<'c, D, C, S, K> as Connected>⟧.found connection.new)
+        (⟦<Connection<'c, D, C, S, K> as Connected>⟧.side connection.old) (⟦<Connection<'c, D, C, S, K> as Connected>⟧.side connection.new)) }
 
-    ensures around { StaysAround
-        (around (⟦<(S, K, C) as Ends>⟧.ends (source.old, sink.old, clock.old)) (D.settings door.old) (D.home door.old) (length buffer.old))
-        (around (⟦<(S, K, C) as Ends>⟧.ends (source.new, sink.new, clock.new)) (D.settings door.new) (D.home door.new) (length buffer.new)) result }
+    ensures around { StaysAround (⟦<Connection<'c, D, C, S, K> as Connected>⟧.around connection.old) (⟦<Connection<'c, D, C, S, K> as Connected>⟧.around connection.new) result }
 {
-    let mut task = Stepping::new(request);
-    let served = serve_new(
-        alloc, &mut task, form, read, door, clock, intake, source, sink, buffer, out,
-    );
-    drop(task);
-    served
+    if !read {
+        send_reply(
+            alloc,
+            task,
+            form,
+            connection.door,
+            connection.clock,
+            connection.sink,
+            connection.out,
+        )?;
+        return Ok(Served::Replied);
+    }
+    act(alloc, task, connection.door, connection.clock)?;
+    match drop_body(connection.intake, connection.source, connection.buffer)? {
+        BodyEnd::Whole => {
+            send_reply(
+                alloc,
+                task,
+                form,
+                connection.door,
+                connection.clock,
+                connection.sink,
+                connection.out,
+            )?;
+            Ok(Served::Replied)
+        }
+        BodyEnd::Cut => Ok(Served::Cut),
+        why => end_early(
+            alloc,
+            &task.stages,
+            why,
+            form,
+            connection.clock,
+            connection.sink,
+            connection.out,
+        ),
+    }
 }

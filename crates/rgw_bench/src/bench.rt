@@ -19,6 +19,8 @@ pub const CHUNK: u32 = 100;
 pub enum Names {
     /// Each so many further on than the one before.
     Apart(u64),
+    /// One after another, from this one on.
+    From(u64),
     /// By chance, of so many.
     ByChance(u64),
 }
@@ -27,6 +29,7 @@ impl Names {
     fn name(self, index: u64) -> u64 {
         match self {
             Names::Apart(step) => index.wrapping_mul(step),
+            Names::From(first) => index.wrapping_add(first),
             Names::ByChance(count) => one_of(count, index),
         }
     }

@@ -1,4 +1,4 @@
-//! Each class call on a shard of many entries, as an event of a realm.
+//! Each class call on a shard of many entries, and among as many containers, as an event of a realm.
 use crate::bench::{Batch, Bench, CHUNK, Names};
 use crate::ops::Kind;
 use crate::sample::Sample;
@@ -13,11 +13,14 @@ const ROUNDS: u32 = 40;
 // The most calls of one batch.
 const CALLS: u32 = 1000;
 
+// The number of the first container that is made before anything is measured.
+const FIRST: u64 = 100_000_000;
+
 // Frames for the tails of all rounds, and for a head of each call.
 const FRAMES: u32 = 65_536;
 
 // The batches of a round. Those without a name make ready for the one behind them.
-const BATCHES: [(Kind, &str); 16] = [
+const BATCHES: [(Kind, &str); 18] = [
     (Kind::Prepare, "prepare"),
     (Kind::Complete, "complete"),
     (Kind::Prepare, ""),
@@ -33,6 +36,8 @@ const BATCHES: [(Kind, &str); 16] = [
     (Kind::TailRead, "read of that tail"),
     (Kind::BucketSwap, "swap of a container's record"),
     (Kind::BucketRead, "read of that record"),
+    (Kind::BucketPage(1000), "page of 1000 names of containers"),
+    (Kind::AccountPage(1000), "page of 1000 names of an account"),
     (Kind::Announce, "add of a row to the data log"),
 ];
 
@@ -47,7 +52,7 @@ pub fn show<R: Clock + Print>(rt: &R, alloc: Global) -> anyhow::Result<()> {
     Ok(())
 }
 
-/// Calls on a shard of so many entries.
+/// Calls on a shard of so many entries, and among as many containers.
 pub fn measure<R: Clock + Print>(rt: &R, alloc: Global, entries: u32) -> anyhow::Result<()> {
     let mut bench = Bench::new(alloc, Sample::Entries, 4096, FRAMES)?;
     let fastest = run(rt, alloc, &mut bench, entries, ROUNDS);
@@ -78,14 +83,20 @@ fn run<R: Clock>(
     Ok(fastest)
 }
 
-// Each entry is prepared and completed.
+// Each entry is prepared and completed, and beside it a container is made. The containers that are measured
+// have lower names.
 fn fill<R: Clock>(rt: &R, alloc: Global, bench: &mut Bench, entries: u32) -> anyhow::Result<()> {
+    let kinds = [
+        (Kind::Prepare, Names::Apart(1)),
+        (Kind::Complete, Names::Apart(1)),
+        (Kind::BucketMake, Names::From(FIRST)),
+    ];
     for chunk in 0..entries.div_ceil(CHUNK) {
         let from = chunk.saturating_mul(CHUNK);
-        for kind in [Kind::Prepare, Kind::Complete] {
+        for (kind, names) in kinds {
             let batch = Batch {
                 kind,
-                names: Names::Apart(1),
+                names,
                 from,
                 count: CHUNK.min(entries.saturating_sub(from)),
             };
@@ -122,7 +133,7 @@ fn run_batches<R: Clock>(
 // How many calls a batch of a kind has, where most have so many.
 fn calls_of(kind: Kind, calls: u32) -> u32 {
     match kind {
-        Kind::Page(1000) => (calls / 50).max(1),
+        Kind::Page(1000) | Kind::BucketPage(1000) | Kind::AccountPage(1000) => (calls / 50).max(1),
         _ => calls,
     }
 }

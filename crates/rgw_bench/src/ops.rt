@@ -23,6 +23,9 @@ const ETAG: [u8; 16] = [
 /// A moment at which each tag is due.
 const LATE: u64 = 1 << 60;
 
+/// The account of each container.
+const OWNER: &str = "acme";
+
 /// The bytes of a stripe.
 pub const STRIPE: u32 = 4_194_304;
 
@@ -43,8 +46,14 @@ pub enum Kind {
     HeadRead,
     TailMake,
     TailRead,
+    /// A container's record, put where none is.
+    BucketMake,
     BucketSwap,
     BucketRead,
+    /// A page of so many names of containers.
+    BucketPage(u32),
+    /// A page of so many names of an account's containers.
+    AccountPage(u32),
     Announce,
 }
 
@@ -70,7 +79,13 @@ impl Kind {
     pub fn reads(self) -> bool {
         matches!(
             self,
-            Kind::Page(_) | Kind::Stats | Kind::HeadRead | Kind::TailRead | Kind::BucketRead
+            Kind::Page(_)
+                | Kind::Stats
+                | Kind::HeadRead
+                | Kind::TailRead
+                | Kind::BucketRead
+                | Kind::BucketPage(_)
+                | Kind::AccountPage(_)
         )
     }
 
@@ -96,7 +111,10 @@ impl Kind {
             Kind::HeadWrite => head_write(alloc, subject),
             Kind::HeadRead => head_read(alloc, subject),
             Kind::TailMake | Kind::TailRead => self.tail_op(alloc, subject.write),
-            Kind::BucketSwap => bucket_swap(alloc, subject),
+            Kind::BucketMake => bucket_swap(alloc, subject, 0),
+            Kind::BucketSwap => bucket_swap(alloc, subject, subject.version),
+            Kind::BucketPage(limit) => bucket_page(alloc, subject, limit),
+            Kind::AccountPage(limit) => account_page(alloc, subject, limit),
             Kind::BucketRead | Kind::Announce => self.bucket_op(alloc, subject),
         }
     }
@@ -229,8 +247,25 @@ fn row(alloc: Global, micros: u64) -> anyhow::Result<EntryRow> {
     })
 }
 
+fn bucket_page(alloc: Global, subject: &Subject, limit: u32) -> anyhow::Result<Op> {
+    Ok(Op::BucketPage {
+        zone: 1,
+        after: subject.sample.bucket_text(alloc, subject.name)?,
+        limit,
+    })
+}
+
+fn account_page(alloc: Global, subject: &Subject, limit: u32) -> anyhow::Result<Op> {
+    Ok(Op::AccountPage {
+        zone: 1,
+        account: Text::from_str(alloc, OWNER)?,
+        after: subject.sample.bucket_text(alloc, subject.name)?,
+        limit,
+    })
+}
+
 // The record gets one metadatum.
-fn bucket_swap(alloc: Global, subject: &Subject) -> anyhow::Result<Op> {
+fn bucket_swap(alloc: Global, subject: &Subject, expected: u64) -> anyhow::Result<Op> {
     let mut pairs = Vec::new(alloc);
     pairs.push((
         Text::from_str(alloc, "colour")?,
@@ -240,7 +275,7 @@ fn bucket_swap(alloc: Global, subject: &Subject) -> anyhow::Result<Op> {
     Ok(Op::BucketSwap {
         zone: 1,
         name: subject.sample.bucket(alloc, subject.name)?,
-        expected: subject.version,
+        expected,
         new: Some(record(alloc, subject.number, meta)?),
     })
 }
@@ -258,7 +293,7 @@ pub fn first_record(alloc: Global) -> anyhow::Result<Op> {
 fn record(alloc: Global, id: u64, meta: Pairs) -> anyhow::Result<Bucket> {
     Ok(Bucket {
         id,
-        owner: Text::from_str(alloc, "acme")?,
+        owner: Text::from_str(alloc, OWNER)?,
         version: 0,
         shared: 0,
         number: 0,

@@ -29,12 +29,17 @@ impl Sample {
 
     /// The container's name of this number.
     pub fn bucket(self, alloc: Global, number: u64) -> anyhow::Result<BucketName> {
+        let name = BucketName::new(self.bucket_text(alloc, number)?);
+        name.ok().context("a name of a container")
+    }
+
+    /// The text of that name.
+    pub fn bucket_text(self, alloc: Global, number: u64) -> Result<Text, AllocError> {
         let text = match self {
             Sample::Heads => format!(in alloc; "box")?,
             Sample::Entries => format!(in alloc; "box-{number:09}")?,
         };
-        let name = BucketName::new(Text::from_string(text));
-        name.ok().context("a name of a container")
+        Ok(Text::from_string(text))
     }
 
     /// The bytes of a head.

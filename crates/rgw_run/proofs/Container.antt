@@ -1,18 +1,22 @@
 -- What stands before the connection: one row or none, and no object.
-use Rattle.std.proofs.Common.{◌≡◌, ℕ, zero, suc, ◌+◌, ◌≤◌, ◌==◌, Bool, true, false, cond, List, [], ◌∷◌, ◌++◌, length, Option, Some, None, refl, ◌∙◌, ap, arith}
-use Rattle.std.specs.Prelude.{bytes_eq}
+use Rattle.std.proofs.Common.{◌≡◌, ℕ, zero, suc, ◌+◌, ◌≤◌, ◌==◌, Bool, true, false, cond, List, [], ◌∷◌, ◌++◌, length, Option, Some, None, refl, sym, ◌∙◌, ap, subst, arith}
+use Rattle.std.specs.Prelude.{bytes_eq, is_some}
 use Rattle.std.specs.List.{AllByRecursion}
 use Rattle.std.proofs.lemmas.Map.Text.{is_eq-slice_cmp}
+use Rattle.std.proofs.lemmas.Slice.Eq.{bytes_eq-Decides}
 use Rattle.rgw_model.specs.declared.slot.Slot.TheVariants as Slots
 use Rattle.rgw_model.specs.Stamps.{counted_moment}
 use Rattle.object_words.specs.declared.bucket.Bucket.{Bucket}
 use Rattle.object_words.specs.declared.why.Why.TheVariants.{Raced}
 use Rattle.object_words.specs.declared.log.LogWhat.TheVariants.{Bucket as bucket_row}
 use Rattle.object_words.specs.Logs.{logged}
+use Rattle.object_words.specs.Keys.{put}
 use Rattle.object_words.specs.Names.{at, with_name}
 use Rattle.object_words.specs.Refusals.{unless_refused}
 use Rattle.object_words.specs.Roots.{Root, version_of, swapped, stored, is_logged}
 use Rattle.object_words.proofs.NameLemmas.{at-none, at-with_name}
+use Rattle.realm_model.specs.Containers.{with_id, row_at_home, is_standing}
+use Rattle.realm_model.specs.Facts.{Home}
 use Rattle.realm_model.specs.Settings.{SettingsView}
 use Rattle.realm_model.specs.States.{State, number_next, at_moment}
 use Rattle.realm_model.specs.Phases.{ActorId}
@@ -23,13 +27,15 @@ use Rattle.realm_model.specs.Worlds.{World, start, actor_of, happens}
 use Rattle.realm_model.specs.Histories.{run, world_of, state_of}
 use Rattle.realm_model.specs.declared.event.Reply.TheVariants.{Done}
 use Rattle.realm_model.specs.declared.event.Event.{Event}
-use Rattle.realm_model.proofs.Runs.{state-next}
+use Rattle.realm_model.proofs.ObjectLemmas.{number_same}
+use Rattle.realm_model.proofs.Runs.{run-append, state-next}
 use Rattle.realm_door.specs.Steps.{next_count, actor_of_pass}
 use Rattle.swift_auth.specs.Users.{standard_user, account_of}
 use Rattle.container_preset.specs.Presets.{row_now, new_row, shard_op, row_op, event_by, makes, look, made_row}
 use Rattle.container_preset.proofs.Rows.{makes_stay, next_is}
 use Rattle.once_law.specs.Maps.{rows_in, slots_in, no_slots}
-use Rattle.once_law.specs.Runs.{NoneFrom, AreAt}
+use Rattle.once_law.specs.Runs.{NoneFrom, IsOpen, AreAt}
+use Rattle.once_law.proofs.Open.{keeps_open, homes_kept}
 use Rattle.once_law.proofs.Folding.{none_of_other}
 use Rattle.once_law.proofs.Moments.{clock_behind}
 use Rattle.rgw_run.specs.Runs.{door_at, first_door, making}
@@ -91,6 +97,11 @@ frames_stay : (settings : SettingsView) (w : World) (es : List Event) → AllByR
 frames_stay settings w [] keep = refl
 frames_stay settings w (e ∷ es) keep = frames_stay settings (happens settings w e) es keep.1 ∙ keep.0 (at_moment w.state e.moment)
 
+-- no event of these makes a container or ends one
+homes_stay : (settings : SettingsView) (w : World) (es : List Event) → AllByRecursion (λ e. keeps_open e.op ≡ true) es → (run settings w es).rows.homes ≡ w.rows.homes
+homes_stay settings w [] keep = refl
+homes_stay settings w (e ∷ es) keep = homes_stay settings (happens settings w e) es keep.1 ∙ homes_kept w.rows.homes e.op e.reply (w.state.count + 1) keep.0
+
 -- ---- the making of the container
 
 module _ (settings : SettingsView) (bucket : List ℕ) (moment : ℕ) where
@@ -143,10 +154,36 @@ module _ (settings : SettingsView) (bucket : List ℕ) (moment : ℕ) where
       ∙ ap (λ o. cond (bytes_eq name bucket) (Some (stored None new true (number_next st))) o) (no_row name)
       ∙ ap (λ n. cond (bytes_eq name bucket) (Some (made_row settings (account_of standard_user) 1 n)) None) number
 
+  -- the one container stands
+  abbrev home : Home
+  home = record { name = bucket; at = (world_of settings front).state.count + 1 }
+
+  homes_are : (world_of settings made).rows.homes ≡ put (start settings).rows.homes 1 (Some home)
+  homes_are =
+      ap (λ (w : World). w.rows.homes) (run-append settings (start settings) front (swap ∷ []))
+      ∙ ap (λ h. put h 1 (Some home)) (homes_stay settings (start settings) front (refl, all_makes (λ e. keeps_open e.op ≡ true) maker 1 moment (λ n. refl) settings.shards))
+
+  first_stands : is_standing (world_of settings made).rows (state_of settings made) 1 ≡ true
+  first_stands =
+      ap (λ (f : ℕ → Option Home). is_some (row_at_home (f 1) (state_of settings made) 1 1)) homes_are
+      ∙ ap (λ o. is_some (with_id o 1)) (row_at bucket ∙ ap (λ b. cond b (Some (made_row settings (account_of standard_user) 1 (settings.shards + 2))) None) ((bytes_eq-Decides bucket bucket).1 refl))
+
+  stands : (container : ℕ) (h : Home) → (world_of settings made).rows.homes container ≡ Some h → is_standing (world_of settings made).rows (state_of settings made) container ≡ true
+  stands container h has =
+      let there : put (start settings).rows.homes 1 (Some home) container ≡ Some h = ap (λ (f : ℕ → Option Home). f container) (sym homes_are) ∙ has in
+      elim (1 == container) as (λ b. (1 == container) ≡ b → cond b (Some home) None ≡ Some h → is_standing (world_of settings made).rows (state_of settings made) container ≡ true) [
+        | false ↦ λ other none. absurd cc
+        | true ↦ λ same is. subst (λ c. is_standing (world_of settings made).rows (state_of settings made) c ≡ true) (number_same 1 container same) first_stands
+      ] refl there
+
+  is_open : IsOpen settings made
+  is_open = record { closes = all_making _ refl (λ n. refl) refl; stand = stands }
+
 -- ---- before the connection
 
 -- what stands there, where all moments are that one
 pub record IsPrepared (settings : SettingsView) (bucket : Option (List ℕ)) (moment : ℕ) (used : Bool) (before : List Event) : Type 0 where
+  pub opened : IsOpen settings before
   pub unused : NoneFrom 1 (next_count (door_at used before)) before
   pub low : (state_of settings before).clock ≤ counted_moment moment
   pub slots : slots_in settings before 1 ≡ no_slots
@@ -155,6 +192,7 @@ pub record IsPrepared (settings : SettingsView) (bucket : Option (List ℕ)) (mo
 
 pub none_prepared : (settings : SettingsView) (moment : ℕ) → IsPrepared settings None moment false []
 none_prepared settings moment = record {
+  opened = record { closes = tt; stand = λ container home made. absurd cc };
   unused = λ count low. tt;
   low = omega arith;
   slots = no_slot settings [] refl;
@@ -164,6 +202,7 @@ none_prepared settings moment = record {
 
 pub one_prepared : (settings : SettingsView) (bucket : List ℕ) (moment : ℕ) → IsPrepared settings (Some bucket) moment true (making settings bucket moment)
 one_prepared settings bucket moment = record {
+  opened = is_open settings bucket moment;
   unused = made_by_first settings bucket moment;
   low = clock_behind settings [] (making settings bucket moment) moment (omega arith) (made_at settings bucket moment);
   slots = no_object settings bucket moment;

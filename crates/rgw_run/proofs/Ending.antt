@@ -1,5 +1,5 @@
 -- Runs that come to nothing, and runs at one moment.
-use Rattle.std.proofs.Common.{◌≡◌, inl, inr, ◌∙◌, ℕ, List, [], Option, None, Some, IsSome, IfSome, unwrap_or, Result, Ok, Err, refl, sym, ap, subst, arith}
+use Rattle.std.proofs.Common.{◌≡◌, inl, inr, ◌∙◌, ℕ, Bool, true, List, [], Option, None, Some, IsSome, IfSome, unwrap_or, Result, Ok, Err, refl, sym, ap, subst, arith}
 use Rattle.gw_io.specs.Ends.{EndsState}
 use Rattle.gw_io.specs.Memory.{StepState, TellsOnly, moments_of, plan_of}
 use Rattle.realm_core.specs.Realms.{RealmView}
@@ -47,24 +47,25 @@ scripted_unmade None ends realm none = tt
 scripted_unmade (Some script) ends realm none = inl (record { none = none; same = refl; memory = refl })
 
 -- the words were not read for want of memory
-pub unread : (once : Option RunWords) (script : Option RunWords) (ends : EndsState) (realm : Option RealmView) → realm ≡ None → IsSome once → RunsAlone once script ends ends realm 4
-unread (Some once) script ends realm none there = record {
-  refused = (λ e. absurd (omega (arith, e)), λ e. absurd (cc));
+pub unread : (once : Option RunWords) (script : Option RunWords) (may_ask : Bool) (ends : EndsState) (realm : Option RealmView) → realm ≡ None → IsSome once → RunsAlone once script may_ask ends ends realm 4
+unread (Some once) script may_ask ends realm none there = record {
+  refused = λ e. absurd (omega (arith, e));
+  neither = λ e. absurd (cc);
   nothing = λ e. absurd (cc);
   once_runs = unmade_by once.now once.settings once.bucket ends realm none;
   script_runs = scripted_unmade script ends realm none;
 }
-unread None script ends realm none there = absurd (cc)
+unread None script may_ask ends realm none there = absurd (cc)
 
-pub unread_script : (once : Option RunWords) (script : Option RunWords) (ends : EndsState) (realm : Option RealmView) → once ≡ None → realm ≡ None → IsSome script → RunsAlone once script ends ends realm 4
-unread_script None (Some script) ends realm other none there = record {
-  refused = (λ e. absurd (omega (arith, e)), λ e. let clash : Some script ≡ None = e.1 in absurd (cc));
-  nothing = λ _ e. let clash : Some script ≡ None = e in absurd (cc);
+pub unread_script : (once : Option RunWords) (script : Option RunWords) (may_ask : Bool) (ends : EndsState) (realm : Option RealmView) → once ≡ None → realm ≡ None → may_ask ≡ true → RunsAlone once script may_ask ends ends realm 4
+unread_script None script may_ask ends realm other none may = record {
+  refused = λ e. absurd (omega (arith, e));
+  neither = λ _ _. inr (refl, may);
+  nothing = λ _ _. (none, refl);
   once_runs = tt;
-  script_runs = inl (record { none = none; same = refl; memory = refl });
+  script_runs = scripted_unmade script ends realm none;
 }
-unread_script (Some once) script ends realm other none there = absurd (cc)
-unread_script None None ends realm other none there = absurd (cc)
+unread_script (Some once) script may_ask ends realm other none may = absurd (cc)
 
 -- ---- no status of a run is that of refused words
 
@@ -109,40 +110,42 @@ scripted_not_refused script old new realm status (inr run) e = script_not_refuse
 
 -- ---- by the words
 
-asked_once : (asked : RunWords) (old new : EndsState) (realm : Option RealmView) (status : ℕ) → RunsOnce asked old new realm status → RunsAlone (Some asked) None old new realm status
-asked_once asked old new realm status runs = record {
-  refused = (λ e. absurd (once_not_refused asked.now asked.settings asked.bucket old new realm status runs e), λ e. let clash : Some asked ≡ None = e.0 in absurd (cc));
+asked_once : (asked : RunWords) (may_ask : Bool) (old new : EndsState) (realm : Option RealmView) (status : ℕ) → RunsOnce asked old new realm status → RunsAlone (Some asked) None may_ask old new realm status
+asked_once asked may_ask old new realm status runs = record {
+  refused = λ e. absurd (once_not_refused asked.now asked.settings asked.bucket old new realm status runs e);
+  neither = λ e _. let clash : Some asked ≡ None = e in absurd (cc);
   nothing = λ e _. let clash : Some asked ≡ None = e in absurd (cc);
   once_runs = runs;
   script_runs = tt;
 }
 
 -- the words ask to serve a connection
-pub runs_once : (once : Option RunWords) (script : Option RunWords) (asked : RunWords) (old new : EndsState) (realm : Option RealmView) (status : ℕ)
-    → once ≡ Some asked → script ≡ None → RunsOnce asked old new realm status → RunsAlone once script old new realm status
-runs_once once script asked old new realm status is none runs =
-    subst (λ o. RunsAlone o script old new realm status) (sym is)
-    (subst (λ s. RunsAlone (Some asked) s old new realm status) (sym none) (asked_once asked old new realm status runs))
+pub runs_once : (once : Option RunWords) (script : Option RunWords) (may_ask : Bool) (asked : RunWords) (old new : EndsState) (realm : Option RealmView) (status : ℕ)
+    → once ≡ Some asked → script ≡ None → RunsOnce asked old new realm status → RunsAlone once script may_ask old new realm status
+runs_once once script may_ask asked old new realm status is none runs =
+    subst (λ o. RunsAlone o script may_ask old new realm status) (sym is)
+    (subst (λ s. RunsAlone (Some asked) s may_ask old new realm status) (sym none) (asked_once asked may_ask old new realm status runs))
 
-asked_script : (asked : RunWords) (old new : EndsState) (realm : Option RealmView) (status : ℕ) → RunsScripted asked old new realm status → RunsAlone None (Some asked) old new realm status
-asked_script asked old new realm status runs = record {
-  refused = (λ e. absurd (scripted_not_refused asked old new realm status runs e), λ e. let clash : Some asked ≡ None = e.1 in absurd (cc));
+asked_script : (asked : RunWords) (may_ask : Bool) (old new : EndsState) (realm : Option RealmView) (status : ℕ) → RunsScripted asked old new realm status → RunsAlone None (Some asked) may_ask old new realm status
+asked_script asked may_ask old new realm status runs = record {
+  refused = λ e. absurd (scripted_not_refused asked old new realm status runs e);
+  neither = λ _ e. let clash : Some asked ≡ None = e in absurd (cc);
   nothing = λ _ e. let clash : Some asked ≡ None = e in absurd (cc);
   once_runs = tt;
   script_runs = runs;
 }
 
 -- the words ask to run a script
-pub runs_script : (once : Option RunWords) (script : Option RunWords) (asked : RunWords) (old new : EndsState) (realm : Option RealmView) (status : ℕ)
-    → once ≡ None → script ≡ Some asked → RunsScripted asked old new realm status → RunsAlone once script old new realm status
-runs_script once script asked old new realm status none is runs =
-    subst (λ o. RunsAlone o script old new realm status) (sym none)
-    (subst (λ s. RunsAlone None s old new realm status) (sym is) (asked_script asked old new realm status runs))
+pub runs_script : (once : Option RunWords) (script : Option RunWords) (may_ask : Bool) (asked : RunWords) (old new : EndsState) (realm : Option RealmView) (status : ℕ)
+    → once ≡ None → script ≡ Some asked → RunsScripted asked old new realm status → RunsAlone once script may_ask old new realm status
+runs_script once script may_ask asked old new realm status none is runs =
+    subst (λ o. RunsAlone o script may_ask old new realm status) (sym none)
+    (subst (λ s. RunsAlone None s may_ask old new realm status) (sym is) (asked_script asked may_ask old new realm status runs))
 
 -- a script over the realm that is left
 pub has_run : (script : RunWords) (old new : EndsState) (made : RealmView) (realm : Option RealmView) (moment : ℕ) (result : Result (Unit {0}) ScriptFault) (status : ℕ)
     → moment ≡ unwrap_or script.now 0 → realm ≡ Some made → made.settings ≡ script.settings → Legal script.settings made.history
-    → RunsScript script.settings (record { bucket = script.bucket; moment = moment }) old.left new.left old.taken new.taken made.history result
+    → RunsScript script.settings (record { bucket = script.bucket; moment = moment; users = script.users }) old.left new.left old.taken new.taken made.history result
     → HasScriptCause old.read_faults new.read_faults old.write_faults new.write_faults result
     → status ≡ script_status result → new.told ≡ old.told → new.plan ≡ old.plan → RunsScripted script old new realm status
 has_run script old new made realm moment result status begins left settings legal runs cause ended told plan = inr (record {
@@ -150,7 +153,7 @@ has_run script old new made realm moment result status begins left settings lega
   left = left ∙ ap (λ s. Some (record { settings = s; history = made.history })) settings;
   legal = legal;
   result = result;
-  runs = subst (λ m. RunsScript script.settings (record { bucket = script.bucket; moment = m }) old.left new.left old.taken new.taken made.history result) begins runs;
+  runs = subst (λ m. RunsScript script.settings (record { bucket = script.bucket; moment = m; users = script.users }) old.left new.left old.taken new.taken made.history result) begins runs;
   cause = cause;
   ended = ended;
   told = told;

@@ -102,17 +102,17 @@ module _ (settings : SettingsView) (good : IsSettings settings) (bucket : Option
       (subst (λ l. AreRight settings 1 standard_asker 1 l next calls last) split settled.right) in
       let at = calls_at 1 moment e.seen only.later before c.events calls moments rest seen told c.made are in
       let clocks = clocks_at settings 1 before c.events next moment prepared.low at prepared.unused in
-      let of_maps = fold settings good 1 standard_asker 1 (λ count. counted_moment moment) before c.events next calls last [] legal few prepared.unused right c.made tt clocks in
+      let of_maps = fold settings good 1 standard_asker 1 (λ count. counted_moment moment) before c.events next calls last [] legal few prepared.unused right c.made tt prepared.opened clocks in
       let x_is : record { zone = 1; asker = standard_asker; rows = rows_in settings before 1; clocks = λ count. counted_moment moment } ≡ fixed_at settings bucket moment =
       λ i. record { zone = 1; asker = standard_asker; rows = prepared.rows i; clocks = λ count. counted_moment moment } in
       record {
         folded = subst (λ l. AreFolded (fixed_at settings bucket moment) l calls) prepared.slots
             (subst (λ x. AreFolded x (slots_in settings before 1) calls) x_is of_maps.folded);
-        full = full settings good 1 standard_asker 1 moment before c.events next calls last [] legal prepared.unused right c.made tt prepared.low at;
+        full = full settings good 1 standard_asker 1 moment before c.events next calls last [] legal prepared.unused right c.made tt prepared.opened prepared.low at;
         found = λ fits.
             let free = prepared.free in
             room_found settings 1 standard_asker 1 before c.events next calls last moment good legal
-            (record { unused = prepared.unused; right = right; later = []; made = c.made; by_last = tt }) prepared.low at (omega (arith, fits, free));
+            (record { opened = prepared.opened; unused = prepared.unused; right = right; later = []; made = c.made; by_last = tt }) prepared.low at (omega (arith, fits, free));
       }
 
 -- ---- what was told behind them
@@ -255,9 +255,9 @@ exactly_if once old new realm status = by_now once.now
     by_now None runs = tt
     by_now (Some moment) runs = exactly once.settings once.bucket moment old new realm status runs
 
-pub exactly_of : (words : Option RunWords) (script : Option RunWords) (old new : EndsState) (realm : Option RealmView) (status : ℕ) → RunsAlone words script old new realm status → RunsExactlyIf words old new realm status
-exactly_of None script old new realm status runs = tt
-exactly_of (Some once) script old new realm status runs = exactly_if once old new realm status runs.once_runs
+pub exactly_of : (words : Option RunWords) (script : Option RunWords) (may_ask : Bool) (old new : EndsState) (realm : Option RealmView) (status : ℕ) → RunsAlone words script may_ask old new realm status → RunsExactlyIf words old new realm status
+exactly_of None script may_ask old new realm status runs = tt
+exactly_of (Some once) script may_ask old new realm status runs = exactly_if once old new realm status runs.once_runs
 
 pub exactly_said : (words : Option RunWords) (once : RunWords) (old new : EndsState) (realm : Option RealmView) (status : ℕ) → words ≡ Some once → RunsOnce once old new realm status → RunsExactlyIf words old new realm status
 exactly_said words once old new realm status said runs =

@@ -1,5 +1,5 @@
 -- In a run that nobody else's events come into no reply breaks off: no stripe is gone.
-use Rattle.std.proofs.Common.{◌≡◌, inl, inr, ℕ, Bool, true, false, List, [], Result, Ok, Err, refl, sym, subst}
+use Rattle.std.proofs.Common.{◌≡◌, inl, inr, ℕ, Bool, true, false, List, [], ◌∷◌, Result, Ok, Err, refl, sym, subst}
 use Rattle.gw_io.specs.Ends.{EndsState}
 use Rattle.http_model.specs.declared.reply.ReplyForm.{ReplyForm}
 use Rattle.realm_model.specs.Doors.{DoorView, actor_at}
@@ -38,7 +38,7 @@ module _ (site : Site) (found : List Event) (read_at clock : ℕ) where
   asked_in_time (Unfed (Listing c l)) form plan z y legal leaves = absurd (leaves.2.0 tt)
   asked_in_time (Unfed (Get c)) form plan z y legal leaves =
       let missed = (leaves.2.0 tt).1 in
-      misses_none site.settings y.door.seen (actor_at y.door) missed.front [] missed.last clock legal missed.stands missed.missed
+      misses_none site.settings y.door.seen (actor_at y.door) (missed.begins.look ∷ missed.head ∷ missed.tails) [] missed.last clock legal missed.begins.stands missed.missed
 
   request_in_time : (asked : Asked) (form : ReplyForm) (plan : BodyUse) (z y : Side) → Legal site.settings y.door.seen
       → LeavesRequest (Unit {0}) (Unit {0}) site form asked plan found z y (faults.Late read_at clock) → ⊥

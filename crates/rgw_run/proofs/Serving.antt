@@ -1,5 +1,5 @@
 -- Runs whose words ask for a server, and others.
-use Rattle.std.proofs.Common.{◌≡◌, inl, inr, ℕ, Option, None, Some, IsSome, refl, sym, subst, arith}
+use Rattle.std.proofs.Common.{◌≡◌, inl, inr, ℕ, Bool, Option, None, Some, IsSome, refl, sym, subst, arith}
 use Rattle.gw_io.specs.Ends.{EndsState}
 use Rattle.realm_core.specs.Realms.{RealmView}
 use Rattle.rgw_server.specs.declared.accepting.ServeEnd.{ServeEnd}
@@ -23,33 +23,35 @@ served_status asked net later realm status runs is =
       | inr served ↦ not_refused served.end (subst (λ n. n ≡ 1) served.ended is)
     ]
 
-module _ (once script : Option RunWords) (old new : EndsState) (net later : NetState) (realm : Option RealmView) (status : ℕ) where
-  serves : (asked : ServeWords) → RunsServer asked net later realm status → Runs once script (Some asked) old new net later realm status
+module _ (once script : Option RunWords) (may_ask : Bool) (old new : EndsState) (net later : NetState) (realm : Option RealmView) (status : ℕ) where
+  serves : (asked : ServeWords) → RunsServer asked net later realm status → Runs once script may_ask (Some asked) old new net later realm status
   serves asked runs = record {
-    refused = (λ is. absurd (served_status asked net later realm status runs is), λ none. let clash : Some asked ≡ None = none.2 in absurd (cc));
+    refused = λ is. absurd (served_status asked net later realm status runs is);
+    nothing = λ _ _ none. let clash : Some asked ≡ None = none in absurd (cc);
     alone = λ none. let clash : Some asked ≡ None = none in absurd (cc);
     server = runs;
   }
 
   -- the words ask for a server
-  pub serves_so : (serve : Option ServeWords) (asked : ServeWords) → serve ≡ Some asked → RunsServer asked net later realm status → Runs once script serve old new net later realm status
-  serves_so serve asked is runs = subst (λ s. Runs once script s old new net later realm status) (sym is) (serves asked runs)
+  pub serves_so : (serve : Option ServeWords) (asked : ServeWords) → serve ≡ Some asked → RunsServer asked net later realm status → Runs once script may_ask serve old new net later realm status
+  serves_so serve asked is runs = subst (λ s. Runs once script may_ask s old new net later realm status) (sym is) (serves asked runs)
 
   -- they were not read for want of memory
-  pub unread_server : (serve : Option ServeWords) → IsSome serve → later ≡ net → realm ≡ None → status ≡ 4 → Runs once script serve old new net later realm status
+  pub unread_server : (serve : Option ServeWords) → IsSome serve → later ≡ net → realm ≡ None → status ≡ 4 → Runs once script may_ask serve old new net later realm status
   unread_server (Some asked) there same none memory = serves asked (record { served = inl (record { same = same; memory = memory }); none = none })
   unread_server None there same none memory = absurd (cc)
 
-  runs_else : RunsAlone once script old new realm status → Runs once script None old new net later realm status
+  runs_else : RunsAlone once script may_ask old new realm status → Runs once script may_ask None old new net later realm status
   runs_else runs = record {
-    refused = (λ is. let both = runs.refused.0 is in (both.0, both.1, refl), λ none. runs.refused.1 (none.0, none.1));
+    refused = λ is. let both = runs.refused is in (both.0, both.1, refl);
+    nothing = λ no_once no_script _. runs.neither no_once no_script;
     alone = λ _. runs;
     server = tt;
   }
 
   -- they ask for none
-  pub runs_alone_so : (serve : Option ServeWords) → serve ≡ None → RunsAlone once script old new realm status → Runs once script serve old new net later realm status
-  runs_alone_so serve none runs = subst (λ s. Runs once script s old new net later realm status) (sym none) (runs_else runs)
+  pub runs_alone_so : (serve : Option ServeWords) → serve ≡ None → RunsAlone once script may_ask old new realm status → Runs once script may_ask serve old new net later realm status
+  runs_alone_so serve none runs = subst (λ s. Runs once script may_ask s old new net later realm status) (sym none) (runs_else runs)
 
 -- words that ask for a server say nothing of the replies of one connection
 pub nothing_exact : (once : Option RunWords) (old new : EndsState) (realm : Option RealmView) (status : ℕ) → once ≡ None → RunsExactlyIf once old new realm status

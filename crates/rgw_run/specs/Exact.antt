@@ -18,8 +18,8 @@ use Rattle.gateway.specs.Calls.{standard_asker, site_of}
 use Rattle.gateway.specs.Serving.{LeavesAt, ServesConnection}
 use Rattle.gateway.specs.declared.serve.Served.{Served}
 use Rattle.once_law.specs.Maps.{Rows, no_slots}
-use Rattle.once_law.specs.Folds.{Fixed, AreFolded, AreRepliedOrFull}
-use Rattle.room_law.specs.Rooms.{frames_together, AreRepliedInRoom}
+use Rattle.once_law.specs.Folds.{Fixed, AreFolded, AreRepliedOrFull, AreReplied}
+use Rattle.room_law.specs.Rooms.{frames_together}
 use Rattle.rgw_run.specs.declared.once_end.OnceEnd.{OnceEnd}
 use Rattle.rgw_run.specs.declared.once_end.OnceEnd.TheVariants.{Unmade, Unbegun, Ended, Stopped}
 use Rattle.rgw_words.specs.declared.run_words.RunWords.{RunWords}
@@ -62,11 +62,11 @@ fixed_at settings bucket moment = record {
 
 -- The calls are replied as the map of the one container says, which has no name at first; but where a body broke off, or there
 -- is no room, which leaves the map as it was. There is room where the frames that all bodies of PUTs take together are no more
--- than the zone's, up to a body that broke off.
+-- than the zone's.
 pub record AreExact (settings : SettingsView) (bucket : Option (List ℕ)) (moment : ℕ) (calls : List Call) : Type 0 where
   pub folded : AreFolded (fixed_at settings bucket moment) no_slots calls
   pub full : AreRepliedOrFull calls
-  pub found : frames_together settings.frame settings.stripe calls ≤ settings.frames → AreRepliedInRoom calls
+  pub found : frames_together settings.frame settings.stripe calls ≤ settings.frames → AreReplied calls
 
 -- ---- a run
 

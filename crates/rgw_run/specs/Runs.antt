@@ -1,5 +1,5 @@
 -- What a run of the program comes to: a new realm, with a container or not, and a connection that is served to it.
-use Rattle.std.specs.Prelude.{◌≡◌, ◌≢◌, ◌↔◌, ℕ, ◌^◌, Bool, List, [], ◌∷◌, length, true, false, All, IfSome, Option, None, Some, Result, Ok, Err}
+use Rattle.std.specs.Prelude.{◌≡◌, ◌≢◌, ◌⊎◌, ℕ, ◌^◌, Bool, List, [], ◌∷◌, length, true, false, All, IfSome, Option, None, Some, Result, Ok, Err}
 use Rattle.std.specs.Io.KnownBytes.{Appends}
 use Rattle.gw_io.specs.Ends.{EndsState}
 use Rattle.gw_io.specs.Memory.{moment_at}
@@ -165,9 +165,10 @@ abbrev pub RunsOnce : RunWords → EndsState → EndsState → Option RealmView 
 RunsOnce once old new realm status = RunsBy once.now once.settings once.bucket old new realm status
 
 -- What a run with such words comes to, which ask to serve one connection, or to run a script, or neither, and then nothing
--- happens.
-pub record RunsAlone (once : Option RunWords) (script : Option RunWords) (old new : EndsState) (realm : Option RealmView) (status : ℕ) : Type 0 where
-  pub refused : (status ≡ 1) ↔ ((once ≡ None) × (script ≡ None))
+-- happens. Those that ask for neither are refused; but memory may be wanting to read the text of the users of a script.
+pub record RunsAlone (once : Option RunWords) (script : Option RunWords) (may_ask : Bool) (old new : EndsState) (realm : Option RealmView) (status : ℕ) : Type 0 where
+  pub refused : status ≡ 1 → (once ≡ None) × (script ≡ None)
+  pub neither : once ≡ None → script ≡ None → (status ≡ 1) ⊎ ((status ≡ 4) × (may_ask ≡ true))
   pub nothing : once ≡ None → script ≡ None → (realm ≡ None) × (new ≡ old)
   pub once_runs : IfSome once (λ asked. RunsOnce asked old new realm status)
   pub script_runs : IfSome script (λ asked. RunsScripted asked old new realm status)

@@ -10,9 +10,9 @@ use Rattle.rgw_script.specs.declared.fault.ScriptFault.TheVariants as Fault
 use Rattle.rgw_script.specs.declared.running.ScriptPlan.{ScriptPlan}
 use Rattle.rgw_words.specs.declared.run_words.RunWords.{RunWords}
 
--- what the script is run on: its clock begins at 0 where the words say no moment
+-- what the script is run on: its clock begins at 0 where the words say no moment, and the first of their users asks
 abbrev pub plan_of : RunWords → ScriptPlan
-plan_of script = record { bucket = script.bucket; moment = unwrap_or script.now 0 }
+plan_of script = record { bucket = script.bucket; moment = unwrap_or script.now 0; users = script.users }
 
 abbrev pub script_status : Result (Unit {0}) ScriptFault → ℕ
 script_status (Ok done) = 0

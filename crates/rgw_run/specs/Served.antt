@@ -1,5 +1,5 @@
 -- What any run of the program comes to, a server's among them.
-use Rattle.std.specs.Prelude.{◌≡◌, ◌⊎◌, ◌↔◌, ℕ, List, Option, None, IfSome}
+use Rattle.std.specs.Prelude.{◌≡◌, ◌⊎◌, ℕ, Bool, true, List, Option, None, IfSome}
 use Rattle.gw_io.specs.Ends.{EndsState}
 use Rattle.realm_core.specs.Realms.{RealmView}
 use Rattle.rgw_server.specs.Ends.{EndsServing}
@@ -41,8 +41,9 @@ pub record RunsServer (asked : ServeWords) (old new : NetState) (realm : Option 
   pub none : realm ≡ None
 
 -- What a run with such words comes to, which ask to serve one connection, to run a script, to serve those of a port, or nothing
--- of these, and are refused then.
-pub record Runs (once : Option RunWords) (script : Option RunWords) (serve : Option ServeWords) (old new : EndsState) (net later : NetState) (realm : Option RealmView) (status : ℕ) : Type 0 where
-  pub refused : (status ≡ 1) ↔ ((once ≡ None) × (script ≡ None) × (serve ≡ None))
-  pub alone : serve ≡ None → RunsAlone once script old new realm status
+-- of these, and are refused then; but memory may be wanting to read the text of the users of a script.
+pub record Runs (once : Option RunWords) (script : Option RunWords) (may_ask : Bool) (serve : Option ServeWords) (old new : EndsState) (net later : NetState) (realm : Option RealmView) (status : ℕ) : Type 0 where
+  pub refused : status ≡ 1 → (once ≡ None) × (script ≡ None) × (serve ≡ None)
+  pub nothing : once ≡ None → script ≡ None → serve ≡ None → (status ≡ 1) ⊎ ((status ≡ 4) × (may_ask ≡ true))
+  pub alone : serve ≡ None → RunsAlone once script may_ask old new realm status
   pub server : IfSome serve (λ asked. RunsServer asked net later realm status)

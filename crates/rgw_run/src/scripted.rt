@@ -27,6 +27,7 @@ pub(crate) fn run_scripted<S: Source, K: Sink, C: Clock>(
         bucket,
         settings,
         now,
+        users,
     } = script;
     let Ok(mut made) = Realm::new(alloc, &settings) else {
         return Status { number: 4 };
@@ -34,6 +35,7 @@ pub(crate) fn run_scripted<S: Source, K: Sink, C: Clock>(
     let plan = ScriptPlan {
         bucket,
         moment: now.unwrap_or(0),
+        users,
     };
     let result = run_script(alloc, &settings, &plan, &mut made, input, output);
     *realm = Some(made);

@@ -28,7 +28,10 @@ pub(crate) fn run_server<R: Wait + Threads + Sync, C: Clock, N: Net, T: Pause + 
         bucket,
         settings,
         now,
+        users,
     } = run;
+    // The one user of connections is the standard one.
+    drop(users);
     let Serving {
         port,
         workers,

@@ -19,12 +19,12 @@ use Rattle.realm_door.specs.Steps.{Grows, IsSame, actor_of_pass}
 use Rattle.realm_door.proofs.Others.{none_by, same_other_pass}
 use Rattle.call_service.specs.Serving.{IsNew}
 use Rattle.script_player.specs.Going.{ActsAlone, GoesUpTo, HasGone}
-use Rattle.script_player.specs.Plays.{fits, IsPlaying, StandsAs}
+use Rattle.script_player.specs.Plays.{asked, fits, IsPlaying, StandsAs, ComesSoFar}
 use Rattle.script_player.specs.declared.player.Gone.{Gone}
 use Rattle.script_player.specs.declared.player.Gone.TheVariants.{Short, Ended}
 use Rattle.script_player.specs.declared.player.Player.{Player}
 use Rattle.rgw_script.specs.Scenes.{actor_in, has_acted, view_of}
-use Rattle.rgw_script.specs.Stages.{door_to, AreByFirsts, AreBelow, IsOpen, StandsIn, StandsAfter}
+use Rattle.rgw_script.specs.Stages.{door_to, AreByFirsts, AreBelow, IsOpen, StandsIn, HasBrokenOff, StandsAfter}
 use Rattle.rgw_script.specs.declared.active.Active.{Active}
 
 -- ---- lists of events
@@ -189,6 +189,12 @@ module _ (self : Active) (r0 r1 r2 : RealmView) (a1 a2 : Actor) (moment most : �
       ap (λ (a : Actor). a.used) by ∙ used ∙ sym (λ i. has_acted ((ap (λ (a : Actor). a.pass) by) i) ((ap (λ (r : RealmView). r.history) from) i)) in
       used_after r1.settings moment goes.0 (door_of r1 a1) (door_of r2 a2) first alone goes.2.grows before
       ∙ ap (λ (a : Actor). has_acted a.pass r2.history) by
+
+  pub act_broken : (h : List Event) → r2.history ≡ h → ComesSoFar (asked self.player) r1.settings (door_of r2 a2) → self.used ≡ has_acted self.pass r0.history → HasBrokenOff r0.settings h self
+  act_broken h left so_far used =
+      let seen : door_of r2 a2 ≡ view_of self.pass r2.history = told_as ∙ (λ i. record { pass = self.pass; count = 0; used = used_now used i; seen = r2.history }) in
+      subst (λ (l : List Event). HasBrokenOff r0.settings l self) left
+      (subst (ComesSoFar (asked self.player) r0.settings) seen (subst (λ (r : RealmView). ComesSoFar (asked self.player) r.settings (door_of r2 a2)) from so_far))
 
   pub act_stands : (h : List Event) → r2.history ≡ h → (gone : Gone) (player : Player) → fits player r1.settings (door_of r2 a2) → StandsAs gone player
       → self.used ≡ has_acted self.pass r0.history

@@ -13,13 +13,12 @@ use Rattle.realm_model.specs.declared.actor.Actor.{Actor}
 use Rattle.realm_model.specs.declared.event.Event.{Event}
 use Rattle.realm_model.specs.declared.event.Reply.{Reply}
 use Rattle.realm_model.specs.declared.op.Op.{Op}
-use Rattle.swift_auth.specs.Users.{standard_user, account_of}
+use Rattle.swift_auth.specs.Users.{UserView, account_of}
 use Rattle.turn_cell.specs.declared.machine.DoorFault.{DoorFault}
 use Rattle.turn_cell.specs.declared.machine.DoorFault.TheVariants as doors
-use Rattle.task_words.specs.declared.asker.Asker.{Asker}
 use Rattle.rgw_script.specs.Faults.{door_fault}
 use Rattle.rgw_script.specs.Casts.{under}
-use Rattle.rgw_script.specs.Runs.{first_door, made, opening, Unmade, IsUnmade, RunsLines, RunsScript, HasScriptCause}
+use Rattle.rgw_script.specs.Runs.{first_door, first_user, made, opening, Unmade, IsUnmade, RunsLines, RunsScript, HasScriptCause}
 use Rattle.rgw_script.specs.Scenes.{Scene}
 use Rattle.rgw_script.specs.Stages.{AreByFirsts, AreBelow, IsOpen, Holds, part_of, scene_of}
 use Rattle.rgw_script.specs.declared.cast.Cast.{Cast}
@@ -54,22 +53,22 @@ module _ (settings : SettingsView) (r0 r1 r2 : RealmView) (a1 a2 : Actor) (bucke
   starts = λ i. door_of ((from ∙ is_new) i) (by i)
 
   -- it was made
-  pub made_so : (owner : List ℕ) → owner ≡ account_of standard_user
+  pub made_so : (user : UserView) (owner : List ℕ) → owner ≡ account_of user
       → (row_now settings r1.history bucket ≡ None → r2.history ≡ r1.history ++ preset settings (actor_at (door_of r1 a1)) bucket owner (length r1.history + 1) moment)
-      → (h : List Event) → r2.history ≡ h → h ≡ made settings (Some bucket) moment
-  made_so owner own events h left =
+      → (h : List Event) → r2.history ≡ h → h ≡ made settings user (Some bucket) moment
+  made_so user owner own events h left =
       sym left
       ∙ subst (λ (d : DoorView). row_now settings d.seen bucket ≡ None → r2.history ≡ d.seen ++ preset settings (actor_at d) bucket owner (length d.seen + 1) moment) starts events (at-none bucket)
       ∙ ap (λ o. preset settings (actor_at first_door) bucket o 1 moment) own
 
-  pub made_below : (h : List Event) → h ≡ made settings (Some bucket) moment → AreBelow 2 h
-  made_below h is = subst (AreBelow 2) (sym is) (by_preset _ (actor_at first_door) moment (λ op reply. omega arith) settings bucket (account_of standard_user) 1)
+  pub made_below : (user : UserView) (h : List Event) → h ≡ made settings user (Some bucket) moment → AreBelow 2 h
+  made_below user h is = subst (AreBelow 2) (sym is) (by_preset _ (actor_at first_door) moment (λ op reply. omega arith) settings bucket (account_of user) 1)
 
-  pub made_open : (r3 : RealmView) → r2 ≡ r3 → r3.history ≡ made settings (Some bucket) moment → r2.settings ≡ r1.settings → Legal settings r2.history → IsOpen settings r3
-  made_open r3 left is same legal = record {
+  pub made_open : (user : UserView) (r3 : RealmView) → r2 ≡ r3 → r3.history ≡ made settings user (Some bucket) moment → r2.settings ≡ r1.settings → Legal settings r2.history → IsOpen settings r3
+  made_open user r3 left is same legal = record {
     settings_are = ap (λ (r : RealmView). r.settings) (sym left) ∙ same ∙ ap (λ (r : RealmView). r.settings) (from ∙ is_new);
     legal = subst (λ (r : RealmView). Legal settings r.history) left legal;
-    firsts = subst AreByFirsts (sym is) (by_preset _ (actor_at first_door) moment (λ op reply. refl) settings bucket (account_of standard_user) 1);
+    firsts = subst AreByFirsts (sym is) (by_preset _ (actor_at first_door) moment (λ op reply. refl) settings bucket (account_of user) 1);
   }
 
   -- it was not
@@ -107,10 +106,11 @@ pub unmade_as : (settings : SettingsView) (plan : ScriptPlan) (bucket : List ℕ
 unmade_as settings plan bucket history (Ok done) is unmade = tt
 unmade_as settings plan bucket history (Err fault) is unmade = (bucket, is, unmade)
 
-pub made_as : (settings : SettingsView) (plan : ScriptPlan) (bucket : List ℕ) (history : List Event) (result : Result (Unit {0}) ScriptFault) → plan.bucket ≡ Some bucket
-    → OnOk result (history ≡ made settings (Some bucket) plan.moment) → OnOk result (history ≡ made settings plan.bucket plan.moment)
-made_as settings plan bucket history (Ok done) is so = so ∙ ap (λ b. made settings b plan.moment) (sym is)
-made_as settings plan bucket history (Err fault) is so = tt
+pub made_as : (settings : SettingsView) (plan : ScriptPlan) (user : UserView) (bucket : List ℕ) (history : List Event) (result : Result (Unit {0}) ScriptFault) → user ≡ first_user plan → plan.bucket ≡ Some bucket
+    → OnOk result (history ≡ made settings user (Some bucket) plan.moment) → OnOk result (history ≡ made settings (first_user plan) plan.bucket plan.moment)
+made_as settings plan user bucket history (Ok done) who is so =
+    so ∙ ap (λ u. made settings u (Some bucket) plan.moment) who ∙ ap (λ b. made settings (first_user plan) b plan.moment) (sym is)
+made_as settings plan user bucket history (Err fault) who is so = tt
 
 -- what is left where it was not made
 pub unbegun : (settings : SettingsView) (plan : ScriptPlan) (left taken : Option (List ℕ)) (history : List Event) (fault : ScriptFault) → IsUnmade settings plan history fault
@@ -136,11 +136,11 @@ unmade_counts settings plan history read write fault unmade = record {
 -- ---- the scene before the first line
 
 -- nobody has a name, and the container stands
-pub opens : (settings : SettingsView) (plan : ScriptPlan) (cast : Cast) (asker : Asker) (history : List Event) → ((name : List ℕ) → under cast name ≡ None) → history ≡ made settings plan.bucket plan.moment
+pub opens : (settings : SettingsView) (plan : ScriptPlan) (cast : Cast) (asker : UserView) (history : List Event) → asker ≡ first_user plan → ((name : List ℕ) → under cast name ≡ None) → history ≡ made settings (first_user plan) plan.bucket plan.moment
     → scene_of (record { moment = plan.moment; next = 2; cast = cast; asker = asker }) history ≡ opening settings plan
-opens settings plan cast asker history none is = λ i. record { moment = plan.moment; parts = λ name. part_of (none name i); next = 2; history = is i }
+opens settings plan cast asker history who none is = λ i. record { moment = plan.moment; user = who i; parts = λ name. part_of (none name i); next = 2; history = is i }
 
-pub opens_holds : (settings : SettingsView) (plan : ScriptPlan) (cast : Cast) (asker : Asker) (realm : RealmView) → ((name : List ℕ) → under cast name ≡ None) → IsOpen settings realm → AreBelow 2 realm.history
+pub opens_holds : (settings : SettingsView) (plan : ScriptPlan) (cast : Cast) (asker : UserView) (realm : RealmView) → ((name : List ℕ) → under cast name ≡ None) → IsOpen settings realm → AreBelow 2 realm.history
     → Holds settings (record { moment = plan.moment; next = 2; cast = cast; asker = asker }) realm
 opens_holds settings plan cast asker realm none is_open below = record {
   is_open = is_open;

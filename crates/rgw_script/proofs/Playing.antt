@@ -1,5 +1,5 @@
 -- Lines that name an actor, or begin one.
-use Rattle.std.proofs.Common.{◌≡◌, ◌≢◌, ℕ, ◌+◌, ◌≤◌, Bool, true, false, List, [], ◌++◌, Option, None, Some, Result, Ok, Err, OnOk, OnErr, IfErr, IfSome, IfNone, refl, sym, ap, ◌∙◌, subst, arith}
+use Rattle.std.proofs.Common.{◌≡◌, ◌≢◌, inl, inr, ℕ, ◌+◌, ◌≤◌, Bool, true, false, List, [], ◌++◌, Option, None, Some, Result, Ok, Err, OnOk, OnErr, IfErr, IfSome, IfNone, refl, sym, ap, ◌∙◌, subst, arith}
 use Rattle.std.specs.Prelude.{is_some}
 use Rattle.realm_core.specs.Realms.{RealmView}
 use Rattle.realm_model.specs.Settings.{SettingsView}
@@ -11,12 +11,13 @@ use Rattle.script_words.specs.declared.line.Verb.{Verb}
 use Rattle.script_words.specs.declared.outcome.ActorOutcome.{ActorOutcome}
 use Rattle.script_player.specs.Meanings.{Means}
 use Rattle.script_player.specs.Plays.{fits}
+use Rattle.script_player.specs.Requests.{asker_for}
 use Rattle.script_player.specs.declared.player.Gone.{Gone}
 use Rattle.script_player.specs.declared.player.Gone.TheVariants.{Short, Ended}
 use Rattle.rgw_script.specs.Casts.{under, playing}
-use Rattle.rgw_script.specs.Plays.{Acts, Ends, GoesOn, StepsOn, RunsOut, Does, Plays, Misses, Begins}
+use Rattle.rgw_script.specs.Plays.{Acts, Ends, GoesOn, StepsOn, RunsOut, Does, Plays, Misses, LeavesActor, Begins}
 use Rattle.rgw_script.specs.Scenes.{Role, plays, asked_of, has_acted, view_of, recast, next_role}
-use Rattle.rgw_script.specs.Stages.{role_of, part_of, scene_of, door_to, IsOpen, AreBelow, StandsIn, Holds, HasActed, HasActedSome, HasEnded, StandsAfter, BearsOut, StopsAt, ComesTo}
+use Rattle.rgw_script.specs.Stages.{role_of, part_of, scene_of, door_to, IsOpen, AreBelow, StandsIn, Holds, HasActed, HasActedSome, HasBrokenOff, HasEnded, StandsAfter, BearsOut, StopsAt, ComesTo}
 use Rattle.rgw_script.specs.declared.active.Active.{Active}
 use Rattle.rgw_script.specs.declared.cast.Cast.{Cast}
 use Rattle.rgw_script.specs.declared.fault.ScriptFault.{ScriptFault}
@@ -71,7 +72,7 @@ stopped settings script cast name None history takes some = absurd (cc)
 stopped settings script cast name (Some a) history takes some = (
   role_of a,
   ap part_of (at_playing (under script.cast name) a (sym takes.who)),
-  (λ i. record { moment = script.moment; parts = parts_put name (Some None) (under script.cast) (under cast) takes.gone i; next = script.next; history = history }),
+  (λ i. record { moment = script.moment; user = script.asker; parts = parts_put name (Some None) (under script.cast) (under cast) takes.gone i; next = script.next; history = history }),
   refl,
 )
 
@@ -82,7 +83,7 @@ abbrev pub raised : Script → Cast → Script
 raised script cast = record { moment = script.moment; next = script.next + 1; cast = cast; asker = script.asker }
 
 module _ (settings : SettingsView) (script : Script) (cast : Cast) (name : List ℕ) (a : Active) (zone : ℕ) (verb : Verb)
-    (role : role_of a ≡ record { pass = script.next; zone = zone; verb = verb }) (by : Puts name (Some (Some a)) (under script.cast) (under cast)) where
+    (role : role_of a ≡ record { pass = script.next; zone = zone; asker = asker_for script.asker verb; verb = verb }) (by : Puts name (Some (Some a)) (under script.cast) (under cast)) where
   own_pass : a.pass ≡ script.next
   own_pass = ap (λ (r : Role). r.pass) role
 
@@ -103,6 +104,7 @@ module _ (settings : SettingsView) (script : Script) (cast : Cast) (name : List 
     ap part_of none,
     (λ i. record {
       moment = script.moment;
+      user = script.asker;
       parts = (parts_put name (Some (Some a)) (under script.cast) (under cast) by
           ∙ (λ j. recast (λ q. part_of (under script.cast q)) name (plays (role j)))) i;
       next = script.next + 1;
@@ -122,7 +124,7 @@ module _ (settings : SettingsView) (script : Script) (h h' : List Event) (a b : 
       → Ends settings (scene_of script h) (role_of a) count h' outcome shown
   ends_so count outcome shown acts ended bears = record {
     acts = acts;
-    means = subst (λ (r : Role). Means r.zone r.verb outcome shown settings (view_of r.pass h')) same
+    means = subst (λ (r : Role). Means r.zone r.asker r.verb outcome shown settings (view_of r.pass h')) same
         (bears settings (view_of b.pass h') (subst (fits b.player settings) (told_so ended.used) ended.stands));
   }
 
@@ -160,7 +162,7 @@ module _ (settings : SettingsView) (script : Script) (cast : Cast) (name : List 
     outcome = tells.outcome;
     shown = tells.shown;
     ends = ends_so settings script realm.history realm'.history a b same count tells.outcome tells.shown acts ended tells.bears;
-    leaves = λ i. record { moment = script.moment; parts = parts_put name (Some None) (under script.cast) (under cast) takes.gone i; next = script.next; history = realm'.history };
+    leaves = λ i. record { moment = script.moment; user = script.asker; parts = parts_put name (Some None) (under script.cast) (under cast) takes.gone i; next = script.next; history = realm'.history };
     tells = tells.told ∙ ap (λ l. l ++ named_line name (outcome_text tells.outcome tells.shown)) empty;
   }
 
@@ -171,7 +173,7 @@ module _ (settings : SettingsView) (script : Script) (cast : Cast) (name : List 
   stepped count back old printed empty acts stands by told = record {
     history = realm'.history;
     goes_on = goes_on settings script realm.history realm'.history a b same count acts stands;
-    leaves = λ i. record { moment = script.moment; parts = parts_back name a b (under script.cast) (under cast) (under back) had same takes.gone by i; next = script.next; history = realm'.history };
+    leaves = λ i. record { moment = script.moment; user = script.asker; parts = parts_back name a b (under script.cast) (under cast) (under back) had same takes.gone by i; next = script.next; history = realm'.history };
     tells = told ∙ ap (λ l. l ++ count_line name count) empty;
   }
 
@@ -231,20 +233,45 @@ acted_some Ended pass moment most h h' acted = acted
 
 -- ---- what was begun
 
-pub begun_run : (script : Script) (cast : Cast) (name : List ℕ) (a : Active) (most : ℕ) (h h' : List Event) → Takes script cast name (Some a) → HasActedSome a.pass script.moment most h h' → Begins (scene_of script h) (lines.Run name) h'
-begun_run script cast name a most h h' takes acted = (role_of a, part_taken script cast name a takes, acted.0, acted.2)
+-- what a line made by the actor when it was left: at most so many events
+abbrev pub LeavesSome : SettingsView → Script → Active → ℕ → List Event → List Event → Type 0
+LeavesSome settings script a most h h' = (count : ℕ) × (count ≤ most) × LeavesActor settings (scene_of script h) (role_of a) count h'
 
-pub begun_step : (script : Script) (cast : Cast) (name : List ℕ) (a : Active) (events : ℕ) (h h' : List Event) → Takes script cast name (Some a) → HasActedSome a.pass script.moment events h h' → Begins (scene_of script h) (lines.Step name events) h'
-begun_step script cast name a events h h' takes acted = (role_of a, part_taken script cast name a takes, acted.0, acted.1, acted.2)
+module _ (settings : SettingsView) (script : Script) (a : Active) (most : ℕ) (h h' : List Event) (acted : HasActedSome a.pass script.moment most h h') where
+  -- an event failed to come
+  pub broke_off : (other : SettingsView) → other ≡ settings → HasBrokenOff other h' a → LeavesSome settings script a most h h'
+  broke_off other eq broken = (acted.0, acted.1, inl (record { acts = acted.2; so_far = subst (λ s. HasBrokenOff s h' a) eq broken }))
 
-pub begun_do : (script : Script) (zone : ℕ) (verb : Verb) (a : Active) (most : ℕ) (h h' : List Event) → role_of a ≡ record { pass = script.next; zone = zone; verb = verb } → HasActedSome a.pass script.moment most h h'
-    → Begins (scene_of script h) (lines.Do zone verb) h'
-begun_do script zone verb a most h h' role acted = subst (λ (r : Role). (count : ℕ) × Acts (scene_of script h) r.pass count h') role (acted.0, acted.2)
+  -- the fault came behind its end
+  pub ended_first : (b : Active) → role_of b ≡ role_of a → (other : SettingsView) → other ≡ settings → HasEnded other h' b
+      → {P : ActorOutcome → List ℕ → Type 0} → (outcome : ActorOutcome) × (shown : List ℕ) × BearsOut b outcome shown × P outcome shown → LeavesSome settings script a most h h'
+  ended_first b same other eq ended told = (
+    acted.0,
+    acted.1,
+    inr (told.0, told.1, ends_so settings script h h' a b same acted.0 told.0 told.1 acted.2 (subst (λ s. HasEnded s h' b) eq ended) told.2),
+  )
+
+  -- the fault came behind all that were wanted
+  pub went_first : (b : Active) → role_of b ≡ role_of a → StandsIn settings h' b → LeavesSome settings script a most h h'
+  went_first b same stands =
+      let on = goes_on settings script h h' a b same acted.0 acted.2 stands in
+      (acted.0, acted.1, inl (record { acts = acted.2; so_far = record { player = on.player; asks = on.asks; sound = on.playing.stands; stands = on.stands } }))
+
+pub begun_run : (settings : SettingsView) (script : Script) (cast : Cast) (name : List ℕ) (a : Active) (most : ℕ) (h h' : List Event) → Takes script cast name (Some a) → LeavesSome settings script a most h h' → Begins settings (scene_of script h) (lines.Run name) h'
+begun_run settings script cast name a most h h' takes left = (role_of a, part_taken script cast name a takes, left.0, left.2)
+
+pub begun_step : (settings : SettingsView) (script : Script) (cast : Cast) (name : List ℕ) (a : Active) (events : ℕ) (h h' : List Event) → Takes script cast name (Some a) → LeavesSome settings script a events h h' → Begins settings (scene_of script h) (lines.Step name events) h'
+begun_step settings script cast name a events h h' takes left = (role_of a, part_taken script cast name a takes, left.0, left.1, left.2)
+
+pub begun_do : (settings : SettingsView) (script : Script) (zone : ℕ) (verb : Verb) (a : Active) (most : ℕ) (h h' : List Event) → role_of a ≡ record { pass = script.next; zone = zone; asker = asker_for script.asker verb; verb = verb } → LeavesSome settings script a most h h'
+    → Begins settings (scene_of script h) (lines.Do zone verb) h'
+begun_do settings script zone verb a most h h' role left =
+    inr (subst (λ (r : Role). (count : ℕ) × LeavesActor settings (scene_of script h) r count h') role (left.0, left.2))
 
 -- ---- an actor without a name
 
 module _ (settings : SettingsView) (script : Script) (zone : ℕ) (verb : Verb) (a b : Active) (realm realm' : RealmView)
-    (role : role_of a ≡ record { pass = script.next; zone = zone; verb = verb }) (same : role_of b ≡ role_of a) where
+    (role : role_of a ≡ record { pass = script.next; zone = zone; asker = asker_for script.asker verb; verb = verb }) (same : role_of b ≡ role_of a) where
   pass_is : a.pass ≡ script.next
   pass_is = ap (λ (r : Role). r.pass) role
 
@@ -354,7 +381,7 @@ comes_do settings before after old new zone verb out holds played next is_open =
   is_open = is_open;
 }
 
-pub comes_left : (settings : SettingsView) (line : Line) (before after : Script) (old new : RealmView) (out : List ℕ) (fault : ScriptFault) → Begins (scene_of before old.history) line new.history → StopsAt new.history fault → IsOpen settings new
+pub comes_left : (settings : SettingsView) (line : Line) (before after : Script) (old new : RealmView) (out : List ℕ) (fault : ScriptFault) → Begins settings (scene_of before old.history) line new.history → StopsAt new.history fault → IsOpen settings new
     → ComesTo settings line before after old new out (Err fault)
 comes_left settings line before after old new out fault begun cause is_open = record {
   holds = tt;

@@ -9,7 +9,7 @@ use Rattle.script_words.specs.declared.line.Line.TheVariants.{Clock, Start, Step
 use Rattle.script_words.specs.declared.outcome.ActorOutcome.{ActorOutcome}
 use Rattle.script_player.specs.Going.{ActsAlone}
 use Rattle.script_player.specs.Meanings.{Means}
-use Rattle.script_player.specs.Plays.{asked, fits, IsPlaying}
+use Rattle.script_player.specs.Plays.{asked, fits, IsPlaying, ComesSoFar}
 use Rattle.script_player.specs.declared.player.Player.{Player}
 use Rattle.rgw_script.specs.Scenes.{Role, unused, plays, gone, asked_of, view_of, Scene, with_part, with_history, next_role, with_next}
 
@@ -22,7 +22,7 @@ Acts s pass count history = ActsAlone s.moment count (view_of pass s.history) (v
 -- the actor made so many events, and ended so: its own events bear that out
 pub record Ends (settings : SettingsView) (s : Scene) (role : Role) (count : ℕ) (history : List Event) (outcome : ActorOutcome) (shown : List ℕ) : Type 0 where
   pub acts : Acts s role.pass count history
-  pub means : Means role.zone role.verb outcome shown settings (view_of role.pass history)
+  pub means : Means role.zone role.asker role.verb outcome shown settings (view_of role.pass history)
 
 -- the actor made so many events, and by its own events it has not ended
 pub record GoesOn (settings : SettingsView) (s : Scene) (role : Role) (count : ℕ) (history : List Event) : Type 0 where
@@ -107,12 +107,26 @@ PlaysAll settings s (text ∷ texts) t printed =
 
 -- ---- a line that was left
 
--- the events that a line may have made by the time that it was left
-abbrev pub Begins : Scene → Line → List Event → Type 0
-Begins s (Clock moment) history = history ≡ s.history
-Begins s (Start name zone verb) history = history ≡ s.history
-Begins s (Step name events) history =
-    (role : Role) × (s.parts name ≡ plays role) × (count : ℕ) × (count ≤ events) × Acts s role.pass count history
-Begins s (Run name) history = (role : Role) × (s.parts name ≡ plays role) × (count : ℕ) × Acts s role.pass count history
-Begins s (Stop name) history = history ≡ s.history
-Begins s (Do zone verb) history = (count : ℕ) × Acts s s.next count history
+-- the actor made so many events, and all its own are those of its verb, in the order in which its task makes them, as far as it
+-- came
+pub record BreaksOff (settings : SettingsView) (s : Scene) (role : Role) (count : ℕ) (history : List Event) : Type 0 where
+  pub acts : Acts s role.pass count history
+  pub so_far : ComesSoFar (asked_of role) settings (view_of role.pass history)
+
+-- what a line that was left leaves of its actor: it broke off, or it ended, and the fault came behind its last event
+abbrev pub LeavesActor : SettingsView → Scene → Role → ℕ → List Event → Type 0
+LeavesActor settings s role count history =
+    BreaksOff settings s role count history
+    ⊎ ((outcome : ActorOutcome) × (shown : List ℕ) × Ends settings s role count history outcome shown)
+
+-- the events that a line had made when it was left; none where memory for the actor of a `do` was wanting
+abbrev pub Begins : SettingsView → Scene → Line → List Event → Type 0
+Begins settings s (Clock moment) history = history ≡ s.history
+Begins settings s (Start name zone verb) history = history ≡ s.history
+Begins settings s (Step name events) history =
+    (role : Role) × (s.parts name ≡ plays role) × (count : ℕ) × (count ≤ events) × LeavesActor settings s role count history
+Begins settings s (Run name) history =
+    (role : Role) × (s.parts name ≡ plays role) × (count : ℕ) × LeavesActor settings s role count history
+Begins settings s (Stop name) history = history ≡ s.history
+Begins settings s (Do zone verb) history =
+    (history ≡ s.history) ⊎ ((count : ℕ) × LeavesActor settings s (next_role s zone verb) count history)

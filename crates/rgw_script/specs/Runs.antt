@@ -1,5 +1,5 @@
 -- What running a script comes to.
-use Rattle.std.specs.Prelude.{◌≡◌, ◌≢◌, ◌⊎◌, ℕ, ◌+◌, ◌^◌, ◌≤◌, false, List, [], ◌∷◌, ◌++◌, length, Option, Some, None, Result, Ok, Err}
+use Rattle.std.specs.Prelude.{◌≡◌, ◌≢◌, ◌⊎◌, ℕ, ◌+◌, ◌^◌, ◌≤◌, false, List, [], ◌∷◌, ◌++◌, length, Option, Some, None, unwrap_or, slice_get, Result, Ok, Err}
 use Rattle.std.specs.Io.KnownBytes.{Consumes, Appends, IsAtEnd}
 use Rattle.std.specs.List.{AllByRecursion}
 use Rattle.gw_io.specs.Outside.{Rose, AppendsProperPrefix}
@@ -7,7 +7,7 @@ use Rattle.container_preset.specs.Presets.{preset, Stops}
 use Rattle.realm_model.specs.Doors.{DoorView, actor_at}
 use Rattle.realm_model.specs.Settings.{SettingsView}
 use Rattle.realm_model.specs.declared.event.Event.{Event}
-use Rattle.swift_auth.specs.Users.{standard_user, account_of}
+use Rattle.swift_auth.specs.Users.{UserView, standard_user, account_of}
 use Rattle.script_lines.specs.Lines.{IsUnbroken, lines_of}
 use Rattle.script_lines.specs.Reading.{BeginsTooLong}
 use Rattle.script_lines.specs.declared.reader.TheConstants.{LINE_LIMIT, INPUT_LIMIT}
@@ -26,18 +26,23 @@ use Rattle.rgw_script.specs.declared.running.ScriptPlan.{ScriptPlan}
 abbrev pub first_door : DoorView
 first_door = record { pass = 1; count = 0; used = false; seen = [] }
 
--- the events that make the container of a plan, all at its moment
-abbrev pub made : SettingsView → Option (List ℕ) → ℕ → List Event
-made settings None moment = []
-made settings (Some bucket) moment = preset settings (actor_at first_door) bucket (account_of standard_user) 1 moment
+-- the first of the users, of whom there is one at least, makes the requests
+abbrev pub first_user : ScriptPlan → UserView
+first_user plan = unwrap_or (slice_get plan.users 0) standard_user
+
+-- the events that make the container of a plan, of this user's account, all at its moment
+abbrev pub made : SettingsView → UserView → Option (List ℕ) → ℕ → List Event
+made settings user None moment = []
+made settings user (Some bucket) moment = preset settings (actor_at first_door) bucket (account_of user) 1 moment
 
 -- no name is used, and the actors have the passes from 2 on
 abbrev pub opening : SettingsView → ScriptPlan → Scene
 opening settings plan = record {
   moment = plan.moment;
+  user = first_user plan;
   parts = λ name. unused;
   next = 2;
-  history = made settings plan.bucket plan.moment;
+  history = made settings (first_user plan) plan.bucket plan.moment;
 }
 
 -- ---- lines of the input
@@ -91,9 +96,9 @@ LeavesText settings s number text taken taken' history WriteFault =
     ((t : Scene) × (printed : List ℕ) × PlaysOne settings s text t printed × (history ≡ t.history) × AppendsProperPrefix taken taken' printed)
     ⊎ (IsBad settings.zones s text × (history ≡ s.history) × AppendsProperPrefix taken taken' (bad_line number))
 LeavesText settings s number text taken taken' history OutOfMemory =
-    ((history ≡ s.history) ⊎ ((line : Line) × IsLine settings.zones text line × Begins s line history)) × Appends taken taken' []
+    ((history ≡ s.history) ⊎ ((line : Line) × IsLine settings.zones text line × Begins settings s line history)) × Appends taken taken' []
 LeavesText settings s number text taken taken' history Worn =
-    (length history ≡ 2 ^ 62) × ((line : Line) × IsLine settings.zones text line × Begins s line history) × Appends taken taken' []
+    (length history ≡ 2 ^ 62) × ((line : Line) × IsLine settings.zones text line × Begins settings s line history) × Appends taken taken' []
 LeavesText settings s number text taken taken' history ReadFault = ⊥
 
 -- A line that is too long, or with which the input is, is bad: that was written, or not whole.

@@ -7,19 +7,23 @@ use Rattle.realm_model.specs.Phases.{ActorId}
 use Rattle.realm_model.specs.Worlds.{actor_of, same_actor}
 use Rattle.realm_model.specs.declared.event.Event.{Event}
 use Rattle.realm_door.specs.Steps.{actor_of_pass}
+use Rattle.swift_auth.specs.Users.{UserView}
+use Rattle.task_words.specs.declared.asker.Asker.{Asker}
 use Rattle.script_words.specs.declared.line.Verb.{Verb}
 use Rattle.script_player.specs.Plays.{Asked}
+use Rattle.script_player.specs.Requests.{asker_for}
 
 -- ---- actors
 
--- an actor of a script is the first one of a pass of its own; in its zone it does this
+-- an actor of a script is the first one of a pass of its own; in its zone it does this, for who asks
 pub record Role : Type 0 where
   pub pass : ℕ
   pub zone : ℕ
+  pub asker : Asker
   pub verb : Verb
 
 abbrev pub asked_of : Role → Asked
-asked_of role = record { zone = role.zone; verb = role.verb }
+asked_of role = record { zone = role.zone; asker = role.asker; verb = role.verb }
 
 -- who has a name: nobody had it; its actor plays; or its actor ended or was stopped
 pub data Part : Type 0 where
@@ -41,9 +45,11 @@ view_of pass history = record { pass = pass; count = 0; used = has_acted pass hi
 
 -- ---- scenes
 
--- the moment that the next events bring, who has which name, the pass of the next actor, and the history of the realm
+-- the moment that the next events bring, who makes the requests, who has which name, the pass of the next actor, and the history
+-- of the realm
 pub record Scene : Type 0 where
   pub moment : ℕ
+  pub user : UserView
   pub parts : List ℕ → Part
   pub next : ℕ
   pub history : List Event
@@ -62,7 +68,7 @@ with_history s history = record s { history = history }
 
 -- the actor that comes next
 abbrev pub next_role : Scene → ℕ → Verb → Role
-next_role s zone verb = record { pass = s.next; zone = zone; verb = verb }
+next_role s zone verb = record { pass = s.next; zone = zone; asker = asker_for s.user verb; verb = verb }
 
 -- the scene behind it
 abbrev pub with_next : Scene → Scene

@@ -12,13 +12,13 @@ use Rattle.script_words.specs.declared.line.Verb.{Verb}
 use Rattle.script_words.specs.declared.outcome.ActorOutcome.{ActorOutcome}
 use Rattle.script_player.specs.Going.{ActsAlone}
 use Rattle.script_player.specs.Meanings.{Means}
-use Rattle.script_player.specs.Plays.{asked, fits, IsPlaying, IsEnded}
+use Rattle.script_player.specs.Plays.{asked, fits, IsPlaying, IsEnded, ComesSoFar}
 use Rattle.script_player.specs.declared.player.Gone.{Gone}
 use Rattle.script_player.specs.declared.player.Gone.TheVariants.{Short, Ended}
 use Rattle.script_player.specs.Requests.{HasFewBytes}
 use Rattle.rgw_script.specs.Casts.{Table, under}
 use Rattle.rgw_script.specs.Plays.{Plays, Misses, Begins}
-use Rattle.rgw_script.specs.Scenes.{Role, Part, unused, plays, gone, has_acted, view_of, Scene}
+use Rattle.rgw_script.specs.Scenes.{Role, Part, unused, plays, gone, asked_of, has_acted, view_of, Scene}
 use Rattle.rgw_script.specs.declared.active.Active.{Active}
 use Rattle.rgw_script.specs.declared.fault.ScriptFault.{ScriptFault}
 use Rattle.rgw_script.specs.declared.fault.ScriptFault.TheVariants.{OutOfMemory, Worn}
@@ -27,7 +27,7 @@ use Rattle.rgw_script.specs.declared.script.Script.{Script}
 -- ---- as the lines see it
 
 abbrev pub role_of : Active → Role
-role_of a = record { pass = a.pass; zone = (asked a.player).zone; verb = (asked a.player).verb }
+role_of a = record { pass = a.pass; zone = (asked a.player).zone; asker = (asked a.player).asker; verb = (asked a.player).verb }
 
 abbrev pub part_of : Option (Option Active) → Part
 part_of None = unused
@@ -38,6 +38,7 @@ part_of (Some (Some a)) = plays (role_of a)
 abbrev pub scene_of : Script → List Event → Scene
 scene_of script history = record {
   moment = script.moment;
+  user = script.asker;
   parts = λ name. part_of (under script.cast name);
   next = script.next;
   history = history;
@@ -100,6 +101,10 @@ pub record HasEnded (settings : SettingsView) (history : List Event) (a : Active
   pub stands : fits a.player settings (door_to a history)
   pub ended : IsEnded a.player
 
+-- its own events are those of its verb, as far as it came
+abbrev pub HasBrokenOff : SettingsView → List Event → Active → Type 0
+HasBrokenOff settings history a = ComesSoFar (asked_of (role_of a)) settings (view_of a.pass history)
+
 -- by what it made, it stands
 abbrev pub StandsAfter : Gone → SettingsView → List Event → Active → Type 0
 StandsAfter Short settings history a = StandsIn settings history a
@@ -114,7 +119,7 @@ StopsAt history fault = ⊥
 -- its own events bear out that it ended so
 abbrev pub BearsOut : Active → ActorOutcome → List ℕ → Type 0
 BearsOut a outcome shown = (settings : SettingsView) (d : DoorView) → fits a.player settings d
-    → Means (asked a.player).zone (asked a.player).verb outcome shown settings d
+    → Means (asked a.player).zone (asked a.player).asker (asked a.player).verb outcome shown settings d
 
 -- ---- lines that can be played
 
@@ -137,6 +142,6 @@ pub record ComesTo (settings : SettingsView) (line : Line) (before after : Scrip
   pub played : result ≡ Ok true → Plays settings (scene_of before old.history) line (scene_of after new.history) printed
   pub missed : result ≡ Ok false → Misses (scene_of before old.history) line × (new ≡ old)
   pub next : OnOk result (after.next ≤ before.next + 1)
-  pub begun : OnErr result (Begins (scene_of before old.history) line new.history)
+  pub begun : OnErr result (Begins settings (scene_of before old.history) line new.history)
   pub cause : IfErr result (StopsAt new.history)
   pub is_open : IsOpen settings new

@@ -16,8 +16,8 @@ pub(crate) fn push_named_ending(
     active: &Active,
 ) -> Result<(), AllocError>
     requires { IsEnded active.now.player }
-    ensures { OnOk result ((outcome : OutcomeOf) × (shown : List ℕ) × BearsOut active.now outcome shown
-        × (out.new.items ≡ out.old.items ++ named_line name.now (outcome_text outcome shown))) }
+    ensures { (outcome : OutcomeOf) × (shown : List ℕ) × BearsOut active.now outcome shown
+        × OnOk result (out.new.items ≡ out.old.items ++ named_line name.now (outcome_text outcome shown)) }
 {
     match active.player.outcome() {
         Some(outcome) => push_named_line(out, name, outcome, active.player.shown()),
@@ -28,8 +28,8 @@ pub(crate) fn push_named_ending(
 /// Adds the reply of an actor that ended.
 pub(crate) fn push_ending(out: &mut Vec<u8>, active: &Active) -> Result<(), AllocError>
     requires { IsEnded active.now.player }
-    ensures { OnOk result ((outcome : OutcomeOf) × (shown : List ℕ) × BearsOut active.now outcome shown
-        × (out.new.items ≡ out.old.items ++ reply_line (outcome_text outcome shown))) }
+    ensures { (outcome : OutcomeOf) × (shown : List ℕ) × BearsOut active.now outcome shown
+        × OnOk result (out.new.items ≡ out.old.items ++ reply_line (outcome_text outcome shown)) }
 {
     match active.player.outcome() {
         Some(outcome) => push_reply_line(out, outcome, active.player.shown()),

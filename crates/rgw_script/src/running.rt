@@ -2,7 +2,7 @@
 ghost use Rattle.std.specs.Prelude.{◌≡◌, OnOk, IfErr};
 ghost use Rattle.realm_core.specs.Realms.{new_realm};
 ghost use Rattle.realm_model.specs.Histories.{Legal};
-ghost use Rattle.rgw_script.specs.Runs.{made, IsUnmade, RunsLines, RunsScript, HasScriptCause};
+ghost use Rattle.rgw_script.specs.Runs.{first_user, made, IsUnmade, RunsLines, RunsScript, HasScriptCause};
 ghost use Rattle.rgw_script.specs.Stages.{scene_of, Holds, IsOpen, AreBelow};
 
 use crate::cast::Cast;
@@ -15,16 +15,26 @@ use object_words::BucketName;
 use realm_core::Realm;
 use realm_model::Settings;
 use script_lines::{LineReader, Next};
-use script_player::StandardAsker;
 use std::alloc::Global;
+use swift_auth::{User, Users};
 
 /// What a script is run on, beside its realm.
-#[derive(Debug, Drop)]
+#[derive(Drop)]
 pub struct ScriptPlan {
-    /// The container that is there before the first line, made in zone 1 by the first actor of the first pass.
+    /// The container that is there before the first line, made in zone 1 by the first actor of the first pass, of the
+    /// first user's account.
     pub bucket: Option<BucketName>,
     /// The moment that events bring until a line says another, in microseconds since 1970.
     pub moment: u64,
+    /// The first of them makes the requests, on the own account.
+    pub users: Users,
+}
+
+/// The user who makes the requests.
+fn first_user(plan: &ScriptPlan) -> &User
+    ensures { result.now ≡ first_user plan.now }
+{
+    plan.users.first()
 }
 
 /// Runs a script over a new realm: makes the container of the plan, plays the lines of the input one by one to its
@@ -49,7 +59,7 @@ pub fn run_script<S: Source, K: Sink>(
     ensures settings { realm.new.settings ≡ settings.now }
 {
     make_planned(alloc, settings, plan, realm)?;
-    let asker = StandardAsker::new(alloc)?;
+    let asker = first_user(plan).clone()?;
     let mut script = Script {
         moment: plan.moment,
         next: 2,
@@ -67,13 +77,22 @@ fn make_planned(
     realm: &mut Realm,
 ) -> Result<(), ScriptFault>
     requires { realm.old ≡ new_realm settings.now }
-    ensures made { OnOk result (realm.new.history ≡ made settings.now plan.now.bucket plan.now.moment) }
+    ensures made { OnOk result (realm.new.history ≡ made settings.now (first_user plan.now) plan.now.bucket plan.now.moment) }
     ensures stopped { IfErr result (IsUnmade settings.now plan.now realm.new.history) }
     ensures below { AreBelow 2 realm.new.history }
     ensures open { IsOpen settings.now realm.new }
 {
     match &plan.bucket {
-        Some(bucket) => make_container(alloc, settings, realm, bucket, plan.moment),
+        Some(bucket) => {
+            make_container(
+                alloc,
+                settings,
+                realm,
+                bucket,
+                first_user(plan),
+                plan.moment,
+            )
+        }
         None => Ok(()),
     }
 }

@@ -14,9 +14,10 @@ use crate::ending::{push_ending, push_named_ending};
 use crate::fault::ScriptFault;
 use realm_core::Realm;
 use realm_model::Settings;
-use script_player::{Gone, StandardAsker};
+use script_player::Gone;
 use script_words::{ActorName, Line, Verb, push_count_line};
 use std::alloc::Global;
+use swift_auth::User;
 
 /// Where a script stands between two lines, beside the realm.
 #[derive(Drop)]
@@ -27,7 +28,7 @@ pub(crate) struct Script {
     pub(crate) next: u64,
     pub(crate) cast: Cast,
     /// Who asks in each request.
-    pub(crate) asker: StandardAsker,
+    pub(crate) asker: User,
 }
 
 impl Script {
@@ -76,7 +77,7 @@ impl Script {
             (scene_of self.new realm.new.history) out.new.items }
         ensures missed { result ≡ Ok false → Misses (scene_of self.old realm.old.history) (lines.Step name events) × (realm.new ≡ realm.old) }
         ensures next { OnOk result (self.new.next ≤ self.old.next + 1) }
-        ensures begun { OnErr result (Begins (scene_of self.old realm.old.history) (lines.Step name events) realm.new.history) }
+        ensures begun { OnErr result (Begins settings.now (scene_of self.old realm.old.history) (lines.Step name events) realm.new.history) }
         ensures cause { IfErr result (StopsAt realm.new.history) }
         ensures open { IsOpen settings.now realm.new }
     {
@@ -109,7 +110,7 @@ impl Script {
             (scene_of self.new realm.new.history) out.new.items }
         ensures missed { result ≡ Ok false → Misses (scene_of self.old realm.old.history) (lines.Run name) × (realm.new ≡ realm.old) }
         ensures next { OnOk result (self.new.next ≤ self.old.next + 1) }
-        ensures begun { OnErr result (Begins (scene_of self.old realm.old.history) (lines.Run name) realm.new.history) }
+        ensures begun { OnErr result (Begins settings.now (scene_of self.old realm.old.history) (lines.Run name) realm.new.history) }
         ensures cause { IfErr result (StopsAt realm.new.history) }
         ensures open { IsOpen settings.now realm.new }
     {
@@ -156,7 +157,7 @@ impl Script {
         ensures played { OnOk result (Plays settings.now (scene_of self.old realm.old.history) (lines.Do zone verb)
             (scene_of self.new realm.new.history) out.new.items) }
         ensures next { OnOk result (self.new.next ≤ self.old.next + 1) }
-        ensures begun { OnErr result (Begins (scene_of self.old realm.old.history) (lines.Do zone verb) realm.new.history) }
+        ensures begun { OnErr result (Begins settings.now (scene_of self.old realm.old.history) (lines.Do zone verb) realm.new.history) }
         ensures cause { IfErr result (StopsAt realm.new.history) }
         ensures open { IsOpen settings.now realm.new }
     {

@@ -1,27 +1,71 @@
--- Options and values by turns.
-use Rattle.std.proofs.Common.{◌≡◌, ℕ, ◌-◌, ◌<◌, ◌≤◌, Bool, false, cond, List, [], ◌∷◌, length, map, drop, take, get_or, refl, ap, ◌∙◌, String, Global, string_bytes, arith}
-use Rattle.std.proofs.lemmas.List.{take_rest}
-use Rattle.rgw_words.specs.Options.{begins_option, are_options}
+-- Options in one word or in two.
+use Rattle.std.proofs.Common.{◌≡◌, ℕ, ◌<◌, Bool, true, false, cond, List, [], ◌∷◌, length, Option, Some, None, MatchOption, Bor, eqb, nat_lt, refl, sym, ap, ◌∙◌, bytes_eq, arith}
+use Rattle.std.specs.Prelude.{is_some}
+use Rattle.std.specs.List.{position_or_len, before_first, after_first}
+use Rattle.rgw_words.specs.Options.{is_joined, name_in, value_in, Said, said_in_two, first_option, value_of, begins_option, are_options}
+use Rattle.rgw_words.specs.declared.options.Takes.{Takes}
 
--- one word is no option with its value
-pub one_word : (serves : Bool) (words : List (String Global)) → 1 ≤ length words → length words < 2 → false ≡ are_options serves (map string_bytes words)
-one_word serves [] some few = absurd (omega (arith, some))
-one_word serves (a ∷ []) some few = refl
-one_word serves (a ∷ b ∷ words) some few = absurd (omega (arith, few))
+-- ---- a word in two parts
 
--- the words behind the first two
-abbrev pub rest_of : List (String Global) → List (List ℕ)
-rest_of words = map string_bytes (take (length words - 2) (drop 2 words))
+inside : (n m : ℕ) → n < m → is_some (cond (nat_lt n m) (Some n) None) ≡ true
+inside n m less = let is : nat_lt n m ≡ true = grind (arith, less) in rw is refl
 
--- the first two, and then the rest
-pub first_two : (serves : Bool) (words : List (String Global)) (word value : String Global) → 2 ≤ length words → word ≡ get_or words 0 word → value ≡ get_or words 1 value
-    → (begins : Bool) → begins ≡ begins_option serves (string_bytes word) (string_bytes value) (rest_of words)
-    → cond begins (are_options serves (rest_of words)) false ≡ are_options serves (map string_bytes words)
-first_two serves [] word value some is_word is_value begins is = absurd (omega (arith, some))
-first_two serves (a ∷ []) word value some is_word is_value begins is = absurd (omega (arith, some))
-first_two serves (a ∷ b ∷ words) word value some is_word is_value begins is =
-    let whole = ap (λ ws. map string_bytes ws) (take_rest (a ∷ b ∷ words) 2) in
-    ap (λ x. cond x (are_options serves (rest_of (a ∷ b ∷ words))) false)
-    (is ∙ ap (λ w. begins_option serves (string_bytes w) (string_bytes value) (rest_of (a ∷ b ∷ words))) is_word
-    ∙ ap (λ v. begins_option serves (string_bytes a) (string_bytes v) (rest_of (a ∷ b ∷ words))) is_value)
-    ∙ ap (λ ws. cond (begins_option serves (string_bytes a) (string_bytes b) ws) (are_options serves ws) false) whole
+behind : (n m : ℕ) → n ≡ m → is_some (cond (nat_lt n m) (Some n) None) ≡ false
+behind n m same = let is : nat_lt n m ≡ false = grind (arith, same) in rw is refl
+
+pub divided : (word : List ℕ) (parts : Option (Bor (List ℕ) × Bor (List ℕ)))
+    → MatchOption parts (position_or_len (λ b. eqb b 61) word ≡ length word)
+    (λ x. (position_or_len (λ b. eqb b 61) word < length word) × (x.0.now ≡ before_first (λ b. eqb b 61) word) × (x.1.now ≡ after_first (λ b. eqb b 61) word))
+    → MatchOption parts (is_joined word ≡ false) (λ x. (is_joined word ≡ true) × (x.0.now ≡ name_in word) × (x.1.now ≡ value_in word))
+divided word None whole = behind _ _ whole
+divided word (Some x) at = (inside _ _ at.0, at.1, at.2)
+
+-- ---- by the option that the words begin with
+
+abbrev pub value_by : List ℕ → Option Said → Option (List ℕ)
+value_by name None = None
+value_by name (Some said) = cond (bytes_eq said.name name) (Some said.value) (value_of name said.rest)
+
+pub value_first : (name : List ℕ) (words : List (List ℕ)) → value_by name (first_option words) ≡ value_of name words
+value_first name [] = refl
+value_first name (word ∷ []) =
+    elim (is_joined word) as (λ b. value_by name (cond b (Some (record { name = name_in word; value = value_in word; rest = [] })) None)
+    ≡ cond b (cond (bytes_eq (name_in word) name) (Some (value_in word)) None) None) [
+      | true ↦ refl
+      | false ↦ refl
+    ]
+value_first name (word ∷ next ∷ words) =
+    elim (is_joined word) as (λ b. value_by name (cond b (Some (record { name = name_in word; value = value_in word; rest = next ∷ words })) (said_in_two word (next ∷ words)))
+    ≡ cond b (cond (bytes_eq (name_in word) name) (Some (value_in word)) (value_of name (next ∷ words))) (cond (bytes_eq word name) (Some next) (value_of name words))) [
+      | true ↦ refl
+      | false ↦ refl
+    ]
+
+abbrev pub are_by : Takes → Option Said → Bool
+are_by takes None = false
+are_by takes (Some said) = cond (begins_option takes said.name said.value said.rest) (are_options takes said.rest) false
+
+itself : (b : Bool) → cond b true false ≡ b
+itself true = refl
+itself false = refl
+
+pub are_first : (takes : Takes) (word : List ℕ) (words : List (List ℕ)) → are_by takes (first_option (word ∷ words)) ≡ are_options takes (word ∷ words)
+are_first takes word [] =
+    elim (is_joined word) as (λ b. are_by takes (cond b (Some (record { name = name_in word; value = value_in word; rest = [] })) None)
+    ≡ cond b (begins_option takes (name_in word) (value_in word) []) false) [
+      | true ↦ itself (begins_option takes (name_in word) (value_in word) [])
+      | false ↦ refl
+    ]
+are_first takes word (next ∷ words) =
+    elim (is_joined word) as (λ b. are_by takes (cond b (Some (record { name = name_in word; value = value_in word; rest = next ∷ words })) (said_in_two word (next ∷ words)))
+    ≡ cond b (cond (begins_option takes (name_in word) (value_in word) (next ∷ words)) (are_options takes (next ∷ words)) false)
+    (cond (begins_option takes word next words) (are_options takes words) false)) [
+      | true ↦ refl
+      | false ↦ refl
+    ]
+
+pub are_said : (takes : Takes) (words : List (List ℕ)) (said : Said) (begins : Bool) → first_option words ≡ Some said → begins_option takes said.name said.value said.rest ≡ begins
+    → cond begins (are_options takes said.rest) false ≡ are_options takes words
+are_said takes [] said begins is by = let clash : None ≡ Some said = is in absurd (cc)
+are_said takes (word ∷ words) said begins is by =
+    ap (λ b. cond b (are_options takes said.rest) false) (sym by) ∙ ap (are_by takes) (sym is) ∙ are_first takes word words

@@ -1,20 +1,55 @@
--- Options behind a command: each a name and a value, in any order.
-use Rattle.std.specs.Prelude.{ℕ, Bool, not, ◌&&◌, ◌||◌, true, false, nat_le, List, [], ◌∷◌, Option, Some, None, is_some, if◌then◌else◌, bytes_eq, codes}
-use Rattle.std.specs.List.{list_any}
+-- Options behind a command, in any order: each a name and a value, in two words or in one.
+use Rattle.std.specs.Prelude.{ℕ, Bool, not, ◌&&◌, ◌||◌, ◌==◌, true, false, nat_le, List, [], ◌∷◌, Option, Some, None, is_some, if◌then◌else◌, bytes_eq, codes}
+use Rattle.std.specs.List.{list_any, position, before_first, after_first}
 use Rattle.std.specs.Str.Parse.{digits_value}
 use Rattle.rgw_words.specs.Values.{begins_with_dash, is_number}
+use Rattle.rgw_words.specs.declared.options.Takes.{Takes}
 
--- the value behind the first of these names
+-- ---- the two forms
+
+-- `name=value` in one word, which its first `=` divides
+abbrev pub is_joined : List ℕ → Bool
+is_joined word = is_some (position (λ b. b == 61) word)
+
+abbrev pub name_in : List ℕ → List ℕ
+name_in word = before_first (λ b. b == 61) word
+
+abbrev pub value_in : List ℕ → List ℕ
+value_in word = after_first (λ b. b == 61) word
+
+-- an option, and the words behind it
+pub record Said : Type 0 where
+  pub name : List ℕ
+  pub value : List ℕ
+  pub rest : List (List ℕ)
+
+abbrev pub said_in_two : List ℕ → List (List ℕ) → Option Said
+said_in_two word [] = None
+said_in_two word (value ∷ words) = Some (record { name = word; value = value; rest = words })
+
+-- the option that words begin with
+abbrev pub first_option : List (List ℕ) → Option Said
+first_option [] = None
+first_option (word ∷ words) =
+    if is_joined word then Some (record { name = name_in word; value = value_in word; rest = words })
+    else said_in_two word words
+
+-- the value of the first option of this name
 abbrev pub value_of : List ℕ → List (List ℕ) → Option (List ℕ)
 value_of name [] = None
-value_of name (word ∷ []) = None
-value_of name (word ∷ value ∷ words) = if bytes_eq word name then Some value else value_of name words
+value_of name (word ∷ []) =
+    if is_joined word then (if bytes_eq (name_in word) name then Some (value_in word) else None) else None
+value_of name (word ∷ next ∷ words) =
+    if is_joined word then (if bytes_eq (name_in word) name then Some (value_in word) else value_of name (next ∷ words))
+    else (if bytes_eq word name then Some next else value_of name words)
+
+-- ---- which options there are
 
 -- the options of every command
 abbrev pub option_names : List (List ℕ)
 option_names =
     codes "--bucket" ∷ codes "--stripe" ∷ codes "--frame" ∷ codes "--frames" ∷ codes "--shards" ∷ codes "--tag-seconds"
-    ∷ codes "--now" ∷ []
+    ∷ codes "--largest" ∷ codes "--now" ∷ []
 
 abbrev pub is_usual_option : List ℕ → Bool
 is_usual_option word = list_any (bytes_eq word) option_names
@@ -26,18 +61,26 @@ server_option_names = codes "--port" ∷ codes "--workers" ∷ codes "--accepts"
 abbrev pub is_server_option : List ℕ → Bool
 is_server_option word = list_any (bytes_eq word) server_option_names
 
-abbrev pub is_option : Bool → List ℕ → Bool
-is_option serves word = is_usual_option word || (serves && is_server_option word)
+-- besides these a command may take those of a server, and the users
+abbrev pub is_option : Takes → List ℕ → Bool
+is_option takes word =
+    is_usual_option word || ((takes.serving && is_server_option word) || (takes.users && bytes_eq word (codes "--users")))
 
 -- an option and its value, which does not begin with a dash; the option is not among the words behind them
-abbrev pub begins_option : Bool → List ℕ → List ℕ → List (List ℕ) → Bool
-begins_option serves word value words = is_option serves word && (not (begins_with_dash value) && not (is_some (value_of word words)))
+abbrev pub begins_option : Takes → List ℕ → List ℕ → List (List ℕ) → Bool
+begins_option takes name value words =
+    is_option takes name && (not (begins_with_dash value) && not (is_some (value_of name words)))
 
--- options and values by turns, each option once
-abbrev pub are_options : Bool → List (List ℕ) → Bool
-are_options serves [] = true
-are_options serves (word ∷ []) = false
-are_options serves (word ∷ value ∷ words) = if begins_option serves word value words then are_options serves words else false
+-- options alone, each once
+abbrev pub are_options : Takes → List (List ℕ) → Bool
+are_options takes [] = true
+are_options takes (word ∷ []) = if is_joined word then begins_option takes (name_in word) (value_in word) [] else false
+are_options takes (word ∷ next ∷ words) =
+    if is_joined word
+    then (if begins_option takes (name_in word) (value_in word) (next ∷ words) then are_options takes (next ∷ words) else false)
+    else (if begins_option takes word next words then are_options takes words else false)
+
+-- ---- numbers
 
 -- the number that a value says, from the least to the greatest; the usual one where the option is not there
 abbrev pub number_in : ℕ → ℕ → ℕ → Option (List ℕ) → Option ℕ

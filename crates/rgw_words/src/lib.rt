@@ -2,6 +2,7 @@
 #![tactic(auto)]
 
 mod fault;
+mod named_users;
 mod options;
 mod run_words;
 mod serve_words;

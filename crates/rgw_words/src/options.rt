@@ -1,54 +1,115 @@
-//! Options behind a command: each a name and a value, in any order.
-ghost use Rattle.std.specs.Prelude.{◌≡◌, None, Some, MatchOption, map, string_bytes};
-ghost use Rattle.rgw_words.specs.Options.{value_of, is_usual_option, is_server_option, is_option, begins_option, are_options, number_in};
+//! Options behind a command, in any order: each a name and a value, in two words or in one.
+ghost use Rattle.std.specs.Prelude.{◌≡◌, ◌<◌, true, false, None, Some, IfSome, MatchOption, length, map, string_bytes};
+ghost use Rattle.rgw_words.specs.Options.{is_joined, name_in, value_in, said_in_two, first_option, value_of, is_usual_option, is_server_option, is_option, begins_option, are_options, number_in};
 
 use crate::values::{all_digits, begins_with_dash};
 
-/// The value behind the first word of this name.
+/// What a command takes beside the usual options.
+#[derive(Clone, Copy)]
+pub(crate) struct Takes {
+    /// Those of a server.
+    pub(crate) serving: bool,
+    /// `--users`.
+    pub(crate) users: bool,
+}
+
+/// An option, and the words behind it.
+#[derive(Clone, Copy)]
+struct Said<'a> {
+    name: &'a str,
+    value: &'a str,
+    rest: &'a [String],
+}
+
+/// The name and the value in a word `name=value`, which its first `=` divides.
+fn divide(word: &str) -> Option<(&str, &str)>
+    ensures { MatchOption result (is_joined word.now ≡ false)
+        (λ parts. (is_joined word.now ≡ true) × (parts.0.now ≡ name_in word.now) × (parts.1.now ≡ value_in word.now)) }
+{
+    word.split_once('=')
+}
+
+/// The option that the words begin with, in one word or in two.
+fn first_option(words: &[String]) -> Option<Said<'_>>
+    ensures first { MatchOption result (first_option (map string_bytes words.now) ≡ None)
+        (λ said. first_option (map string_bytes words.now)
+        ≡ Some (record { name = said.name.now; value = said.value.now; rest = map string_bytes said.rest.now })) }
+    ensures shorter { IfSome result (λ said. length said.rest.now < length words.now) }
+{
+    match words {
+        [] => None,
+        [word, rest @ ..] => match divide(word.as_str()) {
+            Some((name, value)) => Some(Said { name, value, rest }),
+            None => said_in_two(word.as_str(), rest),
+        },
+    }
+}
+
+/// The option of this name whose value stands first among the words.
+fn said_in_two<'a>(name: &'a str, words: &'a [String]) -> Option<Said<'a>>
+    ensures first { MatchOption result (said_in_two name.now (map string_bytes words.now) ≡ None)
+        (λ said. said_in_two name.now (map string_bytes words.now)
+        ≡ Some (record { name = said.name.now; value = said.value.now; rest = map string_bytes said.rest.now })) }
+    ensures shorter { IfSome result (λ said. length said.rest.now < length words.now) }
+{
+    match words {
+        [] => None,
+        [value, rest @ ..] => Some(Said {
+            name,
+            value: value.as_str(),
+            rest,
+        }),
+    }
+}
+
+/// The value of the first option of this name.
 pub(crate) fn value_of<'a>(name: &str, words: &'a [String]) -> Option<&'a str>
     ensures { MatchOption result (value_of name.now (map string_bytes words.now) ≡ None)
         (λ value. value_of name.now (map string_bytes words.now) ≡ Some value.now) }
 {
-    match words {
-        [word, value, rest @ ..] => {
-            if word.as_str() == name {
-                Some(value.as_str())
+    match first_option(words) {
+        None => None,
+        Some(said) => {
+            if said.name == name {
+                Some(said.value)
             } else {
-                value_of(name, rest)
+                value_of(name, said.rest)
             }
         }
-        _ => None,
     }
 }
 
-/// Whether the words are options and values by turns, each option there once, and no value beginning with a
-/// dash. A server has options of its own.
-pub(crate) fn are_options(serves: bool, words: &[String]) -> bool
-    ensures { result ≡ are_options serves (map string_bytes words.now) }
+/// Whether the words are options alone, each there once, and no value beginning with a dash.
+pub(crate) fn are_options(takes: Takes, words: &[String]) -> bool
+    ensures { result ≡ are_options takes (map string_bytes words.now) }
 {
-    match words {
-        [] => true,
-        [word, value, rest @ ..] => {
-            if begins_option(serves, word.as_str(), value.as_str(), rest) {
-                are_options(serves, rest)
+    if words.is_empty() {
+        return true;
+    }
+    match first_option(words) {
+        None => false,
+        Some(said) => {
+            if begins_option(takes, said.name, said.value, said.rest) {
+                are_options(takes, said.rest)
             } else {
                 false
             }
         }
-        _ => false,
     }
 }
 
-fn begins_option(serves: bool, word: &str, value: &str, words: &[String]) -> bool
-    ensures { result ≡ begins_option serves word.now value.now (map string_bytes words.now) }
+fn begins_option(takes: Takes, name: &str, value: &str, words: &[String]) -> bool
+    ensures { result ≡ begins_option takes name.now value.now (map string_bytes words.now) }
 {
-    is_option(serves, word) && !begins_with_dash(value) && value_of(word, words).is_none()
+    is_option(takes, name) && !begins_with_dash(value) && value_of(name, words).is_none()
 }
 
-fn is_option(serves: bool, word: &str) -> bool
-    ensures { result ≡ is_option serves word.now }
+fn is_option(takes: Takes, word: &str) -> bool
+    ensures { result ≡ is_option takes word.now }
 {
-    is_usual_option(word) || serves && is_server_option(word)
+    is_usual_option(word)
+        || takes.serving && is_server_option(word)
+        || takes.users && word == "--users"
 }
 
 fn is_server_option(word: &str) -> bool
@@ -66,6 +127,7 @@ fn is_usual_option(word: &str) -> bool
         || word == "--frames"
         || word == "--shards"
         || word == "--tag-seconds"
+        || word == "--largest"
         || word == "--now"
 }
 

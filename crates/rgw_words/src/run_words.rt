@@ -1,31 +1,38 @@
 //! The words behind a command, which are options.
-ghost use Rattle.std.specs.Prelude.{◌≡◌, ◌↔◌, true, None, Some, IfOk, IsErrOf, IsSome, IfSome, MatchOption, map, string_bytes};
+ghost use Rattle.std.specs.Prelude.{◌≡◌, ◌↔◌, true, false, None, Some, IfOk, IsErrOf, IsSome, IfSome, MatchOption, map, string_bytes};
 ghost use Rattle.realm_model.specs.Settings.{IsBetween, IsSettings};
 ghost use Rattle.object_words.specs.Limits.{is_name};
-ghost use Rattle.rgw_words.specs.Words.{bucket_in, now_in, settings_with, settings_in, words_with, words_behind, once_of, script_of};
+ghost use Rattle.rgw_words.specs.Words.{bucket_in, now_in, settings_with, settings_in, usual_with, usual_behind, users_text, words_behind, once_of, script_of, may_ask_script};
 
 use crate::fault::WordsFault;
-use crate::options::{are_options, number_in, value_of};
+use crate::named_users::named_users;
+use crate::options::{Takes, are_options, number_in, value_of};
 use crate::values::{is_bucket, moment_of};
 use object_words::BucketName;
 use realm_model::Settings;
 use rgw_types::Text;
-use std::alloc::Global;
+use std::alloc::{AllocError, Global};
+use swift_auth::Users;
+
+/// The most bytes that an object may be allowed, and is where nothing is said.
+const LARGEST: u64 = 5_368_709_120;
 
 /// What the words `once [OPTIONS]` ask, to serve the connection of the input to a new realm, and the words
 /// `script [OPTIONS]`, to run the script of the input over one.
-#[derive(Debug, Drop)]
+#[derive(Drop)]
 pub struct RunWords {
-    /// The name of a container that is made first.
+    /// The name of a container that is made first, of the first user's account.
     pub bucket: Option<BucketName>,
     /// What the realm is set to.
     pub settings: Settings,
     /// A moment in microseconds since 1970, where one is said: that of each event of `once`, which then asks no
     /// clock; and that at which the clock of `script` begins.
     pub now: Option<u64>,
+    /// The users. The first makes the requests of a script.
+    pub users: Users,
 }
 
-/// What the options say, the container's name lent.
+/// What the options of every command say, the container's name lent.
 #[derive(Clone, Copy)]
 struct Parts<'a> {
     bucket: Option<&'a str>,
@@ -44,67 +51,115 @@ pub fn read_once(alloc: Global, words: &[String]) -> Result<RunWords, WordsFault
     ensures out_of_memory { IsErrOf result WordsFault.OutOfMemory
         → IsSome (once_of (map string_bytes words.now)) }
 {
-    read_behind(alloc, "once", false, words)
+    read_usual(alloc, "once", false, words)
 }
 
-/// Reads the words behind the program's name, where they ask to run a script, with the same options.
+/// Reads the words behind the program's name, where they ask to run a script, with the same options, and
+/// `--users`, whose value is a users text (`Users::read`).
+///
+/// Where memory is wanting, that text may be none.
 pub fn read_script(alloc: Global, words: &[String]) -> Result<RunWords, WordsFault>
     ensures ok { IfOk result (λ script. script_of (map string_bytes words.now) ≡ Some script) }
     ensures refused { IsErrOf result WordsFault.Refused
-        ↔ (script_of (map string_bytes words.now) ≡ None) }
+        → script_of (map string_bytes words.now) ≡ None }
     ensures out_of_memory { IsErrOf result WordsFault.OutOfMemory
-        → IsSome (script_of (map string_bytes words.now)) }
+        → may_ask_script (map string_bytes words.now) ≡ true }
 {
-    read_behind(alloc, "script", false, words)
+    let takes = Takes {
+        serving: false,
+        users: true,
+    };
+    read_behind(alloc, "script", takes, words)
 }
 
-/// Reads this command and the options behind it, those of a server among them or not.
-pub(crate) fn read_behind(
+/// Reads this command, which takes no users, and the options behind it, those of a server among them or not.
+pub(crate) fn read_usual(
     alloc: Global,
     command: &str,
-    serves: bool,
+    serving: bool,
     words: &[String],
 ) -> Result<RunWords, WordsFault>
-    ensures ok { IfOk result (λ asked. words_behind command.now serves (map string_bytes words.now) ≡ Some asked) }
+    ensures ok { IfOk result (λ asked. words_behind command.now (record { serving = serving; users = false }) (map string_bytes words.now) ≡ Some asked) }
     ensures bounds { IfOk result (λ asked. IsSettings asked.settings) }
     ensures refused { IsErrOf result WordsFault.Refused
-        ↔ (words_behind command.now serves (map string_bytes words.now) ≡ None) }
+        ↔ (words_behind command.now (record { serving = serving; users = false }) (map string_bytes words.now) ≡ None) }
     ensures out_of_memory { IsErrOf result WordsFault.OutOfMemory
-        → IsSome (words_behind command.now serves (map string_bytes words.now)) }
+        → IsSome (words_behind command.now (record { serving = serving; users = false }) (map string_bytes words.now)) }
 {
-    let Some(parts) = parts_behind(command, serves, words) else {
+    let takes = Takes {
+        serving,
+        users: false,
+    };
+    read_behind(alloc, command, takes, words)
+}
+
+/// Reads this command and the options behind it that it takes.
+fn read_behind(
+    alloc: Global,
+    command: &str,
+    takes: Takes,
+    words: &[String],
+) -> Result<RunWords, WordsFault>
+    ensures ok { IfOk result (λ asked. words_behind command.now takes (map string_bytes words.now) ≡ Some asked) }
+    ensures bounds { IfOk result (λ asked. IsSettings asked.settings) }
+    ensures refused { IsErrOf result WordsFault.Refused
+        → words_behind command.now takes (map string_bytes words.now) ≡ None }
+    ensures out_of_memory { IsErrOf result WordsFault.OutOfMemory
+        → IsSome (usual_behind command.now takes (map string_bytes words.now)) }
+{
+    let Some(parts) = parts_behind(command, takes, words) else {
         return Err(WordsFault::Refused);
     };
-    let Some(name) = parts.bucket else {
-        return Ok(RunWords {
-            bucket: None,
-            settings: parts.settings,
-            now: parts.now,
-        });
+    let users = match named_users(alloc, users_text(takes, words)) {
+        Ok(users) => users,
+        Err(fault) => return Err(fault),
     };
-    let Ok(text) = Text::from_str(alloc, name) else {
+    let Ok(bucket) = own_bucket(alloc, parts.bucket) else {
         return Err(WordsFault::OutOfMemory);
     };
-    let bucket = BucketName::new(text).unwrap();
     Ok(RunWords {
-        bucket: Some(bucket),
+        bucket,
         settings: parts.settings,
         now: parts.now,
+        users,
     })
 }
 
-/// What the words ask, where they are this command and options behind it.
-fn parts_behind<'a>(command: &str, serves: bool, words: &'a [String]) -> Option<Parts<'a>>
-    ensures parts { MatchOption result (words_behind command.now serves (map string_bytes words.now) ≡ None)
+/// The name of a container, kept.
+fn own_bucket(alloc: Global, name: Option<&str>) -> Result<Option<BucketName>, AllocError>
+    requires { IfSome name (λ name. is_name 256 name.now ≡ true) }
+    ensures { IfOk result (λ bucket. MatchOption name.entry (bucket ≡ None) (λ name. bucket ≡ Some name.now)) }
+{
+    let Some(name) = name else {
+        return Ok(None);
+    };
+    let bucket = BucketName::new(Text::from_str(alloc, name)?).unwrap();
+    Ok(Some(bucket))
+}
+
+/// The users text, if the words have one.
+fn users_text(takes: Takes, words: &[String]) -> Option<&str>
+    ensures { MatchOption result (users_text takes (map string_bytes words.now) ≡ None)
+        (λ text. users_text takes (map string_bytes words.now) ≡ Some text.now) }
+{
+    match words {
+        [_, options @ ..] if takes.users => value_of("--users", options),
+        _ => None,
+    }
+}
+
+/// What the words ask but for their users, where they are this command and options behind it.
+fn parts_behind<'a>(command: &str, takes: Takes, words: &'a [String]) -> Option<Parts<'a>>
+    ensures parts { MatchOption result (usual_behind command.now takes (map string_bytes words.now) ≡ None)
         (λ parts. MatchOption parts.bucket
-        (words_behind command.now serves (map string_bytes words.now) ≡ Some (words_with None parts.settings parts.now))
-        (λ name. (words_behind command.now serves (map string_bytes words.now) ≡ Some (words_with (Some name.now) parts.settings parts.now)) × (is_name 256 name.now ≡ true))) }
+        (usual_behind command.now takes (map string_bytes words.now) ≡ Some (usual_with None parts.settings parts.now))
+        (λ name. (usual_behind command.now takes (map string_bytes words.now) ≡ Some (usual_with (Some name.now) parts.settings parts.now)) × (is_name 256 name.now ≡ true))) }
     ensures bounds { IfSome result (λ parts. IsSettings parts.settings) }
 {
     let [word, options @ ..] = words else {
         return None;
     };
-    if word.as_str() != command || !are_options(serves, options) {
+    if word.as_str() != command || !are_options(takes, options) {
         return None;
     }
     let bucket = bucket_in(value_of("--bucket", options))?;
@@ -158,7 +213,8 @@ fn settings_in(options: &[String]) -> Option<Settings>
     let frames = number_in(1, 4_194_304, 16_384, value_of("--frames", options))?;
     let shards = number_in(1, 1999, 11, value_of("--shards", options))?;
     let seconds = number_in(1, 86_400, 120, value_of("--tag-seconds", options))?;
-    settings_with(stripe, frame, frames, shards, seconds)
+    let largest = number_in(1, LARGEST, LARGEST, value_of("--largest", options))?;
+    settings_with(stripe, frame, frames, shards, seconds, largest)
 }
 
 /// The settings of one zone, unless its frames have more than 8 GiB.
@@ -168,13 +224,15 @@ fn settings_with(
     frames: u64,
     shards: u64,
     seconds: u64,
+    largest: u64,
 ) -> Option<Settings>
     requires stripe { IsBetween 16 4194304 stripe }
     requires frame { IsBetween 16 65536 frame }
     requires frames { IsBetween 1 4194304 frames }
     requires shards { IsBetween 1 1999 shards }
     requires seconds { IsBetween 1 86400 seconds }
-    ensures settings { result ≡ settings_with stripe frame frames shards seconds }
+    requires largest { IsBetween 1 5368709120 largest }
+    ensures settings { result ≡ settings_with stripe frame frames shards seconds largest }
     ensures bounds { IfSome result IsSettings }
 {
     Settings::new(
@@ -185,7 +243,7 @@ fn settings_with(
         shards as u32,
         seconds * 1_000_000,
         7_200_000_000,
-        5_368_709_120,
+        largest,
         100_000,
     )
 }

@@ -5,7 +5,7 @@ ghost use Rattle.rgw_words.specs.Words.{accepts_in, serve_of, serving_in, servin
 
 use crate::fault::WordsFault;
 use crate::options::{number_in, value_of};
-use crate::run_words::{RunWords, read_behind};
+use crate::run_words::{RunWords, read_usual};
 use std::alloc::Global;
 
 /// Where a server listens, and what it does with the connections.
@@ -19,7 +19,7 @@ pub struct Serving {
 }
 
 /// What the words `serve [OPTIONS]` ask, to serve the connections of a port to a new realm.
-#[derive(Debug, Drop)]
+#[derive(Drop)]
 pub struct ServeWords {
     /// The realm, its first container and its moment, as for `once`.
     pub run: RunWords,
@@ -39,7 +39,7 @@ pub fn read_serve(alloc: Global, words: &[String]) -> Result<ServeWords, WordsFa
     let Some(serving) = serving_in(words) else {
         return Err(WordsFault::Refused);
     };
-    match read_behind(alloc, "serve", true, words) {
+    match read_usual(alloc, "serve", true, words) {
         Ok(run) => Ok(ServeWords { run, serving }),
         Err(WordsFault::Refused) => Err(WordsFault::Refused),
         Err(WordsFault::OutOfMemory) => Err(WordsFault::OutOfMemory),

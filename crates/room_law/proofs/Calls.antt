@@ -1,10 +1,10 @@
 -- One call after another finds room.
-use Rattle.std.proofs.Common.{◌≡◌, ℕ, ◌+◌, ◌<◌, ◌≤◌, false, List, [], ◌∷◌, ◌++◌, length, Some, None, refl, sym, ◌∙◌, ap, subst, arith, append_assoc}
+use Rattle.std.proofs.Common.{◌≡◌, ℕ, ◌+◌, ◌≤◌, false, List, [], ◌∷◌, ◌++◌, length, None, refl, sym, ◌∙◌, ap, subst, arith, append_assoc}
 use Rattle.std.proofs.lemmas.List.{append-nil}
 use Rattle.std.proofs.lemmas.List.Sums.{sum_by-cons}
 use Rattle.rgw_model.specs.Stamps.{counted_moment}
 use Rattle.realm_model.specs.Settings.{SettingsView, IsSettings}
-use Rattle.realm_model.specs.Accounts.{Account, blank}
+use Rattle.realm_model.specs.Accounts.{Account}
 use Rattle.realm_model.specs.Owns.{OwnEvent, clock_after, own_from, own_events, NoneBy}
 use Rattle.realm_model.specs.Phases.{ActorId}
 use Rattle.realm_model.specs.Worlds.{World, start}
@@ -21,12 +21,12 @@ use Rattle.task_words.specs.declared.asker.Asker.{Asker}
 use Rattle.task_words.specs.declared.command.PutCommand.{PutCommand}
 use Rattle.task_words.specs.declared.command.GetCommand.{GetCommand}
 use Rattle.task_words.specs.declared.outcome.Outcome.{Outcome}
-use Rattle.task_words.specs.declared.outcome.Outcome.TheVariants.{Done, BodyFailed, NoSpace}
+use Rattle.task_words.specs.declared.outcome.Outcome.TheVariants.{Done, NoSpace}
 use Rattle.task_words.specs.Cuts.{AreCutFrom, AreCut}
 use Rattle.task_words.specs.Outcomes.{Body, IsPutOutcome}
 use Rattle.task_list.specs.Listed.{AreOfListing}
 use Rattle.task_list.specs.declared.request.ListRequest.{ListRequest}
-use Rattle.call_words.specs.Bodies.{Fate, read_whole, broken_off, unread}
+use Rattle.call_words.specs.Bodies.{Fate}
 use Rattle.call_words.specs.Calls.{Ground, alone, task, Call, body_at, IsGetEnd, IsListEnd, IsBorneOut, RestsOn, IsOfNext, actor_after, AreRight}
 use Rattle.call_words.specs.Events.{AreOfGet}
 use Rattle.call_words.specs.Made.{AreBy, AreMadeFor, AreMade}
@@ -34,9 +34,8 @@ use Rattle.once_law.specs.Folds.{IsRepliedOrFull, AreRepliedOrFull, IsReplied, A
 use Rattle.once_law.specs.Runs.{NoneFrom, AreAlone, AreAt}
 use Rattle.once_law.proofs.Folding.{none_of_later, rests_before, unused_behind}
 use Rattle.once_law.proofs.Full.{full}
-use Rattle.room_law.specs.Frames.{frames_of_body}
-use Rattle.room_law.specs.Rooms.{frames_asked, frames_together, UnlessBroken, AreRepliedInRoom}
-use Rattle.room_law.proofs.Steps.{left_of, left_first}
+use Rattle.room_law.specs.Rooms.{frames_asked, frames_together}
+use Rattle.room_law.proofs.Steps.{left_first}
 use Rattle.room_law.proofs.Walks.{walk, gets_free, lists_free}
 
 module _ (settings : SettingsView) (good : IsSettings settings) (zone : ℕ) (asker : Asker) (pass : ℕ) where
@@ -96,7 +95,7 @@ module _ (settings : SettingsView) (good : IsSettings settings) (zone : ℕ) (as
         let free = ap (λ (f : ℕ → ℕ). f zone) same in
         record { takes = omega (arith, left, free, none); replied = replied }
 
-    got : (c : GetCommand) (fate : Fate) (o : Outcome) → IsGetEnd zone asker c fate o (account_of settings (before ++ first) actor) → IsRepliedOrFull (task count o) → IsReplied (task count o)
+    got : (c : GetCommand) (fate : Fate) (o : Outcome) → IsGetEnd zone asker c fate o (account_of settings (before ++ first) actor) (own_events (before ++ first) actor) → IsRepliedOrFull (task count o) → IsReplied (task count o)
     got c fate (Done reply) by full = tt
     got c fate (NoSpace free needed) by full = absurd by.0
     got c fate o by full = full
@@ -108,12 +107,10 @@ module _ (settings : SettingsView) (good : IsSettings settings) (zone : ℕ) (as
 
     one_found : (asked : Asked) (fate : Fate) (body : List ℕ) (outcome : Outcome) (shown : List ℕ)
         → IsBorneOut settings.stripe zone asker asked fate body outcome shown (account_of settings (before ++ first) actor) (own_events (before ++ first) actor)
-        → frames asked body ≤ (state_of settings before).free zone → UnlessBroken asked fate (Found before first asked body (task count outcome))
+        → frames asked body ≤ (state_of settings before).free zone → Found before first asked body (task count outcome)
     one_found Asks.BadHost fate body outcome shown borne fits = absurd borne
     one_found (Asks.Refused why) fate body outcome shown borne fits = absurd borne
-    one_found (Asks.Put c) read_whole body outcome shown borne fits = put_found c body (body_at read_whole body) outcome borne.0 borne.4 fits
-    one_found (Asks.Put c) (broken_off why) body outcome shown borne fits = tt
-    one_found (Asks.Put c) unread body outcome shown borne fits = put_found c body (body_at unread body) outcome borne.0 borne.4 fits
+    one_found (Asks.Put c) fate body outcome shown borne fits = put_found c body (body_at fate body) outcome borne.0 borne.4 fits
     one_found (Asks.Unfed (Get c)) fate body outcome shown borne fits =
         let same = gets_free settings actor w first (0 + length before) (clock_after 0 before) own (subst AreOfGet own_is borne.3) in
         calm_found (Asks.Unfed (Get c)) body outcome refl same (got c fate outcome borne.0)
@@ -123,48 +120,29 @@ module _ (settings : SettingsView) (good : IsSettings settings) (zone : ℕ) (as
 
   -- ---- calls
 
-  -- what is so unless a body broke off, makes this so unless it did
-  unless : {X Y : Type 0} (asked : Asked) (fate : Fate) → (X → Y) → UnlessBroken asked fate X → UnlessBroken asked fate Y
-  unless (Asks.Put c) (broken_off why) f x = tt
-  unless (Asks.Put c) read_whole f x = f x
-  unless (Asks.Put c) unread f x = f x
-  unless Asks.BadHost fate f x = f x
-  unless (Asks.Refused why) fate f x = f x
-  unless (Asks.Unfed u) fate f x = f x
-
-  always : {X : Type 0} (asked : Asked) (fate : Fate) → X → UnlessBroken asked fate X
-  always (Asks.Put c) (broken_off why) x = tt
-  always (Asks.Put c) read_whole x = x
-  always (Asks.Put c) unread x = x
-  always Asks.BadHost fate x = x
-  always (Asks.Refused why) fate x = x
-  always (Asks.Unfed u) fate x = x
-
   found : (before more : List Event) (next : ℕ) (calls : List Call) (last : ℕ) (later : List Event) → Legal settings (before ++ more) → NoneFrom pass next before → AreRight settings zone asker pass (before ++ more) next calls last
       → AreMade pass calls more later → AreBy pass last later → frames_together settings.frame settings.stripe calls ≤ (state_of settings before).free zone
-      → AreRepliedOrFull calls → AreRepliedInRoom calls
+      → AreRepliedOrFull calls → AreReplied calls
   found before more next [] last later legal unused right made by_last fits full = tt
   found before more next (call ∷ calls) last later legal unused right (first, others, both, own, made) by_last fits full =
       let whole_is : before ++ more ≡ (before ++ first) ++ others = ap (λ l. before ++ l) both ∙ sym (append_assoc before first others) in
       let legal' = subst (Legal settings) whole_is legal in
       let right' = subst (λ l. AreRight settings zone asker pass l next (call ∷ calls) last) whole_is right in
       let all = sum_by-cons (λ (c : Call). frames c.asked c.request.body) call calls in
-      let f = here call.ground right'.2 right'.0 own right'.1 (legal_front settings (start settings) (before ++ first) others legal') (omega (arith, all, fits)) in
-      unless {X = Found before first call.asked call.request.body call.ground} {Y = IsReplied call.ground × AreRepliedInRoom calls} call.asked call.fate
-      (λ f. let took = f.takes in (
+      let f = here call.ground right'.2 right'.0 own right'.1.0 (legal_front settings (start settings) (before ++ first) others legal') (omega (arith, all, fits)) in
+      let took = f.takes in (
         f.replied full.0,
         found (before ++ first) others (actor_after next call.ground) calls last later legal' (unused_behind settings good zone asker pass (λ count. 0) next call.ground before first right'.0 own unused) right'.2 made by_last
             (omega (arith, all, fits, took)) full.1,
-      ))
-      f
+      )
     where
       here : (g : Ground) → AreRight settings zone asker pass ((before ++ first) ++ others) (actor_after next g) calls last → IsOfNext next g → AreMadeFor pass g first
           → RestsOn settings zone asker pass ((before ++ first) ++ others) call.asked call.fate call.request.body call.shown g → Legal settings (before ++ first)
-          → frames call.asked call.request.body ≤ (state_of settings before).free zone → UnlessBroken call.asked call.fate (Found before first call.asked call.request.body g)
+          → frames call.asked call.request.body ≤ (state_of settings before).free zone → Found before first call.asked call.request.body g
       here alone right of_next own rests front fits =
           let same = ap (λ l. (state_of settings (before ++ l)).free zone) own in
           let nothing = ap (λ l. (state_of settings l).free zone) (append-nil before) in
-          always {X = Found before first call.asked call.request.body alone} call.asked call.fate (record { takes = omega (arith, same, nothing); replied = λ is. tt })
+          record { takes = omega (arith, same, nothing); replied = λ is. tt }
       here (task actor outcome) right of_next own rests front fits =
           let e : actor ≡ next = of_next in
           let none = none_of_later pass next (next + 1) calls others later last (omega arith) settings zone asker ((before ++ first) ++ others) right made by_last in
@@ -173,7 +151,7 @@ module _ (settings : SettingsView) (good : IsSettings settings) (zone : ℕ) (as
 
 pub room_found : (settings : SettingsView) (zone : ℕ) (asker : Asker) (pass : ℕ) (before more : List Event) (next : ℕ) (calls : List Call) (last moment : ℕ) → IsSettings settings → Legal settings (before ++ more)
     → AreAlone settings zone asker pass before more next calls last → (state_of settings before).clock ≤ counted_moment moment → AreAt moment more
-    → frames_together settings.frame settings.stripe calls ≤ (state_of settings before).free zone → AreRepliedInRoom calls
+    → frames_together settings.frame settings.stripe calls ≤ (state_of settings before).free zone → AreReplied calls
 room_found settings zone asker pass before more next calls last moment good legal a low at fits =
     found settings good zone asker pass before more next calls last a.later legal a.unused a.right a.made a.by_last fits
-    (full settings good zone asker pass moment before more next calls last a.later legal a.unused a.right a.made a.by_last low at)
+    (full settings good zone asker pass moment before more next calls last a.later legal a.unused a.right a.made a.by_last a.opened low at)

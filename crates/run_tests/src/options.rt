@@ -3,6 +3,13 @@ use rgw_words::{RunWords, ServeWords, Serving, WordsFault, read_once, read_scrip
 use std::alloc::{AllocError, Global};
 use std::test::Fail;
 
+/// A users text of one user.
+const ONE_USER: &str = "[{\"user\":\"beta:bob\",\"key\":\"k\",\"token\":\"t\"}]";
+
+/// A users text of two.
+const TWO_USERS: &str =
+    "[{\"user\":\"beta:bob\",\"key\":\"k\",\"token\":\"t\"},{\"user\":\"acme:ann\",\"key\":\"k\",\"token\":\"u\"}]";
+
 const REFUSED: &[&[&str]] = &[
     &[],
     &["once", "--port", "8080"],
@@ -15,7 +22,31 @@ const REFUSED: &[&[&str]] = &[
     &["once", "--bucket", "-x"],
     &["once", "--bucket", "-"],
     &["once", "--bucket", "a\0b"],
-    &["once", "--bucket=box"],
+    &["once", "--bucket="],
+    &["once", "--bucket=-x"],
+    &["once", "--bucket=box", "--bucket", "box"],
+    &["once", "bucket=box"],
+    &["once", "--=box"],
+    &["once", "=box"],
+    &["once", "--buck=box"],
+    &["once", "--stripe=15"],
+    &["once", "--stripe=+16"],
+    &["once", "--bucket", "--now=1"],
+    &["once", "--"],
+    &["once", "--", "--bucket", "box"],
+    &["once", "-h"],
+    &["once", "--help"],
+    &["once", "--version"],
+    &["once", "--largest", "0"],
+    &["once", "--largest", "5368709121"],
+    &["once", "--largest=1", "--largest=1"],
+    &["once", "--users", ONE_USER],
+    &["once", "--wait-seconds", "7200"],
+    &["once", "--threshold", "100000"],
+    &["once", "--zones", "1"],
+    &["once", "--start", "1"],
+    &["once", "--steps", "1000"],
+    &["once=1"],
     &["once", "--bucket", "box", "x"],
     &["once", "--bucket", "box", "--now"],
     &["once", "--bucket", "box", "--now", ""],
@@ -40,7 +71,19 @@ const NO_SCRIPTS: &[&[&str]] = &[
     &["script", "x"],
     &["script", "--bucket"],
     &["script", "--bucket", "-"],
-    &["script", "--bucket=box"],
+    &["script", "--bucket="],
+    &["script", "--users", "[]"],
+    &["script", "--users", ""],
+    &["script", "--users="],
+    &["script", "--users", "{}"],
+    &[
+        "script",
+        "--users",
+        "[{\"user\":\"acme\",\"key\":\"k\",\"token\":\"t\"}]",
+    ],
+    &["script", "--users", ONE_USER, "--users", ONE_USER],
+    &["script", "--largest", "0"],
+    &["script", "--largest=5368709121"],
     &["script", "--stripe", "15"],
     &["script", "--stripe", "4194305"],
     &["script", "--frame", "65537"],
@@ -108,7 +151,7 @@ fn names(
 fn words_of_once_are_taken(rt: HostRuntime) -> Result<(), Fail> {
     let longest = letters(rt.alloc(), 256)?;
     let longest = longest.as_str();
-    let table: [(&[&str], Option<&str>, Option<u64>); 10] = [
+    let table: [(&[&str], Option<&str>, Option<u64>); 14] = [
         (&["once"], None, None),
         (&["once", "--bucket", "box"], Some("box"), None),
         (
@@ -145,6 +188,14 @@ fn words_of_once_are_taken(rt: HostRuntime) -> Result<(), Fail> {
         ),
         (&["once", "--bucket", longest], Some(longest), None),
         (&["once", "--shards", "1"], None, None),
+        (&["once", "--bucket=box"], Some("box"), None),
+        (&["once", "--bucket=a=b", "--now=0"], Some("a=b"), Some(0)),
+        (&["once", "--bucket", "a=b"], Some("a=b"), None),
+        (
+            &["once", "--now=7", "--bucket", "box"],
+            Some("box"),
+            Some(7),
+        ),
     ];
     for (words, bucket, now) in table {
         assert!(rt; names(rt.alloc(), words, bucket, now)?, "{words:?}");
@@ -162,6 +213,45 @@ fn options_of_once_are_those_of_a_script(rt: HostRuntime) -> Result<(), Fail> {
     drop(once);
     assert!(rt; settings.stripe == 16 && settings.frame == 32 && settings.frames == 3);
     assert!(rt; settings.shards == 2 && settings.tag_life == 120_000_000);
+    Ok(())
+}
+
+/// The largest object that the words of a connection allow.
+fn largest_of(alloc: Global, words: &[&str]) -> Result<u64, Fail> {
+    let once = once_of(alloc, words)?.ok().ok_or("no words")?;
+    let largest = once.settings.largest;
+    drop(once);
+    Ok(largest)
+}
+
+#[test]
+fn the_largest_object_is_set_up_to_its_ends(rt: HostRuntime) -> Result<(), Fail> {
+    let alloc = rt.alloc();
+    assert_eq!(rt; largest_of(alloc, &["once"])?, 5_368_709_120);
+    assert_eq!(rt; largest_of(alloc, &["once", "--largest", "1"])?, 1);
+    assert_eq!(rt;
+        largest_of(alloc, &["once", "--largest=5368709120"])?,
+        5_368_709_120
+    );
+    Ok(())
+}
+
+/// Whether the first of so many users has this name.
+fn has_first_user(alloc: Global, words: &[&str], count: usize, name: &str) -> Result<bool, Fail> {
+    let script = script_of(alloc, words)?.ok().ok_or("no script")?;
+    let right = script.users.as_slice().len() == count && script.users.first().full_name().is(name);
+    drop(script);
+    Ok(right)
+}
+
+#[test]
+fn users_of_a_script_are_those_of_the_words(rt: HostRuntime) -> Result<(), Fail> {
+    let alloc = rt.alloc();
+    let joined = "--users=[{\"user\":\"beta:bob\",\"key\":\"k\",\"token\":\"t\"}]";
+    assert!(rt; has_first_user(alloc, &["script"], 1, "acme:ann")?);
+    assert!(rt; has_first_user(alloc, &["script", "--users", ONE_USER], 1, "beta:bob")?);
+    assert!(rt; has_first_user(alloc, &["script", joined], 1, "beta:bob")?);
+    assert!(rt; has_first_user(alloc, &["script", "--users", TWO_USERS], 2, "beta:bob")?);
     Ok(())
 }
 
@@ -249,6 +339,9 @@ const NO_SERVERS: &[&[&str]] = &[
     &["serve", "--accepts", "1000001"],
     &["serve", "--accepts", "-1"],
     &["serve", "--stripe", "15"],
+    &["serve", "--users", ONE_USER],
+    &["serve", "--port=0"],
+    &["serve", "--port=80", "--port", "80"],
 ];
 
 fn serve_of(alloc: Global, words: &[&str]) -> Result<Result<ServeWords, WordsFault>, AllocError> {
@@ -291,7 +384,7 @@ fn options_of_a_server_are_taken_up_to_their_ends(rt: HostRuntime) -> Result<(),
         "--workers",
         "64",
     ];
-    let least = ["serve", "--workers", "1", "--port", "01", "--accepts", "1"];
+    let least = ["serve", "--workers=1", "--port", "01", "--accepts=1"];
     let serving = serving_of(rt.alloc(), &greatest)?;
     assert!(rt; serving.port == 65_528 && serving.workers == 64);
     assert!(rt; serving.accepts == Some(1_000_000));

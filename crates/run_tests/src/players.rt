@@ -7,10 +7,12 @@ use object_words::{BucketName, ObjectName};
 use realm_model::Settings;
 use realm_stage::RealmStage;
 use rgw_types::{Bytes, Text};
-use script_player::{Gone, Player, StandardAsker};
+use script_player::{Gone, Player};
 use script_words::{ActorOutcome, ScriptBody, Verb};
 use std::alloc::Global;
 use std::test::Fail;
+use swift_auth::Users;
+use task_container::{ContainerOutcome, ContainerReply};
 use task_words::{MapReply, Outcome};
 
 const MOMENT: u64 = 1_700_000_000_000_000;
@@ -47,6 +49,11 @@ fn object(alloc: Global) -> Result<ObjectName, Fail> {
     }
 }
 
+/// The users of a gateway to which none are given.
+fn users(alloc: Global) -> Result<Users, Fail> {
+    Ok(Users::standard(alloc).ok().ok_or("no users")?)
+}
+
 /// Whether the outcome is that an object of this digest was stored.
 fn is_stored(outcome: Option<ActorOutcome<'_>>, digest: u128) -> bool {
     match outcome {
@@ -60,9 +67,11 @@ fn is_stored(outcome: Option<ActorOutcome<'_>>, digest: u128) -> bool {
 /// Whether the outcome is that the container has so many objects and bytes.
 fn is_counted(outcome: Option<ActorOutcome<'_>>, count: u64, sum: u64) -> bool {
     match outcome {
-        Some(ActorOutcome::Request(Outcome::Done(MapReply::Counted { objects, bytes, .. }))) => {
-            *objects == count && *bytes == sum
-        }
+        Some(
+            ActorOutcome::Container(
+                ContainerOutcome::Done(ContainerReply::Counted { objects, bytes, .. }),
+            ),
+        ) => *objects == count && *bytes == sum,
         _ => false,
     }
 }
@@ -102,8 +111,8 @@ fn a_put_goes_event_by_event(rt: HostRuntime) -> Result<(), Fail> {
     let settings = settings();
     let mut door = realm(alloc, &settings)?;
     let made = door.events();
-    let asker = StandardAsker::new(alloc)?;
-    let mut writer = Player::new(alloc, &settings, &asker, 1, put(alloc)?)?;
+    let users = users(alloc)?;
+    let mut writer = Player::new(alloc, &settings, users.first(), 1, put(alloc)?)?;
     door.act_as(2);
     assert_eq!(rt; writer.go(alloc, &mut door, MOMENT, 4)?, Gone::Short);
     assert_eq!(rt; door.events(), made + 4);
@@ -119,8 +128,8 @@ fn a_get_and_a_head_show_what_was_put(rt: HostRuntime) -> Result<(), Fail> {
     let alloc = rt.alloc();
     let settings = settings();
     let mut door = realm(alloc, &settings)?;
-    let asker = StandardAsker::new(alloc)?;
-    let mut writer = Player::new(alloc, &settings, &asker, 1, put(alloc)?)?;
+    let users = users(alloc)?;
+    let mut writer = Player::new(alloc, &settings, users.first(), 1, put(alloc)?)?;
     door.act_as(2);
     let _ended = writer.go(alloc, &mut door, MOMENT, 9)?;
 
@@ -128,8 +137,7 @@ fn a_get_and_a_head_show_what_was_put(rt: HostRuntime) -> Result<(), Fail> {
         container: container(alloc)?,
         name: object(alloc)?,
     };
-    let asker = StandardAsker::new(alloc)?;
-    let mut reader = Player::new(alloc, &settings, &asker, 1, get)?;
+    let mut reader = Player::new(alloc, &settings, users.first(), 1, get)?;
     door.act_as(3);
     assert_eq!(rt; reader.go(alloc, &mut door, MOMENT, 1)?, Gone::Short);
     assert!(rt; reader.shown().is_empty());
@@ -139,8 +147,7 @@ fn a_get_and_a_head_show_what_was_put(rt: HostRuntime) -> Result<(), Fail> {
     let stat = Verb::Stat {
         container: container(alloc)?,
     };
-    let asker = StandardAsker::new(alloc)?;
-    let mut counter = Player::new(alloc, &settings, &asker, 1, stat)?;
+    let mut counter = Player::new(alloc, &settings, users.first(), 1, stat)?;
     door.act_as(4);
     assert_eq!(rt; counter.go(alloc, &mut door, MOMENT, 2)?, Gone::Ended);
     assert!(rt; is_counted(counter.outcome(), 1, 5));

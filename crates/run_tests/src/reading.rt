@@ -1,7 +1,7 @@
 ghost use Rattle.std.specs.Prelude.{◌≤◌};
 
 use gw_io::{SliceSource, WholeSource};
-use script_lines::{LINE_LIMIT, LineFault, LineReader, Next};
+use script_lines::{INPUT_LIMIT, LINE_LIMIT, LineFault, LineReader, Next};
 use std::alloc::Global;
 use std::test::Fail;
 
@@ -65,12 +65,19 @@ fn a_read_that_fails_in_a_line(rt: HostRuntime) -> Result<(), Fail> {
 }
 
 #[test]
-fn the_longest_line(rt: HostRuntime) -> Result<(), Fail> {
-    for (count, next) in [(LINE_LIMIT, Next::Line), (LINE_LIMIT + 1, Next::TooLong)] {
+fn a_line_has_at_most_1048576_bytes(rt: HostRuntime) -> Result<(), Fail> {
+    for (count, next) in [(1_048_576, Next::Line), (1_048_577, Next::TooLong)] {
         let text = "x".repeat(rt.alloc(), count)?;
         let mut source = WholeSource::new(text.as_bytes());
         let mut reader = LineReader::new(rt.alloc())?;
         assert_eq!(rt; reader.next(&mut source)?, next, "at {count}");
     }
+    Ok(())
+}
+
+#[test]
+fn the_limits_of_lines_and_inputs(rt: HostRuntime) -> Result<(), Fail> {
+    assert_eq!(rt; LINE_LIMIT, 1_048_576);
+    assert_eq!(rt; INPUT_LIMIT, 1_073_741_824);
     Ok(())
 }

@@ -160,6 +160,30 @@ fn connections_are_replied_so_in_any_pieces(rt: HostRuntime) -> Result<(), Fail>
     Ok(())
 }
 
+/// A script of two users, whose first has an account of its own.
+const SCRIPT_OF_TWO_USERS: &[&str] = &[
+    "script",
+    "--bucket",
+    "box",
+    "--users",
+    "[{\"user\":\"beta:bob\",\"key\":\"k\",\"token\":\"t\"},{\"user\":\"acme:ann\",\"key\":\"secret\",\"token\":\"AUTH_tk1\"}]",
+];
+
+#[test]
+fn the_first_user_makes_the_requests_of_a_script(rt: HostRuntime) -> Result<(), Fail> {
+    let streams = Streams {
+        piece: 7,
+        failing_reads: &[],
+        failing_writes: &[],
+    };
+    let lines = b"do 1 put box/k hello\ndo 1 stat box\n";
+    let prints = b"201 5d41402abc4b2a76b9719d911017c592\n200 objects=1 bytes=5\n";
+    let (number, written) = outcome(rt, rt.alloc(), SCRIPT_OF_TWO_USERS, lines, &streams)?;
+    assert_eq!(rt; number, 0);
+    assert!(rt; written.as_slice() == prints.as_slice());
+    Ok(())
+}
+
 #[test]
 fn a_failure_gives_its_status_and_a_front(rt: HostRuntime) -> Result<(), Fail> {
     // In pieces of 7 bytes there are at least so many reads, the one at the end among them, and so

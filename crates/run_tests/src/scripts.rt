@@ -7,6 +7,7 @@ use rgw_script::{ScriptFault, ScriptPlan, run_script};
 use rgw_types::Text;
 use std::alloc::Global;
 use std::test::Fail;
+use swift_auth::Users;
 
 /// A race for one name that `a` loses, and a line that is none.
 const LOST_RACE: &[u8] =
@@ -61,6 +62,7 @@ fn printed_by(alloc: Global, script: &[u8]) -> Result<(Vec<u8>, Result<(), Scrip
     let plan = ScriptPlan {
         bucket: BucketName::new(name).ok(),
         moment: 0,
+        users: Users::standard(alloc).ok().ok_or("no users")?,
     };
     let mut input = SliceSource::new(script, 7, &[]);
     let mut output = VecSink::new(alloc, 5, &[]);

@@ -31,8 +31,8 @@ use Rattle.task_get.proofs.Giving.{next_piece_follows, none_at_first}
 use Rattle.script_words.specs.declared.line.Verb.TheVariants.{Get}
 use Rattle.script_player.specs.Requests.{get_request}
 use Rattle.script_player.specs.Meanings.{AreBytesOf, MeansRequest}
-use Rattle.script_player.specs.Plays.{asked_get, FitsGet}
-use Rattle.script_player.specs.declared.get.GetPlay.{GetPlay}
+use Rattle.script_player.specs.Plays.{asked_get, FitsGet, BringsGet}
+use Rattle.script_player.specs.Views.{GetPlayView}
 
 -- ---- a step
 
@@ -42,19 +42,25 @@ still_open (Late x outcome) not_over = not_over tt
 still_open stage not_over = tt
 
 -- the bytes of the event follow those before it
-pub bytes_kept : (settings : SettingsView) (t u : GetTask) (d e : DoorView) (moment : ℕ) (before now : List ℕ) → request_of u ≡ request_of t → Fits u settings e → MakesEvent settings moment d e
-    → before ≡ brought (request_of t).get (events_at d) → now ≡ before ++ bytes_of u → now ≡ brought (request_of u).get (events_at e)
-bytes_kept settings t u d e moment before now request fits made so_far grown =
-    grown ∙ ap (λ l. l ++ bytes_of u) so_far
+pub bytes_brought : (settings : SettingsView) (t u : GetTask) (d e : DoorView) (moment : ℕ) (before : List ℕ) → request_of u ≡ request_of t → Fits u settings e → MakesEvent settings moment d e
+    → before ≡ brought (request_of t).get (events_at d) → before ++ bytes_of u ≡ brought (request_of u).get (events_at e)
+bytes_brought settings t u d e moment before request fits made so_far =
+    ap (λ l. l ++ bytes_of u) so_far
     ∙ sym (next_piece_follows settings t u d e moment request fits made)
     ∙ ap (λ (r : GetRequest). brought r.get (events_at e)) (sym request)
 
-pub asked_as : (t u : Stepping GetTask) (before now : _) → request_of u.stages ≡ request_of t.stages → asked_get (record { task = u; shown = now }) ≡ asked_get (record { task = t; shown = before })
-asked_as t u before now same = ap (λ (q : GetRequest). record { zone = q.zone; verb = Get q.get.container q.get.name }) same
+pub asked_as : (t u : Stepping GetTask) (before now : List ℕ) → request_of u.stages ≡ request_of t.stages → asked_get (record { task = u; shown = now }) ≡ asked_get (record { task = t; shown = before })
+asked_as t u before now same = ap (λ (q : GetRequest). record { zone = q.zone; asker = q.asker; verb = Get q.get.container q.get.name }) same
 
-pub get_as : (t u : GetTask) → request_of u ≡ request_of t → request_of t ≡ get_request (request_of t).zone (request_of t).get.container (request_of t).get.name
-    → request_of u ≡ get_request (request_of u).zone (request_of u).get.container (request_of u).get.name
-get_as t u same is = same ∙ is ∙ ap (λ (q : GetRequest). get_request q.zone q.get.container q.get.name) (sym same)
+pub get_as : (t u : GetTask) → request_of u ≡ request_of t → request_of t ≡ get_request (request_of t).zone (request_of t).asker (request_of t).get.container (request_of t).get.name
+    → request_of u ≡ get_request (request_of u).zone (request_of u).asker (request_of u).get.container (request_of u).get.name
+get_as t u same is = same ∙ is ∙ ap (λ (q : GetRequest). get_request q.zone q.asker q.get.container q.get.name) (sym same)
+
+-- the bytes are kept
+pub keeps : (x y : GetPlayView) → y.task ≡ x.task → y.shown ≡ x.shown ++ bytes_of x.task.stages → (settings : SettingsView) (d : DoorView) → BringsGet x settings d → FitsGet y settings d
+keeps x y task grown settings d b =
+    let kept : FitsGet (record { task = x.task; shown = y.shown }) settings d = record { is_get = b.is_get; task = b.task; shown = grown ∙ b.shown } in
+    subst (λ t. FitsGet (record { task = t; shown = y.shown }) settings d) (sym task) kept
 
 -- ---- the end
 
@@ -123,9 +129,9 @@ pub if_there : {X S : Type 0} (r : Option X) {P Q : X → Type 0} → (IsSome r 
 if_there None there clause so = tt
 if_there (Some x) there clause so = so x (there refl) clause
 
-pub get_means : (x : GetPlay) (settings : SettingsView) (d : DoorView) (outcome : Outcome) → x.task.fault ≡ None → FitsGet x settings d → means (request_of x.task.stages) outcome settings d
-    → MeansRequest (asked_get x).zone (asked_get x).verb outcome x.shown.items settings d
+pub get_means : (x : GetPlayView) (settings : SettingsView) (d : DoorView) (outcome : Outcome) → x.task.fault ≡ None → FitsGet x settings d → means (request_of x.task.stages) outcome settings d
+    → MeansRequest (asked_get x).zone (asked_get x).asker (asked_get x).verb outcome x.shown settings d
 get_means x settings d outcome sound f m =
     let stands : Fits x.task.stages settings d = subst (λ o. UnlessFaulted o (Fits x.task.stages settings d)) sound f.task in
-    let bytes = bytes_shown settings x.task.stages d stands outcome x.shown.items f.shown m in
-    subst (λ (q : GetRequest). means q outcome settings d × AreBytesOf q outcome x.shown.items (account_at settings d)) f.is_get (m, bytes)
+    let bytes = bytes_shown settings x.task.stages d stands outcome x.shown f.shown m in
+    subst (λ (q : GetRequest). means q outcome settings d × AreBytesOf q outcome x.shown (account_at settings d)) f.is_get (m, bytes)

@@ -98,9 +98,6 @@ module _ (alone : Type 0) (settings : SettingsView) (moment : ℕ) where
   pub up_to_still : (most : ℕ) (d e : DoorView) → Legal settings d.seen → e ≡ d → GoesUpTo alone settings moment most d e
   up_to_still most d e legal same = subst (GoesUpTo alone settings moment most d) (sym same) (up_to_none most d legal)
 
-  pub up_to_once : (d e : DoorView) → MakesEvent settings moment d e → (alone → IsOneMore d e) → GoesUpTo alone settings moment 1 d e
-  up_to_once d e made few = (1, omega arith, goes_once d e made few)
-
   pub up_to_more : (made most : ℕ) (d e f : DoorView) → made + 1 ≤ most → Goes alone settings moment made d e → GoesUpTo alone settings moment 1 e f → GoesUpTo alone settings moment most d f
   up_to_more made most d e f few x y =
       let one = y.1 in

@@ -38,7 +38,7 @@ use Rattle.put_service.proofs.Steps.{steady_after}
 use Rattle.script_words.specs.Bodies.{body_bytes}
 use Rattle.script_words.specs.declared.line.ScriptBody.{ScriptBody}
 use Rattle.script_words.specs.declared.line.Verb.TheVariants.{Put}
-use Rattle.script_player.specs.Requests.{standard_asker, plain_put, put_request}
+use Rattle.script_player.specs.Requests.{plain_put, put_request}
 use Rattle.script_player.specs.Meanings.{MeansRequest}
 use Rattle.script_player.specs.Plays.{asked_put, EndsAt, IsPut, TakesNext, PutStands, unended, left_of, FitsPut}
 use Rattle.script_player.specs.declared.put.PutPlay.{PutPlay}
@@ -52,31 +52,30 @@ play_with x stages at = play_of (with_stages x.task stages) x.body at
 
 -- ---- at first
 
-pub new_stands : (stages : PutTask) (body : ScriptBody) (zone stripe : ℕ) (container name : List ℕ) → length (body_bytes body) ≤ most_bytes → stages_request stages ≡ put_request zone container name [] None
+pub new_stands : (stages : PutTask) (body : ScriptBody) (zone stripe : ℕ) (asker : Asker) (container name : List ℕ) → length (body_bytes body) ≤ most_bytes → stages_request stages ≡ put_request zone asker container name [] None
     → (draft : Draft) × (stages.stage ≡ Looking draft) × (draft.body ≡ no_bytes stripe) → PutStands (play_of (record { stages = stages; fault = None }) body 0)
-new_stands stages body zone stripe container name few request looks = record {
+new_stands stages body zone stripe asker container name few request looks = record {
   is_put = record {
-    plain = request ∙ ap (λ (r : PutRequest). put_request r.zone r.command.container r.command.name (take 0 (body_bytes body)) r.end) (sym request);
+    plain = request ∙ ap (λ (r : PutRequest). put_request r.zone r.asker r.command.container r.command.name (take 0 (body_bytes body)) r.end) (sym request);
     fed = omega arith;
     few = few;
     ends = subst (λ e. EndsAt e 0 (length (body_bytes body))) (sym (ap (λ (r : PutRequest). r.end) request)) tt;
   };
-  steady = λ _. steady_new stages (put_request zone container name [] None) stripe request refl refl looks;
+  steady = λ _. steady_new stages (put_request zone asker container name [] None) stripe request refl refl looks;
   sound = refl;
 }
 
 -- ---- bytes
 
 -- the request with the body so far
-with_bytes : (r s : PutRequest) (all : List ℕ) (at count : ℕ) (more : List ℕ) → r ≡ put_request r.zone r.command.container r.command.name (take at all) r.end → s ≡ fed_request r more → take at all ++ more ≡ take (at + count) all
-    → s ≡ put_request s.zone s.command.container s.command.name (take (at + count) all) s.end
+with_bytes : (r s : PutRequest) (all : List ℕ) (at count : ℕ) (more : List ℕ) → r ≡ put_request r.zone r.asker r.command.container r.command.name (take at all) r.end → s ≡ fed_request r more → take at all ++ more ≡ take (at + count) all
+    → s ≡ put_request s.zone s.asker s.command.container s.command.name (take (at + count) all) s.end
 with_bytes r s all at count more plain is next =
-    let asker = ap (λ (q : PutRequest). q.asker) plain in
     let command = ap (λ (q : PutRequest). q.command) plain in
     let bytes : r.bytes ++ more ≡ take (at + count) all = ap (λ (q : PutRequest). q.bytes ++ more) plain ∙ next in
-    let fed : fed_request r more ≡ put_request r.zone r.command.container r.command.name (take (at + count) all) r.end =
-    λ i. record { zone = r.zone; asker = asker i; command = command i; bytes = bytes i; end = r.end } in
-    is ∙ fed ∙ ap (λ (q : PutRequest). put_request q.zone q.command.container q.command.name (take (at + count) all) q.end) (sym is)
+    let fed : fed_request r more ≡ put_request r.zone r.asker r.command.container r.command.name (take (at + count) all) r.end =
+    λ i. record { zone = r.zone; asker = r.asker; command = command i; bytes = bytes i; end = r.end } in
+    is ∙ fed ∙ ap (λ (q : PutRequest). put_request q.zone q.asker q.command.container q.command.name (take (at + count) all) q.end) (sym is)
 
 -- a task that wants bytes goes on
 steady_now : (x : PutPlay) → PutStands x → WantsBytes (stage_of x.task) → IsSteady x.task.stages
@@ -131,16 +130,15 @@ module _ (x : PutPlay) (stages : PutTask) (s : PutStands x) (wants : WantsBytes 
       let inside = s.is_put.fed in
       let size : x.fed ≡ length (body_bytes x.body) = omega (arith, whole, inside) in
       let plain = s.is_put.plain in
-      let asker = ap (λ (q : PutRequest). q.asker) plain in
       let command = ap (λ (q : PutRequest). q.command) plain in
       let bytes = ap (λ (q : PutRequest). q.bytes) plain in
       let r = request_of x.task in
       let request : stages_request stages ≡ ended_request r Whole = ap stages_request is in
-      let now : ended_request r Whole ≡ put_request r.zone r.command.container r.command.name (take x.fed (body_bytes x.body)) (first_end r.end Whole) =
-      λ i. record { zone = r.zone; asker = asker i; command = command i; bytes = bytes i; end = first_end r.end Whole } in
+      let now : ended_request r Whole ≡ put_request r.zone r.asker r.command.container r.command.name (take x.fed (body_bytes x.body)) (first_end r.end Whole) =
+      λ i. record { zone = r.zone; asker = r.asker; command = command i; bytes = bytes i; end = first_end r.end Whole } in
       record {
         is_put = record {
-          plain = request ∙ now ∙ ap (λ (q : PutRequest). put_request q.zone q.command.container q.command.name (take x.fed (body_bytes x.body)) q.end) (sym request);
+          plain = request ∙ now ∙ ap (λ (q : PutRequest). put_request q.zone q.asker q.command.container q.command.name (take x.fed (body_bytes x.body)) q.end) (sym request);
           fed = s.is_put.fed;
           few = s.is_put.few;
           ends = subst (λ e. EndsAt e x.fed (length (body_bytes x.body))) (sym ends_whole) size;
@@ -163,14 +161,14 @@ module _ (x : PutPlay) (stages : PutTask) (s : PutStands x) (wants : WantsBytes 
 -- the task stands where another stands of which the same is asked
 pub put_as : (x : PutPlay) (task : Stepping PutTask) → IsPut x → request_of task ≡ request_of x.task → IsPut (play_of task x.body x.fed)
 put_as x task s same = record {
-  plain = same ∙ s.plain ∙ ap (λ (q : PutRequest). put_request q.zone q.command.container q.command.name (take x.fed (body_bytes x.body)) q.end) (sym same);
+  plain = same ∙ s.plain ∙ ap (λ (q : PutRequest). put_request q.zone q.asker q.command.container q.command.name (take x.fed (body_bytes x.body)) q.end) (sym same);
   fed = s.fed;
   few = s.few;
   ends = subst (λ (q : PutRequest). EndsAt q.end x.fed (length (body_bytes x.body))) (sym same) s.ends;
 }
 
 pub asked_as : (x : PutPlay) (task : Stepping PutTask) → request_of task ≡ request_of x.task → asked_put (play_of task x.body x.fed) ≡ asked_put x
-asked_as x task same = ap (λ (q : PutRequest). record { zone = q.zone; verb = Put q.command.container q.command.name x.body }) same
+asked_as x task same = ap (λ (q : PutRequest). record { zone = q.zone; asker = q.asker; verb = Put q.command.container q.command.name x.body }) same
 
 -- the end of the body changes nothing at an outcome
 over_settled : (stage : Stage) → IsOver stage → IsOver (settled stage)
@@ -253,14 +251,14 @@ module _ (zone : ℕ) (asker : Asker) (c : PutCommand) (all : List ℕ) (y : Acc
   whole_cut stripe (Some Failed) at ends cut = absurd ends
 
 -- what the outcome says, of the whole body
-pub put_means : (x : PutPlay) (settings : SettingsView) (d : DoorView) (outcome : Outcome) → FitsPut x settings d → IsPutEnd (request_of x.task) outcome settings d → MeansRequest (asked_put x).zone (asked_put x).verb outcome [] settings d
+pub put_means : (x : PutPlay) (settings : SettingsView) (d : DoorView) (outcome : Outcome) → FitsPut x settings d → IsPutEnd (request_of x.task) outcome settings d → MeansRequest (asked_put x).zone (asked_put x).asker (asked_put x).verb outcome [] settings d
 put_means x settings d outcome f m =
     let r = request_of x.task in
-    let plain : IsPutEnd (put_request r.zone r.command.container r.command.name (take x.fed (body_bytes x.body)) r.end) outcome settings d = subst (λ (q : PutRequest). IsPutEnd q outcome settings d) f.is_put.plain m in (
+    let plain : IsPutEnd (put_request r.zone r.asker r.command.container r.command.name (take x.fed (body_bytes x.body)) r.end) outcome settings d = subst (λ (q : PutRequest). IsPutEnd q outcome settings d) f.is_put.plain m in (
       (
-        whole_end r.zone standard_asker (plain_put r.command.container r.command.name) (body_bytes x.body) (account_of settings d.seen (actor_at d)) (own_events d.seen (actor_at d)) r.end x.fed outcome f.is_put.ends plain.0,
+        whole_end r.zone r.asker (plain_put r.command.container r.command.name) (body_bytes x.body) (account_of settings d.seen (actor_at d)) (own_events d.seen (actor_at d)) r.end x.fed outcome f.is_put.ends plain.0,
         plain.1,
-        whole_cut r.zone standard_asker (plain_put r.command.container r.command.name) (body_bytes x.body) (account_of settings d.seen (actor_at d)) (own_events d.seen (actor_at d)) settings.stripe r.end x.fed f.is_put.ends plain.2,
+        whole_cut r.zone r.asker (plain_put r.command.container r.command.name) (body_bytes x.body) (account_of settings d.seen (actor_at d)) (own_events d.seen (actor_at d)) settings.stripe r.end x.fed f.is_put.ends plain.2,
       ),
       refl,
     )

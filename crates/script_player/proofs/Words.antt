@@ -9,8 +9,7 @@ use Rattle.script_words.specs.declared.line.Line.TheVariants.{Start, Do}
 use Rattle.script_words.specs.declared.line.ScriptBody.{ScriptBody}
 use Rattle.script_words.specs.declared.line.ScriptBody.TheVariants.{Word, Times}
 use Rattle.script_words.specs.declared.line.Verb.{Verb}
-use Rattle.script_words.specs.declared.line.Verb.TheVariants.{Put, Get, Stat}
-use Rattle.script_words.specs.declared.line.Verb.TheVariants as verbs
+use Rattle.script_words.specs.declared.line.Verb.TheVariants.{Put}
 use Rattle.script_player.specs.Requests.{HasFewBytes}
 
 abbrev AreUpTo : ℕ → List (List ℕ) → Type 0
@@ -53,10 +52,7 @@ behind a words all = all.1
 verb_few : (words : List (List ℕ)) (verb : Verb) → AreUpTo most_bytes words → IsVerb words verb → HasFewBytes verb
 verb_few words (Put container name body) all is =
     body_few is.1 body (third (codes "put") is.0 is.1 (subst (AreUpTo most_bytes) is.2 all)) is.4
-verb_few words (Get container name) all is = tt
-verb_few words (Stat container) all is = tt
-verb_few words (verbs.List container) all is = tt
-verb_few words (verbs.Job job) all is = tt
+verb_few words verb all is = tt
 
 pub start_few : (zones : ℕ) (bytes actor : List ℕ) (zone : ℕ) (verb : Verb) → length bytes ≤ most_bytes → IsLine zones bytes (Start actor zone verb) → HasFewBytes verb
 start_few zones bytes actor zone verb few is =

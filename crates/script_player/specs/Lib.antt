@@ -1,3 +1,4 @@
+pub mod Views
 pub mod Requests
 pub mod Going
 pub mod Plays

@@ -1,6 +1,7 @@
 //! The check of a container.
 ghost use Rattle.task_words.specs.declared.job.Job.TheVariants.{Check};
 ghost use Rattle.script_words.specs.declared.line.Verb.TheVariants as verbs;
+ghost use Rattle.script_player.specs.Requests.{nobody};
 ghost use Rattle.script_player.specs.Plays.{IsBegun, asked_check, CheckStands, CheckEnded, FitsCheck};
 
 use crate::unfed::Unfed;
@@ -10,7 +11,7 @@ use task_repair::RepairTask;
 
 /// A check of the container that made no event.
 pub(crate) fn new_check(zone: u8, container: BucketName) -> Stepping<RepairTask>
-    ensures { IsBegun (asked_check result) (record { zone = zone; verb = verbs.Job (Check container) }) (CheckStands result) (CheckEnded result) (FitsCheck result) }
+    ensures { IsBegun (asked_check result) (record { zone = zone; asker = nobody; verb = verbs.Job (Check container) }) (CheckStands result) (CheckEnded result) (FitsCheck result) }
 {
     Stepping::new(RepairTask::new(zone, container))
 }

@@ -4,6 +4,7 @@ ghost use Rattle.realm_model.specs.Settings.{SettingsView};
 ghost use Rattle.realm_model.specs.Histories.{Legal};
 ghost use Rattle.realm_model.specs.Doors.{DoorView, IsSeen, actor_at};
 ghost use Rattle.realm_door.specs.Steps.{IsSame};
+ghost use Rattle.task_words.specs.declared.asker.Asker.{Asker};
 ghost use Rattle.task_put.specs.Bodies.{most_bytes};
 ghost use Rattle.script_words.specs.Lines.{IsLine};
 ghost use Rattle.script_words.specs.declared.line.Line.TheVariants.{Start, Do};
@@ -24,10 +25,10 @@ pub fn others_keep_a_player()
 
 /// What an outcome says stays so when others make events.
 pub fn others_keep_what_an_end_means()
-    ensures { (settings : SettingsView) (zone : ℕ) (verb : VerbOf) (outcome : OutcomeOf) (shown : List ℕ) (d e : DoorView)
+    ensures { (settings : SettingsView) (zone : ℕ) (asker : Asker) (verb : VerbOf) (outcome : OutcomeOf) (shown : List ℕ) (d e : DoorView)
         → e.pass ≡ d.pass → e.count ≡ d.count
         → IsSame settings d.seen e.seen (actor_at d)
-        → Means zone verb outcome shown settings d → Means zone verb outcome shown settings e }
+        → Means zone asker verb outcome shown settings d → Means zone asker verb outcome shown settings e }
 {}
 
 /// What a line of a script asks to put has no more bytes than an object may have.

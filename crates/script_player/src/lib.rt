@@ -2,17 +2,17 @@
 //! anywhere.
 #![tactic(auto)]
 
+mod account;
 mod asker;
 mod check;
+mod container;
 mod get;
 mod laws;
 mod list;
 mod play;
 mod player;
 mod put;
-mod stat;
 mod unfed;
 
-pub use asker::StandardAsker;
 pub use laws::{lines_have_few_bytes, others_keep_a_player, others_keep_what_an_end_means};
 pub use player::{Gone, Player};

@@ -1,32 +1,34 @@
 //! The listing of a container.
 ghost use Rattle.std.specs.Prelude.{IfOk};
 ghost use Rattle.script_words.specs.declared.line.Verb.TheVariants as verbs;
+ghost use Rattle.script_player.specs.Requests.{asker_of};
 ghost use Rattle.script_player.specs.Plays.{IsBegun, asked_list, ListStands, ListEnded, FitsList};
 
-use crate::asker::StandardAsker;
+use crate::asker::asker_of;
 use crate::unfed::Unfed;
 use list_words::ListCommand;
 use object_words::BucketName;
 use realm_door::Stepping;
 use rgw_types::Text;
 use std::alloc::{AllocError, Global};
+use swift_auth::User;
 use task_list::{ListRequest, ListTask};
 
 /// The most rows of a listing.
-const MOST_ROWS: u32 = 10000;
+pub(crate) const MOST_ROWS: u32 = 10000;
 
 /// A listing of all names of the container that made no event.
 pub(crate) fn new_list(
     alloc: Global,
-    asker: &StandardAsker,
+    user: &User,
     zone: u8,
     container: BucketName,
 ) -> Result<Stepping<ListTask>, AllocError>
-    ensures { IfOk result (λ t. IsBegun (asked_list t) (record { zone = zone; verb = verbs.List container }) (ListStands t) (ListEnded t) (FitsList t)) }
+    ensures { IfOk result (λ t. IsBegun (asked_list t) (record { zone = zone; asker = asker_of user.now; verb = verbs.List container }) (ListStands t) (ListEnded t) (FitsList t)) }
 {
     Ok(Stepping::new(ListTask::new(ListRequest {
         zone,
-        asker: asker.for_request()?,
+        asker: asker_of(user)?,
         command: ListCommand {
             container,
             limit: MOST_ROWS,

@@ -10,9 +10,10 @@ ghost use Rattle.task_put.specs.Tasks.{fits as stages_fit};
 ghost use Rattle.task_put.specs.Taking.{WantsBytes};
 ghost use Rattle.script_words.specs.Bodies.{body_bytes};
 ghost use Rattle.script_words.specs.declared.line.Verb.TheVariants.{Put};
+ghost use Rattle.script_player.specs.Requests.{asker_of};
 ghost use Rattle.script_player.specs.Plays.{asked_put, TakesNext, PutStands, PutEnded, FitsPut, left_of};
 
-use crate::asker::StandardAsker;
+use crate::asker::asker_of;
 use crate::play::{EndingPlay, Play};
 use object_words::{BucketName, Conditions, ObjectName};
 use realm_door::{Door, EventTask, Next, Staged, Stepping, Task};
@@ -20,6 +21,7 @@ use realm_model::Settings;
 use rgw_types::Pairs;
 use script_words::ScriptBody;
 use std::alloc::{AllocError, Global};
+use swift_auth::User;
 use task_put::PutTask;
 use task_words::{BodyEnd, Outcome, PutCommand};
 use turn_cell::DoorFault;
@@ -68,14 +70,14 @@ impl PutPlay {
     pub(crate) fn new(
         alloc: Global,
         settings: &Settings,
-        asker: &StandardAsker,
+        user: &User,
         zone: u8,
         container: BucketName,
         name: ObjectName,
         body: ScriptBody,
     ) -> Result<PutPlay, AllocError>
         requires few { length (body_bytes body) ≤ most_bytes }
-        ensures asked { IfOk result (λ x. asked_put x ≡ record { zone = zone; verb = Put container name body }) }
+        ensures asked { IfOk result (λ x. asked_put x ≡ record { zone = zone; asker = asker_of user.now; verb = Put container name body }) }
         ensures stands { IfOk result PutStands }
         ensures going { IfOk result (λ x. PutEnded x → ⊥) }
         ensures fits { IfOk result (λ x. (d : DoorView) → 1 ≤ zone → zone ≤ settings.now.zones
@@ -94,7 +96,7 @@ impl PutPlay {
                 unmodified: None,
             },
         };
-        let asker = asker.for_request()?;
+        let asker = asker_of(user)?;
         Ok(PutPlay {
             task: Stepping::new(PutTask::new(alloc, settings, zone, asker, put)?),
             body,
@@ -152,6 +154,8 @@ impl Play for PutPlay {
     ghost is_ended = { PutEnded };
 
     ghost fits = { FitsPut };
+
+    ghost brings = { FitsPut };
 
     fn act<D: Door>(&mut self, alloc: Global, door: &mut D, moment: u64) -> Result<(), DoorFault> {
         let Ok(ready) = self.make_ready() else {

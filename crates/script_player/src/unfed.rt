@@ -12,17 +12,18 @@ use turn_cell::DoorFault;
 pub(crate) trait Unfed: Staged {
     ghost use Rattle.realm_model.specs.Settings.{SettingsView};
     ghost use Rattle.realm_model.specs.Doors.{DoorView};
+    ghost use Rattle.task_words.specs.declared.asker.Asker.{Asker};
     ghost use Rattle.script_words.specs.declared.line.Verb.{Verb};
     ghost use Rattle.script_player.specs.Plays.{Asked};
 
-    /// In which zone, and what.
+    /// In which zone, by whom, and what.
     ghost asked: { Self.Command → Asked };
 
     /// It is asked as a script asks it.
     ghost is_plain: { Self.Command → Type 0 };
 
     /// What an outcome, with the bytes that are shown, says of the own events of the door's actor.
-    ghost says: { ℕ → Verb → Self.Outcome → List ℕ → SettingsView → DoorView → Type 0 };
+    ghost says: { ℕ → Asker → Verb → Self.Outcome → List ℕ → SettingsView → DoorView → Type 0 };
 
     /// A law: an event comes next wherever the outcome is not there. It does nothing.
     fn goes_on()
@@ -32,7 +33,7 @@ pub(crate) trait Unfed: Staged {
     fn tells()
         ensures { (command : Self.Command) (outcome : Self.Outcome) (settings : SettingsView) (d : DoorView)
             → is_plain command → Self.means command outcome settings d
-            → says (asked command).zone (asked command).verb outcome [] settings d };
+            → says (asked command).zone (asked command).asker (asked command).verb outcome [] settings d };
 }
 
 impl<T: Unfed + Drop> Play for Stepping<T> {
@@ -46,6 +47,8 @@ impl<T: Unfed + Drop> Play for Stepping<T> {
     ghost is_ended = { λ t. T.is_over t.stages × (t.fault ≡ None) };
 
     ghost fits = { λ t settings d. T.is_plain (T.command t.stages) × UnlessFaulted t.fault (T.fits t.stages settings d) };
+
+    ghost brings = { λ t settings d. T.is_plain (T.command t.stages) × UnlessFaulted t.fault (T.fits t.stages settings d) };
 
     fn act<D: Door>(&mut self, alloc: Global, door: &mut D, moment: u64) -> Result<(), DoorFault> {
         T::goes_on();

@@ -6,11 +6,11 @@ use Rattle.std.proofs.lemmas.Bool.{eqb-true, le-leb, leb-true, false_from_ne_tru
 use Rattle.std.proofs.lemmas.Option.{none-some, same_Some, cond_some}
 use Rattle.task_words.specs.declared.job.Job.TheVariants.{Check}
 use Rattle.script_words.specs.Lines.{is_container, most_letters, IsPlain, IsBody, IsVerb}
-use Rattle.script_words.specs.Reading.{number_in, container_in, path_in, times_in, body_in, put_in, get_in, stat_in, list_in, check_in, verb_in}
+use Rattle.script_words.specs.Reading.{number_in, container_in, path_in, times_in, body_in, put_in, get_in, only_container, account_in, container_verb, verb_in}
 use Rattle.script_words.specs.declared.line.ScriptBody.{ScriptBody}
 use Rattle.script_words.specs.declared.line.ScriptBody.TheVariants.{Word, Times}
 use Rattle.script_words.specs.declared.line.Verb.{Verb}
-use Rattle.script_words.specs.declared.line.Verb.TheVariants.{Put, Get, Stat}
+use Rattle.script_words.specs.declared.line.Verb.TheVariants.{Put, Get, Stat, Make, Remove, Account}
 use Rattle.script_words.specs.declared.line.Verb.TheVariants as verbs
 use Rattle.script_words.specs.declared.verbs.Path.{Path}
 use Rattle.script_words.proofs.Options.{map_some, then_some, either_some, same_word}
@@ -76,18 +76,23 @@ body_means (first ∷ rest) body read =
 
 -- ---- verbs
 
+-- a container that is named behind a verb's word
+named_says : (command container : List ℕ) → is_container container ≡ true
+    → option_and_then (container_verb command) (only_container (container ∷ [])) ≡ container_verb command container
+named_says command container is = ap (option_and_then (container_verb command)) (kept (is_container container) container container is refl)
+
 pub verb_says : (words : List (List ℕ)) (verb : Verb) → IsVerb words verb → verb_in words ≡ Some verb
 verb_says words (Put container name body) is =
     ap verb_in is.2 ∙ ap (option_and_then (λ (p : Path). option_map (λ b. Put p.container p.name b) (body_in is.1))) (path_says is.0 container name is.3)
     ∙ ap (option_map (λ b. Put container name b)) (body_says is.1 body is.4)
 verb_says words (Get container name) is =
     ap verb_in is.1 ∙ ap (option_map (λ (p : Path). Get p.container p.name)) (path_says is.0 container name is.2)
-verb_says words (Stat container) is =
-    ap verb_in is.0 ∙ ap (option_map (λ c. Stat c)) (kept (is_container container) container container is.1 refl)
-verb_says words (verbs.List container) is =
-    ap verb_in is.0 ∙ ap (option_map (λ c. verbs.List c)) (kept (is_container container) container container is.1 refl)
-verb_says words (verbs.Job (Check container)) is =
-    ap verb_in is.0 ∙ ap (option_map (λ c. verbs.Job (Check c))) (kept (is_container container) container container is.1 refl)
+verb_says words (Stat container) is = ap verb_in is.0 ∙ named_says (codes "stat") container is.1
+verb_says words (verbs.List container) is = ap verb_in is.0 ∙ named_says (codes "list") container is.1
+verb_says words (Make container) is = ap verb_in is.0 ∙ named_says (codes "mk") container is.1
+verb_says words (Remove container) is = ap verb_in is.0 ∙ named_says (codes "rm") container is.1
+verb_says words Account is = ap verb_in is
+verb_says words (verbs.Job (Check container)) is = ap verb_in is.0 ∙ named_says (codes "check") container is.1
 
 put_means : (command : List ℕ) (words : List (List ℕ)) (verb : Verb) → command ≡ codes "put" → put_in words ≡ Some verb → IsVerb (command ∷ words) verb
 put_means command [] verb is read = absurd (none-some verb read)
@@ -107,29 +112,9 @@ get_means command (path ∷ []) verb is read =
     let first = map_some (λ (p : Path). Get p.container p.name) (path_in path) verb read in
     subst (IsVerb (command ∷ path ∷ [])) first.2 (path, ap (λ c. c ∷ path ∷ []) is, path_means path first.0 first.1)
 
-stat_means : (command : List ℕ) (words : List (List ℕ)) (verb : Verb) → command ≡ codes "stat" → stat_in words ≡ Some verb → IsVerb (command ∷ words) verb
-stat_means command [] verb is read = absurd (none-some verb read)
-stat_means command (word ∷ more ∷ words) verb is read = absurd (none-some verb read)
-stat_means command (word ∷ []) verb is read =
-    let first = map_some (λ c. Stat c) (container_in word) verb read in
-    let name = cond_some (is_container word) word first.0 first.1 in
-    subst (IsVerb (command ∷ word ∷ [])) (ap (λ c. Stat c) name.1 ∙ first.2) (ap (λ c. c ∷ word ∷ []) is, name.0)
-
-list_means : (command : List ℕ) (words : List (List ℕ)) (verb : Verb) → command ≡ codes "list" → list_in words ≡ Some verb → IsVerb (command ∷ words) verb
-list_means command [] verb is read = absurd (none-some verb read)
-list_means command (word ∷ more ∷ words) verb is read = absurd (none-some verb read)
-list_means command (word ∷ []) verb is read =
-    let first = map_some (λ c. verbs.List c) (container_in word) verb read in
-    let name = cond_some (is_container word) word first.0 first.1 in
-    subst (IsVerb (command ∷ word ∷ [])) (ap (λ c. verbs.List c) name.1 ∙ first.2) (ap (λ c. c ∷ word ∷ []) is, name.0)
-
-check_means : (command : List ℕ) (words : List (List ℕ)) (verb : Verb) → command ≡ codes "check" → check_in words ≡ Some verb → IsVerb (command ∷ words) verb
-check_means command [] verb is read = absurd (none-some verb read)
-check_means command (word ∷ more ∷ words) verb is read = absurd (none-some verb read)
-check_means command (word ∷ []) verb is read =
-    let first = map_some (λ c. verbs.Job (Check c)) (container_in word) verb read in
-    let name = cond_some (is_container word) word first.0 first.1 in
-    subst (IsVerb (command ∷ word ∷ [])) (ap (λ c. verbs.Job (Check c)) name.1 ∙ first.2) (ap (λ c. c ∷ word ∷ []) is, name.0)
+account_means : (command : List ℕ) (words : List (List ℕ)) (verb : Verb) → command ≡ codes "account" → account_in words ≡ Some verb → IsVerb (command ∷ words) verb
+account_means command (word ∷ words) verb is read = absurd (none-some verb read)
+account_means command [] verb is read = subst (IsVerb (command ∷ [])) (same_Some Account verb read) (ap (λ c. c ∷ []) is)
 
 -- one of the verbs, or the next
 next_verb : (command text : List ℕ) (words : List (List ℕ)) (verb : Verb) (here rest : Option Verb)
@@ -141,11 +126,38 @@ next_verb command text words verb here rest means others read = ⊎_elim
     (λ (q : (bytes_eq command text ≡ false) × (rest ≡ Some verb)). others q.1)
     (either_some (bytes_eq command text) here rest verb read)
 
+-- this word's verb, or the next
+next_named : (command text container : List ℕ) (verb here : Verb) (rest : Option Verb) → (command ≡ text → IsVerb (command ∷ container ∷ []) here)
+    → (rest ≡ Some verb → IsVerb (command ∷ container ∷ []) verb)
+    → cond (bytes_eq command text) (Some here) rest ≡ Some verb → IsVerb (command ∷ container ∷ []) verb
+next_named command text container verb here rest means others read =
+    next_verb command text (container ∷ []) verb (Some here) rest
+    (λ is found. subst (IsVerb (command ∷ container ∷ [])) (same_Some here verb found) (means is)) others read
+
+-- each verb that stands before the name of a container
+container_means : (command container : List ℕ) (verb : Verb) → is_container container ≡ true → container_verb command container ≡ Some verb → IsVerb (command ∷ container ∷ []) verb
+container_means command container verb named read =
+    next_named command (codes "stat") container verb (Stat container) _ says
+    (next_named command (codes "list") container verb (verbs.List container) _ says
+    (next_named command (codes "mk") container verb (Make container) _ says
+    (next_named command (codes "rm") container verb (Remove container) _ says
+    (next_named command (codes "check") container verb (verbs.Job (Check container)) _ says (λ none. absurd (none-some verb none)))))) read
+  where
+    says : {text : List ℕ} → command ≡ text → (command ∷ container ∷ [] ≡ text ∷ container ∷ []) × (is_container container ≡ true)
+    says is = (ap (λ c. c ∷ container ∷ []) is, named)
+
+named_means : (command : List ℕ) (words : List (List ℕ)) (verb : Verb) → option_and_then (container_verb command) (only_container words) ≡ Some verb → IsVerb (command ∷ words) verb
+named_means command [] verb read = absurd (none-some verb read)
+named_means command (word ∷ more ∷ words) verb read = absurd (none-some verb read)
+named_means command (word ∷ []) verb read =
+    let found = then_some (container_verb command) (container_in word) verb read in
+    let name = cond_some (is_container word) word found.0 found.1 in
+    container_means command word verb name.0 (ap (container_verb command) name.1 ∙ found.2)
+
 pub verb_means : (words : List (List ℕ)) (verb : Verb) → verb_in words ≡ Some verb → IsVerb words verb
 verb_means [] verb read = absurd (none-some verb read)
 verb_means (command ∷ words) verb read =
     next_verb command (codes "put") words verb _ _ (put_means command words verb)
     (next_verb command (codes "get") words verb _ _ (get_means command words verb)
-    (next_verb command (codes "stat") words verb _ _ (stat_means command words verb)
-    (next_verb command (codes "list") words verb _ _ (list_means command words verb)
-    (next_verb command (codes "check") words verb _ _ (check_means command words verb) (λ none. absurd (none-some verb none)))))) read
+    (next_verb command (codes "account") words verb _ _ (account_means command words verb)
+    (named_means command words verb))) read

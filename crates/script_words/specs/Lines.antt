@@ -14,7 +14,7 @@ use Rattle.script_words.specs.declared.line.Line.TheVariants.{Clock, Start, Step
 use Rattle.script_words.specs.declared.line.ScriptBody.{ScriptBody}
 use Rattle.script_words.specs.declared.line.ScriptBody.TheVariants.{Word, Times}
 use Rattle.script_words.specs.declared.line.Verb.{Verb}
-use Rattle.script_words.specs.declared.line.Verb.TheVariants.{Put, Get, Stat}
+use Rattle.script_words.specs.declared.line.Verb.TheVariants.{Put, Get, Stat, Make, Remove, Account}
 use Rattle.script_words.specs.declared.line.Verb.TheVariants as verbs
 
 -- ---- words
@@ -94,6 +94,9 @@ IsVerb words (Put container name body) =
 IsVerb words (Get container name) = (path : List ℕ) × (words ≡ codes "get" ∷ path ∷ []) × IsPath path container name
 IsVerb words (Stat container) = (words ≡ codes "stat" ∷ container ∷ []) × (is_container container ≡ true)
 IsVerb words (verbs.List container) = (words ≡ codes "list" ∷ container ∷ []) × (is_container container ≡ true)
+IsVerb words (Make container) = (words ≡ codes "mk" ∷ container ∷ []) × (is_container container ≡ true)
+IsVerb words (Remove container) = (words ≡ codes "rm" ∷ container ∷ []) × (is_container container ≡ true)
+IsVerb words Account = words ≡ codes "account" ∷ []
 IsVerb words (verbs.Job job) = IsJob words job
 
 -- the words are an actor behind this command, and nothing more

@@ -11,7 +11,7 @@ use Rattle.script_words.specs.declared.line.Line.TheVariants.{Clock, Start, Step
 use Rattle.script_words.specs.declared.line.ScriptBody.{ScriptBody}
 use Rattle.script_words.specs.declared.line.ScriptBody.TheVariants.{Word, Times}
 use Rattle.script_words.specs.declared.line.Verb.{Verb}
-use Rattle.script_words.specs.declared.line.Verb.TheVariants.{Put, Get, Stat}
+use Rattle.script_words.specs.declared.line.Verb.TheVariants.{Put, Get, Stat, Make, Remove, Account}
 use Rattle.script_words.specs.declared.line.Verb.TheVariants as verbs
 use Rattle.script_words.specs.declared.no_line.NoLine.{NoLine}
 use Rattle.script_words.specs.declared.no_line.NoLine.TheVariants.{Bad, OutOfMemory}
@@ -75,26 +75,32 @@ abbrev pub get_in : List (List ℕ) → Option Verb
 get_in (path ∷ []) = option_map (λ p. Get p.container p.name) (path_in path)
 get_in words = None
 
-abbrev pub stat_in : List (List ℕ) → Option Verb
-stat_in (word ∷ []) = option_map (λ container. Stat container) (container_in word)
-stat_in words = None
+-- one word, which names a container
+abbrev pub only_container : List (List ℕ) → Option (List ℕ)
+only_container (word ∷ []) = container_in word
+only_container words = None
 
-abbrev pub list_in : List (List ℕ) → Option Verb
-list_in (word ∷ []) = option_map (λ container. verbs.List container) (container_in word)
-list_in words = None
+-- no word
+abbrev pub account_in : List (List ℕ) → Option Verb
+account_in [] = Some Account
+account_in words = None
 
-abbrev pub check_in : List (List ℕ) → Option Verb
-check_in (word ∷ []) = option_map (λ container. verbs.Job (Check container)) (container_in word)
-check_in words = None
+-- what is done with a container
+abbrev pub container_verb : List ℕ → List ℕ → Option Verb
+container_verb verb container =
+    if bytes_eq verb (codes "stat") then Some (Stat container) else
+    (if bytes_eq verb (codes "list") then Some (verbs.List container) else
+    (if bytes_eq verb (codes "mk") then Some (Make container) else
+    (if bytes_eq verb (codes "rm") then Some (Remove container) else
+    (if bytes_eq verb (codes "check") then Some (verbs.Job (Check container)) else None))))
 
 abbrev pub verb_in : List (List ℕ) → Option Verb
 verb_in [] = None
 verb_in (verb ∷ words) =
     if bytes_eq verb (codes "put") then put_in words else
     (if bytes_eq verb (codes "get") then get_in words else
-    (if bytes_eq verb (codes "stat") then stat_in words else
-    (if bytes_eq verb (codes "list") then list_in words else
-    (if bytes_eq verb (codes "check") then check_in words else None))))
+    (if bytes_eq verb (codes "account") then account_in words else
+    option_and_then (container_verb verb) (only_container words)))
 
 -- ---- lines
 

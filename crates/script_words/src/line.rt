@@ -34,6 +34,16 @@ pub enum Verb {
     List {
         container: BucketName,
     },
+    /// Makes a container, where there is none of the name: `mk C`.
+    Make {
+        container: BucketName,
+    },
+    /// Removes a container that has no object: `rm C`.
+    Remove {
+        container: BucketName,
+    },
+    /// Counts the objects of each container of the account: `account`.
+    Account,
     /// Does a job of an administrator: `check C`.
     Job(Job),
 }

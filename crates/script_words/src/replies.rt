@@ -2,13 +2,15 @@
 ghost use Rattle.std.specs.Prelude.{◌≡◌, ◌++◌, ◌∷◌, [], OnOk, codes, decimal};
 ghost use Rattle.call_words.specs.Texts.{refusal_in};
 ghost use Rattle.task_words.specs.declared.reply.Refusal.TheVariants.{Denied};
-ghost use Rattle.script_words.specs.Replies.{refusal_text, behind_blank, listed_text, keys_text, map_text, request_text, job_text, outcome_text, reply_line, named_line, count_line, bad_line};
+ghost use Rattle.script_words.specs.Replies.{refusal_text, behind_blank, listed_text, keys_text, counts_text, map_text, request_text, container_refusal_in, container_reply_text, container_text, account_row_text, containers_text, account_rows_text, account_text, job_text, outcome_text, reply_line, named_line, count_line, bad_line};
 
 use crate::{ActorName, ActorOutcome};
-use list_words::ListedRow;
-use object_words::etag_digits;
+use list_words::{AccountRow, ListedRow};
+use object_words::{ObjectName, etag_digits};
 use std::alloc::AllocError;
 use swift_auth::Rule;
+use task_account::{AccountOutcome, AccountReply};
+use task_container::{ContainerOutcome, ContainerRefusal, ContainerReply};
 use task_words::{JobOutcome, MapReply, Outcome, Refusal};
 
 fn push_number(out: &mut Vec<u8>, n: u64) -> Result<(), AllocError>
@@ -94,6 +96,14 @@ fn push_listed(out: &mut Vec<u8>, rows: &[ListedRow]) -> Result<(), AllocError>
     push_keys(out, rows)
 }
 
+/// Adds how many objects there are, and how many bytes they have.
+fn push_counts(out: &mut Vec<u8>, objects: u64, bytes: u64) -> Result<(), AllocError>
+    ensures { OnOk result (out.new.items ≡ out.old.items ++ counts_text objects bytes) }
+{
+    push_counted(out, "200 objects=", objects)?;
+    push_counted(out, " bytes=", bytes)
+}
+
 /// Adds what is replied of an object or a container, with the bytes that are shown.
 fn push_map_reply(out: &mut Vec<u8>, reply: &MapReply, shown: &[u8]) -> Result<(), AllocError>
     ensures { OnOk result (out.new.items ≡ out.old.items ++ map_text reply.now shown.now) }
@@ -111,10 +121,7 @@ fn push_map_reply(out: &mut Vec<u8>, reply: &MapReply, shown: &[u8]) -> Result<(
             out.extend_from_slice(b"304 ")?;
             out.extend_from_slice(etag_digits(etag).as_slice())
         }
-        MapReply::Counted { objects, bytes, .. } => {
-            push_counted(out, "200 objects=", *objects)?;
-            push_counted(out, " bytes=", *bytes)
-        }
+        MapReply::Counted { objects, bytes, .. } => push_counts(out, *objects, *bytes),
         MapReply::Listed(rows) => push_listed(out, rows.as_slice()),
         MapReply::Refused(refusal) => out.extend_from_slice(refusal_text(*refusal).as_bytes()),
     }
@@ -145,6 +152,102 @@ pub fn push_request_outcome(
     }
 }
 
+/// Adds the name of an object behind a text.
+fn push_name(out: &mut Vec<u8>, text: &str, name: &ObjectName) -> Result<(), AllocError>
+    ensures { OnOk result (out.new.items ≡ out.old.items ++ (text.now ++ name.now)) }
+{
+    out.extend_from_slice(text.as_bytes())?;
+    out.extend_from_slice(name.as_text().as_bytes())
+}
+
+/// Adds the code and the line of a refusal of a request for a container.
+fn push_container_refusal(out: &mut Vec<u8>, refusal: &ContainerRefusal) -> Result<(), AllocError>
+    ensures { OnOk result (out.new.items ≡ out.old.items ++ refusal_text (container_refusal_in refusal.now)) }
+{
+    match refusal {
+        ContainerRefusal::ByRow(refusal) => out.extend_from_slice(refusal_text(
+            *refusal,
+        ).as_bytes()),
+        ContainerRefusal::NotYours => out.extend_from_slice(b"409 Not yours"),
+        ContainerRefusal::NotEmpty { name } => push_name(out, "409 Not empty: ", name),
+        ContainerRefusal::Unsettled { name } => push_name(out, "409 Unsettled: ", name),
+    }
+}
+
+/// Adds what is replied of a container.
+fn push_container_reply(out: &mut Vec<u8>, reply: &ContainerReply) -> Result<(), AllocError>
+    ensures { OnOk result (out.new.items ≡ out.old.items ++ container_reply_text reply.now) }
+{
+    match reply {
+        ContainerReply::Counted { objects, bytes, .. } => push_counts(out, *objects, *bytes),
+        ContainerReply::Made => out.extend_from_slice(b"201"),
+        ContainerReply::Accepted => out.extend_from_slice(b"202"),
+        ContainerReply::Changed | ContainerReply::Removed => out.extend_from_slice(b"204"),
+        ContainerReply::Refused(refusal) => push_container_refusal(out, refusal),
+    }
+}
+
+/// Adds what is replied where a request for a container ended so: `200 objects={n} bytes={n}`, `201`, `202`,
+/// `204`, or the code and the line of the Swift API's refusal.
+pub fn push_container_outcome(
+    out: &mut Vec<u8>,
+    outcome: &ContainerOutcome,
+) -> Result<(), AllocError>
+    ensures { OnOk result (out.new.items ≡ out.old.items ++ container_text outcome.now) }
+{
+    match outcome {
+        ContainerOutcome::Done(reply) => push_container_reply(out, reply),
+        ContainerOutcome::Busy { id } => push_counted(out, "503 Busy: ", *id),
+        ContainerOutcome::MovedOften => out.extend_from_slice(b"503 Moved often"),
+        ContainerOutcome::RacedOften => out.extend_from_slice(b"503 Raced often"),
+    }
+}
+
+/// Adds a container of an account behind a blank: its name, how many objects it has, and their bytes.
+fn push_account_row(out: &mut Vec<u8>, row: &AccountRow) -> Result<(), AllocError>
+    ensures { OnOk result (out.new.items ≡ out.old.items ++ account_row_text row.now) }
+{
+    out.push(b' ')?;
+    out.extend_from_slice(row.name.as_bytes())?;
+    push_counted(out, "=", row.count)?;
+    push_counted(out, "/", row.bytes)
+}
+
+/// Adds containers of an account, each behind a blank.
+fn push_containers(out: &mut Vec<u8>, rows: &[AccountRow]) -> Result<(), AllocError>
+    ensures { OnOk result (out.new.items ≡ out.old.items ++ containers_text rows.now) }
+{
+    for row in rows {
+        push_account_row(out, row)?;
+    }
+    Ok(())
+}
+
+/// Adds the containers of an account; `204` where it has none.
+fn push_account_rows(out: &mut Vec<u8>, rows: &[AccountRow]) -> Result<(), AllocError>
+    ensures { OnOk result (out.new.items ≡ out.old.items ++ account_rows_text rows.now) }
+{
+    if rows.is_empty() {
+        return out.extend_from_slice(b"204");
+    }
+    out.extend_from_slice(b"200")?;
+    push_containers(out, rows)
+}
+
+/// Adds what is replied where a request for an account ended so: `200 {name}={objects}/{bytes} ..`, `204` where
+/// it has no container, or the code and the line of the Swift API's refusal.
+pub fn push_account_outcome(out: &mut Vec<u8>, outcome: &AccountOutcome) -> Result<(), AllocError>
+    ensures { OnOk result (out.new.items ≡ out.old.items ++ account_text outcome.now) }
+{
+    match outcome {
+        AccountOutcome::Done(AccountReply::Listed(rows)) => push_account_rows(out, rows.as_slice()),
+        AccountOutcome::Done(AccountReply::Counted { objects, bytes, .. }) => {
+            push_counts(out, *objects, *bytes)
+        }
+        AccountOutcome::MovedOften => out.extend_from_slice(b"503 Moved often"),
+    }
+}
+
 /// Adds what is replied where a job ended so: `200 repaired={n} left={n}`, or the code and the line of the
 /// Swift API's refusal.
 pub fn push_job_outcome(out: &mut Vec<u8>, outcome: &JobOutcome) -> Result<(), AllocError>
@@ -172,6 +275,8 @@ pub fn push_outcome(
 {
     match outcome {
         ActorOutcome::Request(outcome) => push_request_outcome(out, outcome, shown),
+        ActorOutcome::Container(outcome) => push_container_outcome(out, outcome),
+        ActorOutcome::Account(outcome) => push_account_outcome(out, outcome),
         ActorOutcome::Job(outcome) => push_job_outcome(out, outcome),
     }
 }

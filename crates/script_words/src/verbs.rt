@@ -2,7 +2,7 @@
 ghost use Rattle.std.specs.Prelude.{◌≡◌, map};
 ghost use Rattle.std.specs.List.{position};
 ghost use Rattle.script_words.specs.Lines.{is_slash};
-ghost use Rattle.script_words.specs.Reading.{Reads, path_in, times_in, body_in, put_in, get_in, stat_in, list_in, check_in, verb_in};
+ghost use Rattle.script_words.specs.Reading.{Reads, path_in, times_in, body_in, put_in, get_in, only_container, account_in, container_verb, verb_in};
 
 use crate::no_line::NoLine;
 use crate::words::{container_in, is, name_in, number_in};
@@ -87,36 +87,44 @@ fn get_in(alloc: Global, words: &[&[u8]]) -> Result<Verb, NoLine>
     Ok(Verb::Get { container, name })
 }
 
-fn stat_in(alloc: Global, words: &[&[u8]]) -> Result<Verb, NoLine>
-    ensures { Reads result (stat_in (map (λ word. word.now) words.now)) }
+/// The one word that names a container.
+fn only_container(alloc: Global, words: &[&[u8]]) -> Result<BucketName, NoLine>
+    ensures { Reads result (only_container (map (λ word. word.now) words.now)) }
 {
     let [container] = words else {
         return Err(NoLine::Bad);
     };
-    Ok(Verb::Stat {
-        container: container_in(alloc, container)?,
-    })
+    container_in(alloc, container)
 }
 
-fn list_in(alloc: Global, words: &[&[u8]]) -> Result<Verb, NoLine>
-    ensures { Reads result (list_in (map (λ word. word.now) words.now)) }
+/// The verb for the whole account, behind which no word stands.
+fn account_in(words: &[&[u8]]) -> Result<Verb, NoLine>
+    ensures { Reads result (account_in (map (λ word. word.now) words.now)) }
 {
-    let [container] = words else {
-        return Err(NoLine::Bad);
-    };
-    Ok(Verb::List {
-        container: container_in(alloc, container)?,
-    })
+    match words {
+        [] => Ok(Verb::Account),
+        _ => Err(NoLine::Bad),
+    }
 }
 
-fn check_in(alloc: Global, words: &[&[u8]]) -> Result<Verb, NoLine>
-    ensures { Reads result (check_in (map (λ word. word.now) words.now)) }
+/// What is done with a container, by the verb's word.
+fn container_verb(verb: &[u8], container: BucketName) -> Result<Verb, NoLine>
+    ensures { Reads result (container_verb verb.now container) }
 {
-    let [container] = words else {
-        return Err(NoLine::Bad);
-    };
-    let container = container_in(alloc, container)?;
-    Ok(Verb::Job(Job::Check { container }))
+    if is(verb, "stat") {
+        Ok(Verb::Stat { container })
+    } else if is(verb, "list") {
+        Ok(Verb::List { container })
+    } else if is(verb, "mk") {
+        Ok(Verb::Make { container })
+    } else if is(verb, "rm") {
+        Ok(Verb::Remove { container })
+    } else if is(verb, "check") {
+        Ok(Verb::Job(Job::Check { container }))
+    } else {
+        drop(container);
+        Err(NoLine::Bad)
+    }
 }
 
 /// The verb with its arguments that the words are.
@@ -130,13 +138,9 @@ pub(crate) fn verb_in(alloc: Global, words: &[&[u8]]) -> Result<Verb, NoLine>
         put_in(alloc, arguments)
     } else if is(verb, "get") {
         get_in(alloc, arguments)
-    } else if is(verb, "stat") {
-        stat_in(alloc, arguments)
-    } else if is(verb, "list") {
-        list_in(alloc, arguments)
-    } else if is(verb, "check") {
-        check_in(alloc, arguments)
+    } else if is(verb, "account") {
+        account_in(arguments)
     } else {
-        Err(NoLine::Bad)
+        container_verb(verb, only_container(alloc, arguments)?)
     }
 }

@@ -28,15 +28,17 @@ use Rattle.realm_model.specs.Owns.{OwnEvent, own_events, NoneBy}
 use Rattle.realm_model.specs.declared.event.Event.{Event}
 use Rattle.realm_model.specs.declared.op.Op.TheVariants.{BucketRead}
 use Rattle.realm_model.specs.declared.event.Reply.TheVariants.{Row, Stats}
+use Rattle.realm_model.specs.Worlds.{start}
+use Rattle.realm_model.proofs.Runs.{legal_front}
+use Rattle.index_law.proofs.Keeping.{holds}
 use Rattle.realm_law.specs.Totals.{names_of_shard}
 use Rattle.realm_law.proofs.Counting.{shard_objects, shard_bytes}
 use Rattle.realm_law.proofs.MapSums.{alike_totals, parts_of_map}
 use Rattle.task_words.specs.declared.asker.Asker.{Asker}
 use Rattle.task_container.specs.Counts.{asks_header, CountedBy}
-use Rattle.repair_law.specs.Settled.{NonePrepares}
 use Rattle.repair_law.proofs.Staying.{within, row_in_here}
-use Rattle.settled_law.specs.Resting.{Rests}
-use Rattle.settled_law.proofs.Meanwhile.{AmidFrom, all_back, amid, upto, legal_upto, rests_upto, map_amid, answered}
+use Rattle.settled_law.specs.Resting.{Rests, IsLeftAtRest}
+use Rattle.settled_law.proofs.Meanwhile.{AmidFrom, all_back, amid, upto, legal_upto, rests_upto, stands_upto, map_amid, answered}
 use Rattle.settled_law.proofs.Looks.{row_is}
 
 -- ---- a shard without changes under way
@@ -101,7 +103,7 @@ told_by : (o : Option Shard) (stats : ShardStats) → Stats stats ≡ on_shard o
 told_by None stats told = absurd cc
 told_by (Some s) stats told = record { s = s; there = refl; stats_are = by_fate s stats (fate_refusal s.fate) told }
 
-module _ (settings : SettingsView) (before during : List Event) (zone : ℕ) (bucket : List ℕ) (row : Bucket) (good : IsSettings settings) (legal : Legal settings (before ++ during)) (rests : Rests settings before zone bucket row) (calm : NonePrepares zone row during) where
+module _ (settings : SettingsView) (before during : List Event) (zone : ℕ) (bucket : List ℕ) (row : Bucket) (good : IsSettings settings) (legal : Legal settings (before ++ during)) (rests : Rests settings before zone bucket row) (calm : IsLeftAtRest settings before during zone bucket row) where
   abbrev slots : Named SeenSlot
   slots = heads (before ++ during) zone row.id
 
@@ -125,14 +127,15 @@ module _ (settings : SettingsView) (before during : List Event) (zone : ℕ) (bu
       let empty : (name : List ℕ) → (entry_of (at (x.s).entries name)).tags ≡ [] = λ name. sym (ap (λ o. (entry_in o name).tags) x.there) ∙ now.none n name less in
       let none = no_tags_counted x.s empty in
       let here = row_in_here settings front zone bucket row good lawful now.kept in
+      let stands = stands_upto settings before during zone bucket row good legal rests calm s.front (s.e ∷ s.later) rest in
       record {
         objects =
             ap (λ (t : ShardStats). t.objects) x.stats_are
-            ∙ shard_objects settings front zone row.id row good lawful here n x.s x.there none
+            ∙ shard_objects settings front zone row.id row good lawful here stands n x.s x.there none
             ∙ ap (λ m. (counts_of (names_of_shard row n m)).objects) same;
         bytes =
             ap (λ (t : ShardStats). t.bytes) x.stats_are
-            ∙ shard_bytes settings front zone row.id row good lawful here n x.s x.there none
+            ∙ shard_bytes settings front zone row.id row good lawful here stands n x.s x.there none
             ∙ ap (λ m. min (counts_of (names_of_shard row n m)).bytes greatest) same;
       }
 
@@ -176,11 +179,12 @@ module _ (settings : SettingsView) (before during : List Event) (zone : ℕ) (bu
   of_row : (objects bytes : ℕ) (owns : List OwnEvent) (stats : List ShardStats) → AllByRecursion Amid owns → map (λ e. e.op) owns ≡ map (asks_header zone row) (range_with_len 0 row.shards) → map (λ e. e.reply) owns ≡ map (λ t. Stats t) stats
       → objects ≡ min (sum_by (λ t. t.objects) stats) greatest → bytes ≡ min (sum_by (λ t. t.bytes) stats) greatest → Counts objects bytes
   of_row objects bytes owns stats all asked told objects_are bytes_are =
+      let some = ((holds settings before good (legal_front settings (start settings) before during legal)).rows_stand.kept zone bucket row rests.kept).named.some in
       let from_zero : 0 + row.shards ≡ row.shards = omega arith in
       let below = subst (λ k. AllByRecursion (λ n. n < k) (range_with_len 0 row.shards)) from_zero (all_below 0 row.shards) in
       let h = headers owns (range_with_len 0 row.shards) stats all below asked told in
-      let parts_o = parts_of_map live_count (λ q. shard_of q row.shards) row.shards (within row rests.some) slots in
-      let parts_b = parts_of_map live_bytes (λ q. shard_of q row.shards) row.shards (within row rests.some) slots in
+      let parts_o = parts_of_map live_count (λ q. shard_of q row.shards) row.shards (within row some) slots in
+      let parts_b = parts_of_map live_bytes (λ q. shard_of q row.shards) row.shards (within row some) slots in
       record {
         objects_are = objects_are ∙ ap (λ n. min n greatest) (h.objects ∙ parts_o);
         bytes_are =

@@ -3,7 +3,7 @@ use Rattle.std.proofs.Common.{◌≡◌, ℕ, List, [], ◌∷◌, ◌++◌, Opt
 use Rattle.object_words.specs.declared.bucket.Bucket.{Bucket}
 use Rattle.object_words.specs.Names.{at}
 use Rattle.realm_model.specs.Accounts.{Account, Looked, looked_after, accounted}
-use Rattle.realm_model.specs.Settings.{SettingsView, IsSettings}
+use Rattle.realm_model.specs.Settings.{SettingsView}
 use Rattle.realm_model.specs.States.{State, at_moment, number_next}
 use Rattle.realm_model.specs.Steps.{row_reply, reply_of}
 use Rattle.realm_model.specs.Phases.{ActorId}
@@ -17,11 +17,10 @@ use Rattle.realm_model.specs.declared.event.Reply.{Reply}
 use Rattle.realm_model.specs.declared.event.Reply.TheVariants.{No, Row}
 use Rattle.realm_model.proofs.ObjectLemmas.{put_actor_cases}
 use Rattle.realm_model.proofs.Others.{account-others}
-use Rattle.realm_model.proofs.Runs.{run-append, legal_front, legal_back}
+use Rattle.realm_model.proofs.Runs.{run-append, legal_back}
 use Rattle.index_law.specs.Tables.{rows_of}
-use Rattle.index_law.specs.Invariants.{IndexHolds}
-use Rattle.index_law.proofs.Keeping.{keeps, holds}
-use Rattle.repair_law.proofs.Unchanged.{row_next}
+use Rattle.repair_law.specs.Settled.{NoneSwaps}
+use Rattle.repair_law.proofs.Calm.{row_left}
 use Rattle.settled_law.specs.Resting.{Rests}
 
 pub same_some : {X : Type 0} {x y : X} → Some x ≡ Some y → x ≡ y
@@ -58,17 +57,16 @@ module _ (settings : SettingsView) (actor : ActorId) (zone : ℕ) (bucket : List
       (λ mine. shows_after st e.op e.reply number (w.accounts me).looked kept next.answer (subst (λ a. ShowsRow (w.accounts a).looked) (sym mine) shows))
       (λ a mine. subst (λ b. ShowsRow (w.accounts b).looked) (sym mine) shows) actor refl
 
-  shows_from : (es : List Event) (w : World) → IsSettings settings → IndexHolds w → LegalFrom settings w es → rows_of w.state.root zone bucket ≡ Some row → ShowsRow (w.accounts actor).looked → ShowsRow ((run settings w es).accounts actor).looked
-  shows_from [] w good j legal kept shows = shows
-  shows_from (e ∷ es) w good j legal kept shows =
-      shows_from es (happens settings w e) good (keeps settings good w j e legal.0) legal.1 (row_next settings w j zone bucket row kept e legal.0) (shows_next w e legal.0 kept shows)
+  shows_from : (es : List Event) (w : World) → LegalFrom settings w es → NoneSwaps zone bucket es → rows_of w.state.root zone bucket ≡ Some row → ShowsRow (w.accounts actor).looked → ShowsRow ((run settings w es).accounts actor).looked
+  shows_from [] w legal none kept shows = shows
+  shows_from (e ∷ es) w legal none kept shows =
+      shows_from es (happens settings w e) legal.1 none.1 (row_left zone bucket row settings (at_moment w.state e.moment) e.op none.0 ∙ kept) (shows_next w e legal.0 kept shows)
 
   -- the last bucket read of an actor that made no event before the container rested
-  pub last_look : (before during : List Event) → IsSettings settings → Legal settings (before ++ during) → Rests settings before zone bucket row → NoneBy actor before → ShowsRow (account_of settings (before ++ during) actor).looked
-  last_look before during good legal rests none =
+  pub last_look : (before during : List Event) → Legal settings (before ++ during) → Rests settings before zone bucket row → NoneSwaps zone bucket during → NoneBy actor before → ShowsRow (account_of settings (before ++ during) actor).looked
+  last_look before during legal rests none unseen =
       let w = world_of settings before in
-      let first = legal_front settings (start settings) before during legal in
-      let blank = ap (λ (y : Account). y.looked) (account-others settings [] before actor none) in
+      let blank = ap (λ (y : Account). y.looked) (account-others settings [] before actor unseen) in
       subst (λ (v : World). ShowsRow (v.accounts actor).looked) (sym (run-append settings (start settings) before during))
-      (shows_from during w good (holds settings before good first) (legal_back settings (start settings) before during legal) rests.kept
+      (shows_from during w (legal_back settings (start settings) before during legal) none rests.kept
       (λ look is. absurd (let never : None ≡ Some look = sym blank ∙ is in cc)))

@@ -4,23 +4,25 @@ use Rattle.std.proofs.Common.{◌≡◌, ℕ, suc, zero, ◌+◌, ◌<◌, true,
 use Rattle.std.specs.List.{AllByRecursion, Contains}
 use Rattle.std.proofs.lemmas.List.{append_assoc, length-append, take_at}
 use Rattle.object_words.specs.declared.bucket.Bucket.{Bucket}
+use Rattle.realm_model.specs.Containers.{is_standing}
 use Rattle.realm_model.specs.Maps.{heads}
 use Rattle.realm_model.specs.Settings.{SettingsView, IsSettings}
 use Rattle.realm_model.specs.States.{at_moment, clock_at}
 use Rattle.realm_model.specs.Steps.{reply_of}
 use Rattle.realm_model.specs.Phases.{ActorId}
 use Rattle.realm_model.specs.Worlds.{World, start, same_actor, actor_of, happens}
-use Rattle.realm_model.specs.Histories.{run, world_of, state_of, LegalFrom, Legal}
+use Rattle.realm_model.specs.Histories.{run, world_of, state_of, Legal}
 use Rattle.realm_model.specs.Owns.{OwnEvent, own_from, own_events, NoneBy}
 use Rattle.realm_model.specs.declared.event.Event.{Event}
 use Rattle.realm_model.proofs.Runs.{run-append, legal_front, legal_back}
 use Rattle.index_law.specs.Tables.{rows_of}
-use Rattle.index_law.specs.Invariants.{IndexHolds}
-use Rattle.index_law.proofs.Keeping.{keeps, holds}
-use Rattle.repair_law.specs.Settled.{NonePrepares}
+use Rattle.index_law.proofs.Keeping.{holds}
+use Rattle.index_law.proofs.Moves.{stood_at}
+use Rattle.repair_law.specs.Settled.{NonePrepares, NoneSwaps}
+use Rattle.repair_law.proofs.Calm.{row_left}
 use Rattle.repair_law.proofs.Staying.{none_later, row_in_here}
-use Rattle.repair_law.proofs.Unchanged.{row_next, map_later}
-use Rattle.settled_law.specs.Resting.{Rests}
+use Rattle.repair_law.proofs.Unchanged.{map_later}
+use Rattle.settled_law.specs.Resting.{Rests, IsLeftAtRest}
 
 -- ---- lists
 
@@ -96,12 +98,12 @@ amid before during actor none =
 
 -- ---- a container that rests
 
-row_from : (settings : SettingsView) (zone : ℕ) (bucket : List ℕ) (row : Bucket) (es : List Event) (w : World) → IsSettings settings → IndexHolds w → LegalFrom settings w es → rows_of w.state.root zone bucket ≡ Some row → rows_of (run settings w es).state.root zone bucket ≡ Some row
-row_from settings zone bucket row [] w good j legal kept = kept
-row_from settings zone bucket row (e ∷ es) w good j legal kept =
-    row_from settings zone bucket row es (happens settings w e) good (keeps settings good w j e legal.0) legal.1 (row_next settings w j zone bucket row kept e legal.0)
+row_from : (settings : SettingsView) (zone : ℕ) (bucket : List ℕ) (row : Bucket) (es : List Event) (w : World) → NoneSwaps zone bucket es → rows_of w.state.root zone bucket ≡ Some row → rows_of (run settings w es).state.root zone bucket ≡ Some row
+row_from settings zone bucket row [] w none kept = kept
+row_from settings zone bucket row (e ∷ es) w none kept =
+    row_from settings zone bucket row es (happens settings w e) none.1 (row_left zone bucket row settings (at_moment w.state e.moment) e.op none.0 ∙ kept)
 
-module _ (settings : SettingsView) (before during : List Event) (zone : ℕ) (bucket : List ℕ) (row : Bucket) (good : IsSettings settings) (legal : Legal settings (before ++ during)) (rests : Rests settings before zone bucket row) (calm : NonePrepares zone row during) where
+module _ (settings : SettingsView) (before during : List Event) (zone : ℕ) (bucket : List ℕ) (row : Bucket) (good : IsSettings settings) (legal : Legal settings (before ++ during)) (rests : Rests settings before zone bucket row) (calm : IsLeftAtRest settings before during zone bucket row) where
   abbrev history : List Event
   history = before ++ during
 
@@ -114,23 +116,32 @@ module _ (settings : SettingsView) (before during : List Event) (zone : ℕ) (bu
     legal_upto = legal_front settings (start settings) (before ++ front) later whole
 
     calm_upto : NonePrepares zone row front
-    calm_upto = all_front _ front later (subst (NonePrepares zone row) split calm)
+    calm_upto = all_front _ front later (subst (NonePrepares zone row) split calm.prepares)
+
+    still_upto : NoneSwaps zone bucket front
+    still_upto = all_front _ front later (subst (NoneSwaps zone bucket) split calm.swaps)
 
     pub rests_upto : Rests settings (before ++ front) zone bucket row
     rests_upto =
-        let first = legal_front settings (start settings) before during legal in
         record {
           kept = subst (λ (w : World). rows_of w.state.root zone bucket ≡ Some row) (sym (run-append settings (start settings) before front))
-              (row_from settings zone bucket row front (world_of settings before) good (holds settings before good first) (legal_back settings (start settings) before front legal_upto) rests.kept);
-          some = rests.some;
+              (row_from settings zone bucket row front (world_of settings before) still_upto rests.kept);
           none = none_later settings before front zone row rests.none calm_upto;
         }
+
+    -- the container stands
+    pub stands_upto : is_standing (world_of settings (before ++ front)).rows (state_of settings (before ++ front)) row.id ≡ true
+    stands_upto =
+        let n = ((holds settings (before ++ front) good legal_upto).rows_stand.kept zone bucket row rests_upto.kept).named in
+        let at_end : before ++ during ≡ (before ++ front) ++ later = ap (λ l. before ++ l) split ∙ sym (append_assoc before front later) in
+        stood_at settings (before ++ front) later row.id good whole (record { home = n.home; made = n.made })
+        (subst (λ h. is_standing (world_of settings h).rows (state_of settings h) row.id ≡ true) at_end calm.stands)
 
     -- the map is the one before the first of them
     map_upto : heads (before ++ front) zone row.id ≡ heads before zone row.id
     map_upto =
         let first = legal_front settings (start settings) before during legal in
-        map_later settings before front zone row.id row good legal_upto (row_in_here settings before zone bucket row good first rests.kept) rests.some rests.none calm_upto
+        map_later settings before front zone row.id row good legal_upto (row_in_here settings before zone bucket row good first rests.kept) stands_upto rests.none calm_upto
 
   append_none : (xs : List Event) → xs ≡ xs ++ []
   append_none [] = refl

@@ -12,44 +12,44 @@ ghost use Rattle.realm_model.specs.declared.event.Event.{Event as EventOf};
 ghost use Rattle.list_words.specs.declared.row.ListedRow.{ListedRow as RowOf};
 ghost use Rattle.list_words.specs.Listings.{rows_of};
 ghost use Rattle.list_law.specs.Maps.{live_names};
-ghost use Rattle.task_words.specs.declared.reply.MapReply.TheVariants.{Counted};
 ghost use Rattle.task_list.specs.declared.request.ListRequest.{ListRequest as ListingOf};
 ghost use Rattle.task_list.specs.Listed.{ListedBy};
+ghost use Rattle.task_container.specs.declared.outcome.ContainerReply.TheVariants.{Counted};
 ghost use Rattle.task_container.specs.declared.request.ContainerRequest.{ContainerRequest as CountOf};
-ghost use Rattle.task_container.specs.Counts.{name_of, IsContainerReply};
-ghost use Rattle.repair_law.specs.Settled.{NonePrepares};
-ghost use Rattle.settled_law.specs.Resting.{Rests};
+ghost use Rattle.task_container.specs.Ends.{IsContainerReply};
+ghost use Rattle.task_container.specs.Requests.{name_of};
+ghost use Rattle.settled_law.specs.Resting.{Rests, IsLeftAtRest};
 
-/// A listing begins when no change is under way in the shards of its container's row, and none is
-/// prepared there up to its end. Its rows are those of the live names of the container's map.
+/// A listing begins when no change is under way in the shards of its container's row; up to its end none is
+/// prepared there, the row is not swapped and the container stands. Its rows are those of the live names of the container's map.
 pub fn listings_of_settled_containers_are_of_their_maps()
     ensures { (settings : SettingsView) (before during : List EventOf) (actor : ActorId)
         → (r : ListingOf) (row : BucketOf) (rows : List RowOf)
         → IsSettings settings → Legal settings (before ++ during)
         → NoneBy actor before → Rests settings before r.zone r.command.container row
-        → NonePrepares r.zone row during
+        → IsLeftAtRest settings before during r.zone r.command.container row
         → ListedBy r rows (account_of settings (before ++ during) actor) (own_events (before ++ during) actor)
         → rows ≡ rows_of r.command (live_names (heads (before ++ during) r.zone row.id)) }
 {}
 
 /// A request counts a container; it begins when no change is under way in the shards of the container's
-/// row, and none is prepared there up to its end. What it tells are the live names of the container's
+/// row; up to its end none is prepared there, the row is not swapped and the container stands. What it tells are the live names of the container's
 /// map and the sum of their sizes, each up to the end of 64 bits.
 pub fn counts_of_settled_containers_are_of_their_maps()
     ensures objects { (settings : SettingsView) (before during : List EventOf) (actor : ActorId)
-        → (r : CountOf) (row shown : BucketOf) (objects bytes : ℕ)
+        → (r : CountOf) (row shown : BucketOf) (objects bytes shards : ℕ)
         → IsSettings settings → Legal settings (before ++ during)
         → NoneBy actor before → Rests settings before r.zone (name_of r.command) row
-        → NonePrepares r.zone row during
-        → IsContainerReply r (Counted shown objects bytes) (account_of settings (before ++ during) actor)
+        → IsLeftAtRest settings before during r.zone (name_of r.command) row
+        → IsContainerReply r (Counted shown objects bytes) shards (account_of settings (before ++ during) actor)
         (own_events (before ++ during) actor)
         → objects ≡ min (counts_of (heads (before ++ during) r.zone row.id)).objects greatest }
     ensures bytes { (settings : SettingsView) (before during : List EventOf) (actor : ActorId)
-        → (r : CountOf) (row shown : BucketOf) (objects bytes : ℕ)
+        → (r : CountOf) (row shown : BucketOf) (objects bytes shards : ℕ)
         → IsSettings settings → Legal settings (before ++ during)
         → NoneBy actor before → Rests settings before r.zone (name_of r.command) row
-        → NonePrepares r.zone row during
-        → IsContainerReply r (Counted shown objects bytes) (account_of settings (before ++ during) actor)
+        → IsLeftAtRest settings before during r.zone (name_of r.command) row
+        → IsContainerReply r (Counted shown objects bytes) shards (account_of settings (before ++ during) actor)
         (own_events (before ++ during) actor)
         → bytes ≡ min (counts_of (heads (before ++ during) r.zone row.id)).bytes greatest }
 {}

@@ -1,5 +1,5 @@
 -- One event more keeps what holds of stripes, kind by kind.
-use Rattle.std.proofs.Common.{◌≡◌, ℕ, ◌+◌, ◌≤◌, ◌==◌, ◌&&◌, ◌||◌, ◌⊎◌, inr, nat_le, true, false, cond, List, [], ◌∷◌, length, Some, None, refl, sym, ◌∙◌, ap, subst, arith}
+use Rattle.std.proofs.Common.{◌≡◌, ℕ, ◌+◌, ◌≤◌, ◌==◌, ◌&&◌, ◌⊎◌, not, inr, nat_le, true, false, cond, List, [], ◌∷◌, length, Some, None, refl, sym, ◌∙◌, ap, subst, arith}
 use Rattle.std.specs.Prelude.{IfSome}
 use Rattle.std.proofs.lemmas.Bool.Decides.{nat_tests}
 use Rattle.rgw_types.specs.declared.pool_key.Key.{Key}
@@ -19,7 +19,7 @@ use Rattle.realm_model.specs.Settings.{SettingsView}
 use Rattle.realm_model.specs.States.{State, number_next, put_in, touched}
 use Rattle.realm_model.specs.Steps.{reply_or, reply_of, touch_of}
 use Rattle.realm_model.specs.Phases.{ActorId, Bundle, unused, SeenManifest, Phase}
-use Rattle.realm_model.specs.Needs.{is_between, is_own_write, is_next_part, tail_sizes, has_sizes, holder_of, has_parts, may_change_head}
+use Rattle.realm_model.specs.Needs.{is_between, is_own_write, is_next_part, tail_sizes, has_sizes, is_open, holder_of, has_parts, may_change_head}
 use Rattle.realm_model.specs.Allowed.{meets_need}
 use Rattle.realm_model.specs.Learnt.{put_bundle, with_part, with_manifest, learnt}
 use Rattle.realm_model.specs.Facts.{in_head, making, Ledger, StripeFacts}
@@ -161,10 +161,10 @@ old_was ledger zone container name (Live new stamp) is =
 HasSizes : (ℕ → ℕ → ℕ → Bundle) → ℕ → ManifestView → Type 0
 HasSizes own zone m = has_sizes (own zone m.write (holder_of m)) (tail_sizes m) ≡ true
 
-new_has : (own : ℕ → ℕ → ℕ → Bundle) (zone : ℕ) (m : ManifestView) → (tails_of m == 0 || has_sizes (own zone m.write (holder_of m)) (tail_sizes m)) ≡ true → IfSome (tailed m) (HasSizes own zone)
+new_has : (own : ℕ → ℕ → ℕ → Bundle) (zone : ℕ) (m : ManifestView) → cond (tails_of m == 0) (not (is_open (own zone m.write (holder_of m)))) (has_sizes (own zone m.write (holder_of m)) (tail_sizes m)) ≡ true → IfSome (tailed m) (HasSizes own zone)
 unfolding HasSizes
 new_has own zone m =
-    elim (tails_of m == 0) as (λ b. (b || has_sizes (own zone m.write (holder_of m)) (tail_sizes m)) ≡ true → IfSome (cond b None (Some m)) (HasSizes own zone)) [
+    elim (tails_of m == 0) as (λ b. cond b (not (is_open (own zone m.write (holder_of m)))) (has_sizes (own zone m.write (holder_of m)) (tail_sizes m)) ≡ true → IfSome (cond b None (Some m)) (HasSizes own zone)) [
       | true ↦ λ is. tt
       | false ↦ λ is. is
     ]
@@ -185,10 +185,10 @@ module _ (heads : ℕ → Key → Head) (count clock : ℕ) (phases : ActorId �
       let own = p.stripes.own in
       let m = new.manifest in
       let q = learnt p (HeadWrite zone container name guard new when) (Changed (change_of head stored)) (count + 1) clock in
-      let first = number_same (length new.first) (part_size m 0) (left_of (length new.first == part_size m 0) (tails_of m == 0 || has_sizes (own zone m.write (holder_of m)) (tail_sizes m)) parts) in
+      let first = number_same (length new.first) (part_size m 0) (left_of (length new.first == part_size m 0) _ parts) in
       let old = with_tails (manifest_of head.slot) in
       let was = old_was x.ledger zone container name head.slot (holds.named zone container name) in
-      let has = new_has own zone m (right_of (length new.first == part_size m 0) (tails_of m == 0 || has_sizes (own zone m.write (holder_of m)) (tail_sizes m)) parts) in
+      let has = new_has own zone m (right_of (length new.first == part_size m 0) _ parts) in
       let mine = if_some_more (HasSizes own zone) (IsAllAt x.ledger zone (making actor)) (tailed m) (λ m has. all_made own zone m has x.ledger actor (holds.open_bundles actor)) has in
       let held = if_some_more (HasSizes own zone) (λ m. IsBy x.by count actor (holder_of m)) (tailed m) (λ m has. holder_own own zone m has x.by count actor (holds.ids actor).holders_are) has in
       let sized : IsSized x.made zone m = λ part low high.

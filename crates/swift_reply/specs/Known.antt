@@ -4,7 +4,7 @@ use Rattle.http_model.specs.declared.reply.ReplyForm.{ReplyForm}
 use Rattle.rgw_types.specs.declared.stamp.Stamp.{Stamp}
 use Rattle.swift_reply.specs.declared.reply.ContainerCounts.{ContainerCounts}
 use Rattle.swift_reply.specs.declared.reply.ShownObject.{ShownObject}
-use Rattle.swift_reply.specs.declared.row.AccountRow.{AccountRow}
+use Rattle.list_words.specs.declared.row.AccountRow.{AccountRow}
 use Rattle.list_words.specs.declared.row.ListedRow.{ListedRow}
 use Rattle.list_words.specs.declared.row.ListedRow.TheVariants.{Thing}
 

@@ -8,7 +8,7 @@ use Rattle.list_words.specs.declared.row.ListedRow.{ListedRow}
 use Rattle.list_words.specs.declared.row.ListedRow.TheVariants.{Thing, Subdir}
 use Rattle.list_words.specs.declared.row.ListedThing.{ListedThing}
 use Rattle.list_words.specs.Listings.{row_key}
-use Rattle.swift_reply.specs.declared.row.AccountRow.{AccountRow}
+use Rattle.list_words.specs.declared.row.AccountRow.{AccountRow}
 use Rattle.swift_reply.specs.Moments.{moment_text}
 
 -- ---- plain listings

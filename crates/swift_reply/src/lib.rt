@@ -14,7 +14,6 @@ mod object;
 mod plain;
 mod refusal;
 mod reply;
-mod row;
 
 pub use account::json_accounts;
 pub use broken::push_bad_request;
@@ -24,6 +23,7 @@ pub use known::{
     objects_are_replied_so, rows_are_written_so,
 };
 pub use known_refusals::{first_refusals_are_replied_so, later_refusals_are_replied_so};
+pub use list_words::{AccountRow, AccountRows};
 pub use listed::push_listed;
 pub use listing::json_rows;
 pub use object::{push_same, push_shown_head, push_span_head, push_stored};
@@ -33,5 +33,4 @@ pub use reply::{
     ContainerCounts, Denial, Invalid, ListingForm, ShownObject, ShownSpan, SwiftRefusal,
     SwiftReply, TargetKind,
 };
-pub use row::{AccountRow, AccountRows};
 pub use std::alloc::AllocError as OutOfMemory;

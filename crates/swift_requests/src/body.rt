@@ -47,7 +47,9 @@ fn wants_close(head: &Head) -> bool
     http_model::wants_close(&head.fields)
 }
 
-fn unwanted(largest: u64, head: &Head) -> BodyUse
+/// What becomes of a body that nobody wants: it is read and dropped, unless its length is above the largest or
+/// the client waits for a 100.
+pub fn unwanted(largest: u64, head: &Head) -> BodyUse
     ensures { result ≡ unwanted largest head.now }
 {
     if is_within(largest, head.framing) && !waits(head) {

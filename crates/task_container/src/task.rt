@@ -1,151 +1,191 @@
-ghost use Rattle.std.specs.Prelude.{◌≡◌};
-ghost use Rattle.realm_door.specs.Turns.{FitsAtFirst};
-ghost use Rattle.task_container.specs.Stages.{IsOpen, step_of, header_step, after_look, after_header, after_left, stage_of, request_of, fits};
+ghost use Rattle.std.specs.Prelude.{◌≡◌, ◌≤◌, [], true, IfOk};
+ghost use Rattle.object_words.specs.Limits.{is_name, shard_limit};
+ghost use Rattle.realm_model.specs.Settings.{SettingsView, IsSettings};
+ghost use Rattle.realm_model.specs.Accounts.{blank};
+ghost use Rattle.realm_model.specs.Doors.{DoorView, actor_at};
+ghost use Rattle.realm_model.specs.Histories.{account_of};
+ghost use Rattle.realm_model.specs.Owns.{own_events};
+ghost use Rattle.task_container.specs.Requests.{name_of};
+ghost use Rattle.task_container.specs.Stages.{IsOpen, op_of, step_of, swap_op};
+ghost use Rattle.task_container.specs.Fits.{stage_of, request_of, fits};
 
-use crate::counting::Counting;
+use crate::outcome::ContainerOutcome;
+use crate::progress::{Progress, Stage, Tally};
 use crate::request::ContainerRequest;
-use object_words::{Bucket, ShardStats};
+use crate::rows::{changed, cleared_row, closing_row, new_row};
+use crate::steps::next;
+use object_words::{Bucket, ShardCount, ShardKey};
 use realm_door::{Answered, Next, Staged, Taken};
-use realm_model::{Op, Reply};
+use realm_model::{Op, Reply, Settings};
 use std::alloc::{AllocError, Global};
 use std::mem::replace;
-use swift_auth::Deed;
-use task_words::{Asker, MOST_MOVED, MapReply, Outcome};
 
-/// Where a task stands.
-#[derive(Debug, Drop)]
-pub enum Stage {
-    /// The row comes next.
-    Look,
-    /// The header of a shard comes next.
-    Count(Counting),
-    Ended(Outcome),
-}
-
-/// A request for a container: the row is read, and then the header of each shard by its number. Where a
-/// shard no longer serves, the row is read again and the counts begin again.
+/// A request for a container as its stages: which event comes next follows from the answers to those before.
 #[derive(Drop)]
 pub struct ContainerTask {
     request: ContainerRequest,
-    stage: Stage,
-    /// How many answers were Moved or Closed.
-    moved: u32,
+    /// How many shards a new container has.
+    shards: ShardCount,
+    progress: Progress,
 }
 
 impl ContainerTask {
-    /// Stages of a task that made no event.
-    pub fn new(request: ContainerRequest) -> ContainerTask
+    /// Stages of a task that made no event. A new container has the settings' number of shards.
+    pub fn new(settings: &Settings, request: ContainerRequest) -> ContainerTask
         ensures request { request_of result ≡ request }
-        ensures fits { FitsAtFirst request.zone (fits result) }
+        ensures fits { (d : DoorView) → 1 ≤ request.zone → request.zone ≤ settings.now.zones
+            → account_of settings.now d.seen (actor_at d) ≡ blank → own_events d.seen (actor_at d) ≡ []
+            → fits result settings.now d }
         ensures open { IsOpen (stage_of result) }
     {
+        let shards = shards_of(settings);
+        has_name(&request);
         ContainerTask {
             request,
-            stage: Stage::Look,
-            moved: 0,
+            shards,
+            progress: Progress {
+                stage: Stage::Look,
+                tally: Tally {
+                    first: None,
+                    made: 0,
+                    moved: 0,
+                    raced: 0,
+                    begun: None,
+                },
+            },
         }
     }
 
-    /// Goes on by the answer to the operation that came next.
-    fn go_on(&mut self, reply: Reply)
-        requires open { IsOpen self.old.stage }
+    /// Goes on by the answer to the operation that came next, by an event of this number.
+    fn go_on(&mut self, number: u64, reply: Reply)
+        requires open { IsOpen self.old.progress.stage }
         ensures request { self.new.request ≡ self.old.request }
-        ensures stage { self.new.stage ≡ (step_of self.old.request.asker self.old.stage self.old.moved reply).0 }
-        ensures moved { self.new.moved ≡ (step_of self.old.request.asker self.old.stage self.old.moved reply).1 }
+        ensures shards { self.new.shards ≡ self.old.shards }
+        ensures progress { self.new.progress ≡ step_of self.old.request self.old.shards self.old.progress number reply }
     {
-        let stage = replace(&mut self.stage, Stage::Look);
-        let (stage, moved) = next_stage(&self.request.asker, stage, self.moved, reply);
-        drop(replace(&mut self.stage, stage));
-        self.moved = moved;
+        let tally = self.progress.tally;
+        let nowhere = Progress {
+            stage: Stage::Look,
+            tally,
+        };
+        let progress = replace(&mut self.progress, nowhere);
+        let progress = next(&self.request, self.shards.get(), progress, number, reply);
+        drop(replace(&mut self.progress, progress));
     }
 }
 
-/// The stage after an answer, and how many were Moved or Closed.
-fn next_stage(asker: &Asker, stage: Stage, moved: u32, reply: Reply) -> (Stage, u32)
-    requires open { IsOpen stage }
-    ensures { result ≡ step_of asker.now stage moved reply }
+/// How many shards a new container has.
+fn shards_of(settings: &Settings) -> ShardCount
+    ensures shards { result ≡ settings.now.shards }
+    ensures bounds { IsSettings settings.now }
 {
-    match stage {
-        Stage::Look => (stage_by_row(asker, reply.into_row()), moved),
-        Stage::Count(counting) => stage_by_header(counting, moved, reply.into_stats()),
+    let Some(shards) = ShardCount::new(settings.shards) else {
+        unreachable!();
+    };
+    shards
+}
+
+/// The name is within its limits. It does nothing: it tells it to the proofs of its callers.
+fn has_name(request: &ContainerRequest)
+    ensures { is_name 256 (name_of request.now.command) ≡ true }
+{
+    let _text = request.command.name().as_text();
+}
+
+/// The operation that comes next.
+fn op_of(
+    alloc: Global,
+    request: &ContainerRequest,
+    shards: ShardCount,
+    progress: &Progress,
+) -> Result<Op, AllocError>
+    requires open { IsOpen progress.now.stage }
+    ensures { IfOk result (λ op. op ≡ op_of request.now shards progress.now) }
+{
+    let id = progress.tally.id();
+    match &progress.stage {
+        Stage::Look => Ok(Op::BucketRead {
+            zone: request.looked_zone(),
+            name: request.command.name().clone()?,
+        }),
+        Stage::Count(counting) => Ok(Op::Stats {
+            zone: request.zone,
+            key: counting.key(),
+        }),
+        Stage::MakeShard => Ok(Op::ShardMake {
+            zone: 1,
+            key: ShardKey {
+                container: id,
+                instance: id,
+                shard: progress.tally.made,
+            },
+        }),
+        Stage::Make => {
+            let row = new_row(alloc, request, shards, id)?;
+            swap(request, 0, Some(row))
+        }
+        Stage::Change(row) => {
+            let new = changed(alloc, row, &request.command)?;
+            swap(request, row.version, Some(new))
+        }
+        Stage::Begin(row) => swap(request, row.version, Some(closing_row(alloc, row)?)),
+        Stage::Close(closing) => Ok(Op::CloseShard {
+            zone: 1,
+            key: closing.key(closing.closed),
+            id: closing.number,
+            force: false,
+        }),
+        Stage::Remove(closing) => swap(request, closing.row.version, None),
+        Stage::LookToRemove(_) | Stage::LookToClear(..) => Ok(Op::BucketRead {
+            zone: 1,
+            name: request.command.name().clone()?,
+        }),
+        Stage::Shut { row, shard } => Ok(Op::Shut {
+            zone: 1,
+            key: ShardKey {
+                container: row.id,
+                instance: row.instance,
+                shard: *shard,
+            },
+        }),
+        Stage::Clear(closing, _) => {
+            let new = cleared_row(alloc, &closing.row)?;
+            swap(request, closing.row.version, Some(new))
+        }
+        Stage::Release { closing, shard, .. } => Ok(Op::Release {
+            zone: 1,
+            key: closing.key(*shard),
+            id: closing.number,
+        }),
         Stage::Ended(_) => unreachable!(),
     }
 }
 
-/// By a shard's header, or that it no longer serves.
-fn stage_by_header(counting: Counting, moved: u32, header: Option<ShardStats>) -> (Stage, u32)
-    ensures { result ≡ header_step counting moved header }
+/// A swap of the container's row in zone 1.
+fn swap(request: &ContainerRequest, expected: u64, new: Option<Bucket>) -> Result<Op, AllocError>
+    ensures { IfOk result (λ op. op ≡ swap_op request.now expected new) }
 {
-    match header {
-        Some(stats) => (stage_by_counting(counting.with(stats)), moved),
-        None => {
-            let moved = moved.saturating_add(1);
-            (stage_when_moved(moved), moved)
-        }
-    }
-}
-
-/// By the row that was read, or that none is.
-fn stage_by_row(asker: &Asker, row: Option<Bucket>) -> Stage
-    ensures { result ≡ after_look asker.now row }
-{
-    match asker.refusal(row.as_ref(), Deed::ListContainer) {
-        Some(refusal) => Stage::Ended(Outcome::Done(MapReply::Refused(refusal))),
-        None => match row {
-            Some(row) => stage_by_counting(Counting::new(row)),
-            None => unreachable!(),
-        },
-    }
-}
-
-/// The next shard, or the counts of all.
-fn stage_by_counting(counting: Counting) -> Stage
-    ensures { result ≡ after_header counting }
-{
-    let Counting {
-        row,
-        next,
-        objects,
-        bytes,
-    } = counting;
-    if next < row.shards.get() {
-        Stage::Count(Counting {
-            row,
-            next,
-            objects,
-            bytes,
-        })
-    } else {
-        Stage::Ended(Outcome::Done(MapReply::Counted {
-            row,
-            objects,
-            bytes,
-        }))
-    }
-}
-
-/// After so many answers Moved or Closed.
-fn stage_when_moved(moved: u32) -> Stage
-    ensures { result ≡ after_left moved }
-{
-    if moved < MOST_MOVED {
-        Stage::Look
-    } else {
-        Stage::Ended(Outcome::MovedOften)
-    }
+    let name = request.command.name().clone()?;
+    Ok(Op::BucketSwap {
+        zone: 1,
+        name,
+        expected,
+        new,
+    })
 }
 
 impl Staged for ContainerTask {
     ghost use Rattle.std.specs.Prelude.{◌≡◌};
-    ghost use Rattle.task_container.specs.Stages.{IsOver, IsOpen, op_of, stage_of, request_of, fits};
-    ghost use Rattle.task_container.specs.Counts.{IsContainerEnd};
+    ghost use Rattle.task_container.specs.Stages.{IsOver, IsOpen, op_of};
+    ghost use Rattle.task_container.specs.Fits.{stage_of, request_of, next_op, fits};
+    ghost use Rattle.task_container.specs.Ends.{IsContainerEnd};
     ghost use Rattle.realm_model.specs.Histories.{account_of};
     ghost use Rattle.realm_model.specs.Owns.{own_events};
     ghost use Rattle.realm_model.specs.Doors.{actor_at};
 
     type Command = ContainerRequest;
 
-    type Outcome = Outcome;
+    type Outcome = ContainerOutcome;
 
     type Rest = ();
 
@@ -153,26 +193,26 @@ impl Staged for ContainerTask {
 
     ghost fits = { fits };
 
-    ghost means = { λ request outcome settings d. IsContainerEnd request outcome
+    ghost means = { λ request outcome settings d. IsContainerEnd request outcome settings
         (account_of settings d.seen (actor_at d)) (own_events d.seen (actor_at d)) };
 
     ghost is_over = { λ t. IsOver (stage_of t) };
 
     ghost is_ready = { λ t. IsOpen (stage_of t) };
 
-    ghost op = { λ t. op_of (request_of t) (stage_of t) };
+    ghost op = { next_op };
 
     ghost is_taken = { λ t u rest. (u ≡ t) × IsOpen (stage_of t) };
 
     fn settle(&mut self) -> Next {
-        match &self.stage {
+        match &self.progress.stage {
             Stage::Ended(_) => Next::Done,
             _ => Next::Event,
         }
     }
 
-    fn end(&self) -> Option<&Outcome> {
-        match &self.stage {
+    fn end(&self) -> Option<&ContainerOutcome> {
+        match &self.progress.stage {
             Stage::Ended(outcome) => Some(outcome),
             _ => None,
         }
@@ -182,26 +222,15 @@ impl Staged for ContainerTask {
         &[]
     }
 
-    #[tactic(auto, using(crate::proofs::Turning::may_step))]
-    fn split(&mut self, _alloc: Global) -> Result<Taken<()>, AllocError> {
-        let zone = self.request.zone;
-        let op = match &self.stage {
-            Stage::Look => Op::BucketRead {
-                zone,
-                name: self.request.command.name().clone()?,
-            },
-            Stage::Count(counting) => Op::Stats {
-                zone,
-                key: counting.key(),
-            },
-            Stage::Ended(_) => unreachable!(),
-        };
+    #[tactic(auto, using(crate::proofs::Turning::may_go))]
+    fn split(&mut self, alloc: Global) -> Result<Taken<()>, AllocError> {
+        let op = op_of(alloc, &self.request, self.shards, &self.progress)?;
         Ok(Taken { op, rest: () })
     }
 
     fn take(&mut self, _alloc: Global, _rest: (), answered: Answered) {
         drop(answered.back);
-        self.go_on(answered.reply);
+        self.go_on(answered.number, answered.reply);
     }
 
     fn waits() {}

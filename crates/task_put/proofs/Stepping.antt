@@ -29,9 +29,8 @@ use Rattle.index_update.specs.Paths.{path_from}
 use Rattle.index_update.specs.Updates.{asked_of, IsEnd}
 use Rattle.index_update.proofs.Knowing.{before, front, not_less, more_made, numbered_later, known_is}
 use Rattle.index_update.proofs.ChangingAnswers.{answered_so}
+use Rattle.index_update.proofs.Stepping.{may_next}
 use Rattle.task_put.specs.declared.stage.PutRequest.{PutRequest}
-use Rattle.std.specs.Prelude.{unwrap_or}
-use Rattle.task_put.specs.declared.stage.BodyRest.{BodyRest}
 use Rattle.task_put.specs.declared.stage.Draft.{Draft}
 use Rattle.task_put.specs.declared.stage.Stage.{Stage}
 use Rattle.task_put.specs.declared.stage.Stage.TheVariants.{Looking, Feeding, Changing, Ended}
@@ -39,7 +38,7 @@ use Rattle.task_put.specs.declared.task.PutTask.{PutTask}
 use Rattle.task_put.specs.Bodies.{has_tail}
 use Rattle.task_put.specs.Cuts.{IsSliced}
 use Rattle.task_put.specs.Orders.{path_of, IsFinished}
-use Rattle.task_put.specs.Stages.{IsReady, IsBody, op_of, rest_of, resumed, step_of, closed, update_of, after_stage, after_update, settled}
+use Rattle.task_put.specs.Stages.{IsReady, IsBody, op_of, left_of, resumed, step_of, closed, update_of, after_stage, after_update, settled}
 use Rattle.task_put.specs.Taking.{at_target, normal}
 use Rattle.task_put.specs.Fits.{FitsAt, IsAt, IsInOrder, Fits, MayCome, IsKept}
 use Rattle.task_put.specs.Tasks.{request_of, at_stage, fits, IsPutEnd}
@@ -129,6 +128,7 @@ module _ (settings : SettingsView) (d e : DoorView) (r : PutRequest) (given : St
       subst (Fits settings r stage_now) (sym (known_is settings d e op moment a step)) (record {
         low = f.low;
         high = f.high;
+        named = f.named;
         stands = stands;
         order = in_order_at settings r stage_now (was.events ++ own ∷ []) ordered (step_sliced settings r given was a.number a.clock a.reply body fits_before suits o.1);
       })
@@ -145,13 +145,10 @@ fits_next settings d e t op moment a body op_is suits shards f step =
     (subst (λ g. Fits settings r (step_of g a.number a.reply) (known_at settings e)) same
     (next_fits settings d e r t.stage moment a body (subst (λ o. Suits o a.reply) is suits) shards (subst (λ g. Fits settings r g (known_at settings d)) (sym same) s) (subst (λ o. Extends settings d o moment a e) is step)))
 
-pub may_step : (settings : SettingsView) (d : DoorView) (t : PutTask) (next : Op) → IsBody t.stage → next ≡ op_of t.stage → fits t settings d → allowed settings (phase_of settings d.seen (actor_at d)) next ≡ true
-may_step settings d t next body next_is f =
-    let r : PutRequest = request_of t in
-    let s = f in
-    let same = target_same r settings t.stage (known_at settings d) s.stands in
-    subst (λ o. allowed settings (phase_of settings d.seen (actor_at d)) o ≡ true) (ap (λ g. op_of g) same ∙ sym next_is)
-    (may_come settings r (known_at settings d) t.stage s.low s.high body (subst (λ g. FitsAt settings r g (known_at settings d)) (sym same) s.stands))
+may_body : (settings : SettingsView) (d : DoorView) (t : PutTask) (stage : Stage) → t.stage ≡ stage → IsBody stage → fits t settings d → allowed settings (phase_of settings d.seen (actor_at d)) (op_of stage) ≡ true
+may_body settings d t stage is body f =
+    let s = subst (λ g. Fits settings (request_of t) g (known_at settings d)) is f in
+    may_so settings (request_of t) (known_at settings d) stage s.low s.high body s.stands
 
 -- ---- the end of an update
 
@@ -167,7 +164,7 @@ after_fits settings r etag u k (ups.Ended end) is f =
       own = v.own;
     } in
     let so = ended_so settings r s etag u f.stands.1 k end e in
-    record { low = f.low; high = f.high; stands = so.0; order = so.1 }
+    record { low = f.low; high = f.high; named = f.named; stands = so.0; order = so.1 }
 after_fits settings r etag u k (ups.Looking change) is f = f
 after_fits settings r etag u k (ups.Preparing key change) is f = f
 after_fits settings r etag u k (ups.Announcing key guard change) is f = f
@@ -199,7 +196,8 @@ settled_fits settings r (Feeding write key given) k f =
       | false ↦ λ none. record {
         low = f.low;
         high = f.high;
-        stands = closed_fits settings r write key given k f.low f.high f.order f.stands none draft.body.end refl;
+        named = f.named;
+        stands = closed_fits settings r write key given k f.low f.high f.named f.order f.stands none draft.body.end refl;
         order = closed_order settings r write key draft k draft.body.end f.order;
       }
     ] refl
@@ -225,6 +223,7 @@ update_on settings d e t etag u v is target on f =
     (after_fits settings r etag v (known_at settings e) v.stage refl (record {
       low = s.low;
       high = s.high;
+      named = s.named;
       stands = (
         s.stands.0,
         record {
@@ -258,23 +257,19 @@ means_it t settings d outcome ended f =
     let s = subst (λ g. Fits settings (request_of t) g (known_at settings d)) ended f in
     (s.stands, s.order.0, s.order.1.cut)
 
-some_same : {x y : Stage} → Some x ≡ Some y → x ≡ y
-some_same is = ap (λ (o : Option Stage). unwrap_or o (Ended BodyFailed)) is
+may_at : (settings : SettingsView) (d : DoorView) (t : PutTask) (stage : Stage) → t.stage ≡ stage → IsReady stage → fits t settings d → allowed settings (phase_of settings d.seen (actor_at d)) (op_of stage) ≡ true
+may_at settings d t (Looking draft) is ready f = may_body settings d t (Looking draft) is ready f
+may_at settings d t (Feeding write key draft) is ready f = may_body settings d t (Feeding write key draft) is ready f
+may_at settings d t (Changing etag u) is ready f = let so = update_of_task settings d t etag u is f in may_next so.0 settings d u ready so.1
+may_at settings d t (Ended outcome) is ready f = absurd ready
 
--- an operation of the body comes next, unless an update is on its way
-pub ready_body : (stage : Stage) → IsReady stage → ((etag : List ℕ) (u : IndexUpdate) → stage ≡ Changing etag u → ⊥) → IsBody stage
-ready_body (Looking draft) ready other = tt
-ready_body (Feeding write key draft) ready other = ready
-ready_body (Changing etag u) ready other = absurd (other etag u refl)
-ready_body (Ended outcome) ready other = absurd ready
+-- the operation that comes next is one that the actor may make
+pub may_go_on : (settings : SettingsView) (d : DoorView) (t : PutTask) → IsReady t.stage → fits t settings d → allowed settings (phase_of settings d.seen (actor_at d)) (op_of t.stage) ≡ true
+may_go_on settings d t = may_at settings d t t.stage refl
 
-abbrev resumed_by : Option BodyRest → ℕ → Reply → Option Stage
-resumed_by None number reply = None
-resumed_by (Some rest) number reply = Some (resumed rest number reply)
-
--- what was kept brings it to the next stage
-pub resumed_so : (stage : Stage) (rest : BodyRest) (number : ℕ) (reply : Reply) → IsBody stage → Some rest ≡ rest_of stage → resumed rest number reply ≡ step_of stage number reply
-resumed_so (Looking draft) rest number reply body is = some_same (ap (λ o. resumed_by o number reply) is)
-resumed_so (Feeding write key draft) rest number reply body is = some_same (ap (λ o. resumed_by o number reply) is)
-resumed_so (Changing etag u) rest number reply body is = absurd body
-resumed_so (Ended outcome) rest number reply body is = absurd body
+-- what is left is brought to the next stage
+pub resumed_so : (stage : Stage) (number : ℕ) (reply : Reply) → IsBody stage → resumed (left_of stage) number reply ≡ step_of stage number reply
+resumed_so (Looking draft) number reply body = refl
+resumed_so (Feeding write key draft) number reply body = refl
+resumed_so (Changing etag u) number reply body = absurd body
+resumed_so (Ended outcome) number reply body = absurd body

@@ -1,5 +1,5 @@
 -- A PUT after its tails, and at the end of its body.
-use Rattle.std.proofs.Common.{◌≡◌, ℕ, zero, suc, ◌+◌, ◌*◌, ◌==◌, ◌<◌, ◌≤◌, ◌⊎◌, inl, inr, ◌&&◌, ◌||◌, not, Bool, true, false, cond, List, [], ◌∷◌, map, length, Option, Some, None, refl, sym, ◌∙◌, ap, subst, arith, nat_le}
+use Rattle.std.proofs.Common.{◌≡◌, ℕ, zero, suc, ◌+◌, ◌*◌, ◌==◌, ◌<◌, ◌≤◌, inr, ◌&&◌, ◌||◌, not, Bool, true, false, cond, List, [], ◌∷◌, map, length, Option, Some, None, refl, sym, ◌∙◌, ap, subst, arith, nat_le}
 use Rattle.std.specs.List.{range_with_len}
 use Rattle.std.proofs.lemmas.Bool.Decides.{nat_tests}
 use Rattle.std.proofs.lemmas.List.{length-take, length-drop, length-map, map-append}
@@ -20,7 +20,7 @@ use Rattle.realm_model.specs.Settings.{SettingsView}
 use Rattle.realm_model.specs.Learnt.{first_after, put_bundle, with_part}
 use Rattle.realm_model.specs.Maps.{Maps}
 use Rattle.realm_model.specs.Needs.{is_between, is_first, is_own_write, is_next_part, has_parts}
-use Rattle.realm_model.specs.Phases.{Bundle, unused, opened, Phase}
+use Rattle.realm_model.specs.Phases.{unused, opened, Phase}
 use Rattle.realm_model.specs.Tests.{is_so}
 use Rattle.realm_model.specs.declared.op.Op.{Op}
 use Rattle.realm_model.specs.declared.op.Op.TheVariants.{TailMake}
@@ -33,7 +33,7 @@ use Rattle.task_words.specs.Cuts.{first_bytes, tail_bytes}
 use Rattle.task_put.specs.declared.stage.PutRequest.{PutRequest}
 use Rattle.task_put.specs.declared.stage.Draft.{Draft}
 use Rattle.task_put.specs.declared.stage.Stage.TheVariants.{Feeding, Changing, Ended}
-use Rattle.index_update.specs.Fits.{Known, known_next, Start, AtRow, IsTagFree}
+use Rattle.index_update.specs.Fits.{Known, known_next, Start, HasName, AtRow, IsTagFree}
 use Rattle.task_put.specs.Taking.{at_target}
 use Rattle.task_put.specs.Stages.{step_of, head_of, update_of, draft_rest, taken, closed}
 use Rattle.task_put.specs.Fits.{target_of, Untried, bundle_of, InTails, IsDraft, IsContent, FitsAt, MayCome, IsKept}
@@ -299,18 +299,9 @@ at_feeding write key draft astray is = absurd is
 
 -- the tails of the head are all that were made
 parts_of : (r : PutRequest) (new : NewHead) (when : Conditions) (k : Known) → IsContent r new when k → has_parts k.phase r.zone new ≡ true
-parts_of r new when k is =
-    let m = new.manifest in
-    let t : ℕ = tails_of m in
-    let own : Bundle = k.phase.stripes.own r.zone m.write m.write in
-    let all : Bundle = opened (map length (map (tail_bytes m.stripe r.bytes) (range_with_len 1 t))) in
-    parts_allowed k.phase r.zone new r.bytes is.head
-    (elim (t == 0) as (λ b. (t == 0) ≡ b → own ≡ cond b unused all → (t ≡ 0) ⊎ (own ≡ all)) [
-      | true ↦ λ none made. inl (grind (arith, nat_tests, none))
-      | false ↦ λ some made. inr made
-    ] refl is.tails.own)
+parts_of r new when k is = parts_allowed k.phase r.zone new r.bytes is.head is.tails.own
 
-module _ (settings : SettingsView) (r : PutRequest) (write : ℕ) (key : Key) (given : Draft) (k : Known) (low : 1 ≤ r.zone) (high : r.zone ≤ settings.zones) (in_order : IsInOrder settings r (Feeding write key (at_target r given)) k.events) (f : FitsAt settings r (Feeding write key (at_target r given)) k) (none : has_tail given.body ≡ false) where
+module _ (settings : SettingsView) (r : PutRequest) (write : ℕ) (key : Key) (given : Draft) (k : Known) (low : 1 ≤ r.zone) (high : r.zone ≤ settings.zones) (named : HasName (target_of r)) (in_order : IsInOrder settings r (Feeding write key (at_target r given)) k.events) (f : FitsAt settings r (Feeding write key (at_target r given)) k) (none : has_tail given.body ≡ false) where
   abbrev came : Draft
   came = at_target r given
 
@@ -373,7 +364,7 @@ module _ (settings : SettingsView) (r : PutRequest) (write : ℕ) (key : Key) (g
             cut = in_order.1.cut;
             unchanged = in_order.1.made.1;
           },
-          preparing_begins settings k (target_of r) change key (record {
+          preparing_begins settings k (target_of r) change key named (record {
             low = low;
             high = high;
             free = subst IsTagFree (sym f.3) tt;

@@ -38,13 +38,13 @@ use Rattle.task_put.specs.declared.stage.PutRequest.{PutRequest}
 use Rattle.task_put.specs.declared.stage.Stage.TheVariants.{Ended}
 use Rattle.task_put.specs.Changes.{AreTailsOf}
 use Rattle.task_put.specs.Cuts.{MayFollow, CutBody}
-use Rattle.task_put.specs.Orders.{path_of, IsFinished as IsPutFinished}
+use Rattle.task_put.specs.Orders.{path_of, IsOrdered as IsPutOrdered, IsFinished as IsPutFinished}
 use Rattle.task_put.specs.Stages.{outcome_of}
 use Rattle.task_put.specs.Fits.{target_of, body_of, Begins, FitsAt, IsInOrder}
 use Rattle.task_put.proofs.Answering.{change_stored, change_refused}
 use Rattle.task_put.proofs.Looking.{by_three}
 use Rattle.index_update.proofs.Ordering.{finished_ordered as update_finished_ordered}
-use Rattle.task_put.proofs.Ordering.{stays_astray, finished_behind}
+use Rattle.task_put.proofs.Ordering.{stays_astray, ordered_behind, finished_behind}
 
 -- ---- how its events cut the body
 
@@ -96,10 +96,10 @@ cut_append zone stripe bytes tails was (x ∷ xs) ys front back = (front.0, cut_
 -- ---- what it ends with
 
 module _ (settings : SettingsView) (r : PutRequest) (s : Start) (etag : List ℕ) (u : IndexUpdate) (b : Begins settings r s etag u) (k : Known) where
-  abbrev asked : Asked
+  abbrev pub asked : Asked
   asked = record { target = target_of r; change = Write b.new b.when; from = s.from; start = s.known }
 
-  asked_is : asked_of s u ≡ asked
+  pub asked_is : asked_of s u ≡ asked
   asked_is = λ i. record { target = b.target i; change = b.change i; from = s.from; start = s.known }
 
   module _ (stamp : Option Stamp) (h : ByHead asked stamp k.account.decided) where
@@ -126,7 +126,7 @@ module _ (settings : SettingsView) (r : PutRequest) (s : Start) (etag : List ℕ
       leaves = leaves ∙ ap (λ slot. (put_answer r.command r.bytes slot r.zone h.event.clock).after) (sym h.before);
     }
 
-  stored_as : (stamp : Stamp) → ByHead asked (Some stamp) k.account.decided → ByMap r.zone r.asker (put r.command r.bytes) (Stored etag stamp) k.account.decided
+  pub stored_as : (stamp : Stamp) → ByHead asked (Some stamp) k.account.decided → ByMap r.zone r.asker (put r.command r.bytes) (Stored etag stamp) k.account.decided
   stored_as stamp h =
       let met = ap (λ w. fails w (etag_of h.seen)) (sym b.content.when) ∙ h.answers.0 in
       let stored = change_stored h.made r.zone h.event.clock h.seen b.new r.command r.bytes b.content.head (tails (Some stamp) h) b.content.sent met in
@@ -145,7 +145,7 @@ module _ (settings : SettingsView) (r : PutRequest) (s : Start) (etag : List ℕ
   unchanged : Granted asked k.account → IsUnchanged r.zone r.asker r.command k.account
   unchanged g = record { by_row = g.by_row; unchanged = g.unchanged ∙ b.untried.unchanged }
 
-  put_ends : (end : Updated) → EndsSo asked end k → IsPutOutcome r.zone r.asker r.command (body_of r) (outcome_of etag end) k.account k.events
+  pub put_ends : (end : Updated) → EndsSo asked end k → IsPutOutcome r.zone r.asker r.command (body_of r) (outcome_of etag end) k.account k.events
   put_ends (updated.Changed stamp old) e =
       let none = b.untried.unchanged in
       let left = b.untried.left in
@@ -170,32 +170,38 @@ module _ (settings : SettingsView) (r : PutRequest) (s : Start) (etag : List ℕ
   nothing_follows : (more : List ℕ) → MayFollow r.end more → more ≡ []
   nothing_follows more follows = subst (λ e. MayFollow e more → more ≡ []) (sym b.content.is_taken.whole) (λ none. none) follows
 
-  module _ (end : Updated) (e : IsEnd s u end k) where
-    first_is : (more : List ℕ) → MayFollow r.end more → b.new.first ≡ first_bytes settings.stripe (r.bytes ++ more)
-    first_is more follows =
-        let none = nothing_follows more follows in
-        b.content.head.first ∙ (λ i. first_bytes (b.stripe i) (sym (append-nil r.bytes) i)) ∙ ap (λ m. first_bytes settings.stripe (r.bytes ++ m)) (sym none)
+  first_is : (more : List ℕ) → MayFollow r.end more → b.new.first ≡ first_bytes settings.stripe (r.bytes ++ more)
+  first_is more follows =
+      let none = nothing_follows more follows in
+      b.content.head.first ∙ (λ i. first_bytes (b.stripe i) (sym (append-nil r.bytes) i)) ∙ ap (λ m. first_bytes settings.stripe (r.bytes ++ m)) (sym none)
 
+  -- the events of the update so far
+  module _ (mine : List OwnEvent) (follow : k.events ≡ s.known.events ++ mine) (ordered : IsOrdered (path_from s.from mine))
+      (own : AllByRecursion (λ (q : OwnEvent). IsOfUpdate u.target s.change q.op) mine) where
+    ordered_here : IsOrdered (path_from ready mine)
+    ordered_here = subst (λ p. IsOrdered (path_from p mine)) b.from ordered
+
+    own_here : AllByRecursion (λ (q : OwnEvent). IsOfUpdate (target_of r) (Write b.new b.when) q.op) mine
+    own_here = subst (λ (a : Asked). AllByRecursion (λ (q : OwnEvent). IsOfUpdate a.target a.change q.op) mine) asked_is own
+
+    pub cut_so_far : CutBody r.zone settings.stripe r.bytes r.end k.events
+    cut_so_far = λ more follows.
+        subst (λ es. AreCut r.zone settings.stripe (r.bytes ++ more) es) (sym follow)
+        (cut_append r.zone settings.stripe (r.bytes ++ more) 0 false s.known.events mine (b.cut more follows)
+        (cut_on (target_of r) b.new b.when settings.stripe (r.bytes ++ more) (first_is more follows) ready mine (tails_from 0 s.known.events) (is_changed_from false s.known.events) b.unchanged ordered_here own_here))
+
+    pub ordered_so_far : IsPutOrdered (path_of k.events)
+    ordered_so_far = subst (λ es. IsPutOrdered (path_of es)) (sym follow) (ordered_behind s.known.events mine b.order ordered_here)
+
+  module _ (end : Updated) (e : IsEnd s u end k) where
     finishes : IsFinished (path_from ready e.mine)
     finishes = subst (λ p. IsFinished (path_from p e.mine)) b.from e.finished
-
-    ordered : IsOrdered (path_from ready e.mine)
-    ordered = update_finished_ordered (path_from ready e.mine) finishes
-
-    own : AllByRecursion (λ (q : OwnEvent). IsOfUpdate (target_of r) (Write b.new b.when) q.op) e.mine
-    own = subst (λ (a : Asked). AllByRecursion (λ (q : OwnEvent). IsOfUpdate a.target a.change q.op) e.mine) asked_is e.own
-
-    cut : CutBody r.zone settings.stripe r.bytes r.end k.events
-    cut = λ more follows.
-        subst (λ es. AreCut r.zone settings.stripe (r.bytes ++ more) es) (sym e.follow)
-        (cut_append r.zone settings.stripe (r.bytes ++ more) 0 false s.known.events e.mine (b.cut more follows)
-        (cut_on (target_of r) b.new b.when settings.stripe (r.bytes ++ more) (first_is more follows) ready e.mine (tails_from 0 s.known.events) (is_changed_from false s.known.events) b.unchanged ordered own))
 
     pub ended_so : FitsAt settings r (Ended (outcome_of etag end)) k × IsInOrder settings r (Ended (outcome_of etag end)) k.events
     ended_so = (
       put_ends end (subst (λ a. EndsSo a end k) asked_is e.ends),
       (
         subst (λ es. IsPutFinished (path_of es)) (sym e.follow) (finished_behind s.known.events e.mine b.order finishes),
-        record { cut = cut; made = tt },
+        record { cut = cut_so_far e.mine e.follow (update_finished_ordered (path_from s.from e.mine) e.finished) e.own; made = tt },
       ),
     )

@@ -19,7 +19,7 @@ use Rattle.index_update.specs.declared.head_change.HeadChange.TheVariants.{Write
 use Rattle.index_update.specs.declared.stage.Target.{Target}
 use Rattle.index_update.specs.declared.update.IndexUpdate.{IndexUpdate}
 use Rattle.index_update.specs.Paths.{ready}
-use Rattle.index_update.specs.Fits.{Known, known_next, Start, AtRow, IsAnswer, Fits as UpdateFits}
+use Rattle.index_update.specs.Fits.{Known, known_next, Start, HasName, AtRow, IsAnswer, Fits as UpdateFits}
 use Rattle.index_update.specs.Updates.{asked_of}
 use Rattle.task_put.specs.Bodies.{BodyView}
 use Rattle.task_put.specs.Changes.{IsHeadOf, IsSent}
@@ -133,6 +133,8 @@ IsInOrder settings r stage events = IsAt stage (path_of events) × IsSliced sett
 pub record Fits (settings : SettingsView) (r : PutRequest) (stage : Stage) (k : Known) : Type 0 where
   pub low : 1 ≤ r.zone
   pub high : r.zone ≤ settings.zones
+  -- by the type of names
+  pub named : HasName (target_of r)
   pub stands : FitsAt settings r stage k
   pub order : IsInOrder settings r stage k.events
 

@@ -1,5 +1,5 @@
 -- Where a PUT stands, and how an answer brings it on.
-use Rattle.std.specs.Prelude.{◌≡◌, ℕ, ◌+◌, true, List, [], length, Option, Some, None, if◌then◌else◌}
+use Rattle.std.specs.Prelude.{◌≡◌, ℕ, ◌+◌, true, false, List, [], length, Option, Some, None, IsSome, if◌then◌else◌}
 use Rattle.std.specs.declared.result.Result.{Result}
 use Rattle.std.specs.declared.result.Result.TheVariants.{Ok, Err}
 use Rattle.md5.specs.Md5.{md5}
@@ -26,14 +26,12 @@ use Rattle.index_update.specs.declared.stage.Stage.TheVariants as ups
 use Rattle.index_update.specs.declared.stage.Updated.{Updated}
 use Rattle.index_update.specs.declared.stage.Updated.TheVariants as updated
 use Rattle.index_update.specs.declared.update.IndexUpdate.{IndexUpdate}
-use Rattle.index_update.specs.Stages.{place_of, IsReady as IsUpdateReady}
+use Rattle.index_update.specs.Stages.{place_of, IsOver as IsUpdateOver, IsReady as IsUpdateReady}
 use Rattle.index_update.specs.Updates.{begun, next_op, stepped as update_stepped}
 use Rattle.task_put.specs.Bodies.{without_tail, has_tail}
 use Rattle.task_put.specs.declared.stage.Draft.{Draft}
 use Rattle.task_put.specs.declared.stage.Stage.{Stage}
 use Rattle.task_put.specs.declared.stage.Stage.TheVariants.{Looking, Feeding, Changing, Ended}
-use Rattle.task_put.specs.declared.stage.BodyRest.{BodyRest}
-use Rattle.task_put.specs.declared.stage.BodyRest.TheVariants.{Look, Tail}
 
 -- ---- stages
 
@@ -48,6 +46,17 @@ IsReady (Ended outcome) = ⊥
 IsReady (Feeding write key draft) = has_tail draft.body ≡ true
 IsReady (Changing etag update) = IsUpdateReady update.stage
 IsReady stage = Unit {0}
+
+-- something is to be decided: the body has ended and no tail waits, or the update has ended
+abbrev pub IsDecided : Stage → Type 0
+IsDecided (Feeding write key draft) = (has_tail draft.body ≡ false) × IsSome draft.body.end
+IsDecided (Changing etag update) = IsUpdateOver update.stage
+IsDecided stage = ⊥
+
+-- its body was read whole
+abbrev pub IsWhole : Stage → Type 0
+IsWhole (Feeding write key draft) = draft.body.end ≡ Some ends.Whole
+IsWhole stage = ⊥
 
 -- it is one of the body
 abbrev pub IsBody : Stage → Type 0
@@ -66,6 +75,11 @@ outcome_of etag (updated.Busy id) = Busy id
 outcome_of etag updated.MovedOften = MovedOften
 outcome_of etag updated.LateTag = LateTag
 outcome_of etag (updated.NoSpace free needed) = NoSpace free needed
+
+-- where there is an outcome, the PUT has ended
+abbrev pub ended_or : Stage → Option Outcome → Stage
+ended_or stage None = stage
+ended_or stage (Some outcome) = Ended outcome
 
 -- where the update ended, the PUT does
 abbrev pub after_stage : List ℕ → IndexUpdate → UpdateStage → Stage
@@ -92,12 +106,13 @@ abbrev pub update_of : ℕ → Key → Draft → IndexUpdate
 update_of write key draft =
     begun draft.target (ups.Preparing key (Write (head_of write draft) draft.when))
 
+abbrev pub changing : ℕ → Key → Draft → Stage
+changing write key draft = Changing (md5 draft.body.bytes) (update_of write key draft)
+
 -- the body was read whole, and all its tails were made: the ETag that was sent is compared
 abbrev pub taken : ℕ → Key → Draft → Stage
 taken write key draft =
-    if is_other_etag draft.etag draft.body.bytes
-    then Ended (Done (Refused OtherEtag))
-    else Changing (md5 draft.body.bytes) (update_of write key draft)
+    if is_other_etag draft.etag draft.body.bytes then Ended (Done (Refused OtherEtag)) else changing write key draft
 
 -- no tail waits: more bytes come, or the body's end decides
 abbrev pub closed : ℕ → Key → Draft → Option BodyEnd → Stage
@@ -126,11 +141,10 @@ op_of (Ended outcome) = ops.BucketRead 0 []
 abbrev pub draft_rest : Draft → Draft
 draft_rest draft = record { target = draft.target; body = without_tail draft.body; kind = draft.kind; meta = draft.meta; etag = draft.etag; when = draft.when }
 
--- what is kept of a stage of the body meanwhile
-abbrev pub rest_of : Stage → Option BodyRest
-rest_of (Looking draft) = Some (Look draft)
-rest_of (Feeding write key draft) = Some (Tail write key (draft_rest draft))
-rest_of stage = None
+-- what is left of a stage of the body meanwhile
+abbrev pub left_of : Stage → Stage
+left_of (Feeding write key draft) = Feeding write key (draft_rest draft)
+left_of stage = stage
 
 -- ---- answers
 
@@ -139,15 +153,20 @@ abbrev pub by_first_place : ℕ → Draft → Result Key Refusal → Stage
 by_first_place number draft (Err refusal) = Ended (Done (Refused refusal))
 by_first_place number draft (Ok key) = Feeding number key draft
 
+-- what a PUT ends with whose tail found no room
+abbrev pub no_room : Reply → Option Outcome
+no_room (replies.No (whys.NoSpace free needed)) = Some (NoSpace free needed)
+no_room reply = None
+
 -- a tail was made, or found no room
 abbrev pub by_tail : ℕ → Key → Draft → Reply → Stage
-by_tail write key draft (replies.No (whys.NoSpace free needed)) = Ended (NoSpace free needed)
-by_tail write key draft reply = Feeding write key draft
+by_tail write key draft reply = ended_or (Feeding write key draft) (no_room reply)
 
--- the stage of a body after an answer with this number
-abbrev pub resumed : BodyRest → ℕ → Reply → Stage
-resumed (Look draft) number reply = by_first_place number draft (place_of draft.target (row_shown reply))
-resumed (Tail write key draft) number reply = by_tail write key draft reply
+-- the stage of a body, of which this was left, after an answer with this number
+abbrev pub resumed : Stage → ℕ → Reply → Stage
+resumed (Looking draft) number reply = by_first_place number draft (place_of draft.target (row_shown reply))
+resumed (Feeding write key draft) number reply = by_tail write key draft reply
+resumed stage number reply = stage
 
 -- the stage after an answer to its operation
 abbrev pub step_of : Stage → ℕ → Reply → Stage

@@ -21,5 +21,5 @@ pub use keeping::{
     tails_keep_where_a_put_stands,
 };
 pub use laws::{a_body_in_tails_is_shown, a_body_is_its_parts, a_changed_head_is_the_answer};
-pub use stage::{BodyRest, Draft, PutRequest, Rest, Stage};
+pub use stage::{Draft, PutRequest, Stage};
 pub use task::PutTask;

@@ -1,5 +1,5 @@
 // The stages of a PUT, as `Stepping` runs them.
-ghost use Rattle.std.specs.Prelude.{◌≡◌, List, ℕ};
+ghost use Rattle.std.specs.Prelude.{◌≡◌, List, ℕ, IfOk};
 ghost use Rattle.realm_model.specs.Settings.{SettingsView};
 ghost use Rattle.realm_model.specs.Doors.{DoorView};
 ghost use Rattle.realm_model.specs.Suits.{Suits};
@@ -8,34 +8,48 @@ ghost use Rattle.index_update.specs.Fits.{Start, HasShards};
 ghost use Rattle.index_update.specs.Updates.{IsTaken as IsUpdateTaken, next_op, stepped as update_stepped, fits as update_fits};
 ghost use Rattle.index_update.specs.declared.update.IndexUpdate.{IndexUpdate as IndexUpdateOf};
 ghost use Rattle.task_put.specs.declared.stage.Stage.TheVariants.{Changing};
-ghost use Rattle.task_put.specs.Stages.{resumed, after_update};
-ghost use Rattle.task_put.specs.Tasks.{request_of, at_stage};
+ghost use Rattle.task_put.specs.Stages.{IsReady, op_of, resumed, after_update};
+ghost use Rattle.task_put.specs.Tasks.{request_of, stage_of, at_stage, IsTaken};
 
-use crate::advancing::{after_update, resumed};
-use crate::closing::{Standing, settled};
-use crate::splitting::split;
-use crate::stage::{BodyRest, PutRequest, Rest, Stage};
+use crate::closing::next_at;
+use crate::stage::{PutRequest, Stage};
 use crate::task::PutTask;
-use index_update::Rest as UpdateRest;
+use index_update::Rest;
 use realm_door::{Answered, Next, Staged, Taken};
 use realm_model::Reply;
 use std::alloc::{AllocError, Global};
-use std::mem::replace;
 use task_words::Outcome;
 
 impl PutTask {
+    /// Takes the operation out of the stage.
+    fn take_out(&mut self, alloc: Global) -> Result<Taken<Rest>, AllocError>
+        requires ready { IsReady (stage_of self.old) }
+        ensures op { IfOk result (λ s. s.op ≡ op_of (stage_of self.old)) }
+        ensures rest { IfOk result (λ s. IsTaken self.old self.new s.rest) }
+        ensures command { request_of self.new ≡ request_of self.old }
+    {
+        match &mut self.stage {
+            Stage::Looking { draft } => draft.target.look(),
+            Stage::Feeding { write, draft, .. } => Ok(Taken {
+                op: draft.take_tail(alloc, *write),
+                rest: Rest::Stands,
+            }),
+            Stage::Changing { update, .. } => update.split(),
+            Stage::Ended(_) => unreachable!(),
+        }
+    }
+
     /// Goes on by the answer to an operation of the body.
-    fn body_on(&mut self, rest: BodyRest, answered: Answered)
-        ensures task { self.new ≡ at_stage self.old (resumed rest answered.number answered.reply) }
+    fn body_on(&mut self, answered: Answered)
+        ensures task { self.new ≡ at_stage self.old (resumed self.old.stage answered.number answered.reply) }
         ensures sound { HasShards answered.reply }
     {
         has_shards(&answered.reply);
-        let stage = resumed(rest, answered);
-        drop(replace(&mut self.stage, stage));
+        self.stage.resume(answered);
     }
 
     /// Goes on by the answer to an operation of the update.
-    fn update_on(&mut self, rest: UpdateRest, answered: Answered)
+    fn update_on(&mut self, rest: Rest, answered: Answered)
         ensures task { (etag : List ℕ) (u v : IndexUpdateOf) → self.old.stage ≡ Changing etag v → IsUpdateTaken u v rest
             → Suits (next_op u) answered.reply → answered.back ≡ back_of (next_op u) answered.reply
             → self.new ≡ at_stage self.old (after_update etag (update_stepped u answered.reply)) }
@@ -45,16 +59,12 @@ impl PutTask {
             → update_fits s u settings d → Extends settings d (next_op u) moment answered e → update_fits s (update_stepped u answered.reply) settings e }
         ensures command { request_of self.new ≡ request_of self.old }
     {
-        match replace(&mut self.stage, Stage::Ended(Outcome::MovedOften)) {
-            Stage::Changing { etag, mut update } => {
+        match &mut self.stage {
+            Stage::Changing { update, .. } => {
                 update.take(rest, answered);
-                drop(replace(&mut self.stage, after_update(etag, update)));
+                self.stage.conclude();
             }
-            stage => {
-                drop(stage);
-                drop(rest);
-                drop(answered);
-            }
+            _ => drop(answered),
         }
     }
 }
@@ -115,10 +125,10 @@ impl Staged for PutTask {
         ensures fits { (settings : SettingsView) (d : DoorView) → fits self.old settings d → fits self.new settings d }
         ensures command { request_of self.new ≡ request_of self.old }
     {
-        let stage = replace(&mut self.stage, Stage::Ended(Outcome::MovedOften));
-        let Standing { stage, next } = settled(stage);
-        drop(replace(&mut self.stage, stage));
-        next
+        match next_at(&self.stage) {
+            Some(next) => next,
+            None => self.stage.close(),
+        }
     }
 
     #[tactic(auto, using(crate::proofs::Stepping::means_it))]
@@ -139,25 +149,13 @@ impl Staged for PutTask {
     }
 
     fn split(&mut self, alloc: Global) -> Result<Taken<Rest>, AllocError> {
-        if let Stage::Changing { update, .. } = &mut self.stage {
-            let Taken { op, rest } = update.split()?;
-            return Ok(Taken {
-                op,
-                rest: Rest::Change(rest),
-            });
-        }
-        let stage = replace(&mut self.stage, Stage::Ended(Outcome::MovedOften));
-        let Taken { op, rest } = split(alloc, stage)?;
-        Ok(Taken {
-            op,
-            rest: Rest::Body(rest),
-        })
+        self.take_out(alloc)
     }
 
     fn take(&mut self, _alloc: Global, rest: Rest, answered: Answered) {
-        match rest {
-            Rest::Body(rest) => self.body_on(rest, answered),
-            Rest::Change(rest) => self.update_on(rest, answered),
+        match &self.stage {
+            Stage::Changing { .. } => self.update_on(rest, answered),
+            _ => self.body_on(answered),
         }
     }
 

@@ -25,15 +25,15 @@ fn tell_reply<R: Print>(rt: &R, actor: u64, reply: &MapReply) -> anyhow::Result<
         MapReply::Shown { count, size, .. } => {
             println!(rt; "actor {actor}: 200 {count} of {size}")?;
         }
-        MapReply::Counted { objects, bytes, .. } => {
-            println!(rt; "actor {actor}: 200 objects={objects} bytes={bytes}")?;
-        }
         MapReply::Same { .. } => println!(rt; "actor {actor}: 304")?,
         MapReply::Listed(rows) => {
             let count = rows.len();
             println!(rt; "actor {actor}: 200 rows={count}")?;
         }
-        MapReply::Refused(_) => println!(rt; "actor {actor}: refused")?,
+        // No request of another kind tells counts.
+        MapReply::Counted { .. } | MapReply::Refused(_) => {
+            println!(rt; "actor {actor}: refused")?;
+        }
     }
     Ok(())
 }

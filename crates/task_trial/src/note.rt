@@ -24,6 +24,9 @@ pub enum Told {
         version: u64,
         shards: u32,
     },
+    Names {
+        count: usize,
+    },
     Tag {
         tag: u64,
         deadline: u64,
@@ -60,6 +63,8 @@ pub fn name_of(op: &Op) -> &'static str {
     match op {
         Op::BucketRead { .. } => "read the row",
         Op::BucketSwap { .. } => "swap the row",
+        Op::AccountPage { .. } => "read names of an account",
+        Op::BucketPage { .. } => "read names",
         Op::ShardMake { .. } => "make a shard",
         Op::Prepare { .. } => "prepare",
         Op::Complete { .. } => "complete",
@@ -67,6 +72,9 @@ pub fn name_of(op: &Op) -> &'static str {
         Op::Page { .. } => "read a page",
         Op::Suggest { .. } => "suggest",
         Op::Stats { .. } => "read the counts",
+        Op::CloseShard { .. } => "close a shard",
+        Op::Release { .. } => "release a shard",
+        Op::Shut { .. } => "shut a shard",
         Op::HeadRead { .. } => "read the head",
         Op::HeadWrite { .. } => "write the head",
         Op::TailMake { .. } => "make a tail",
@@ -99,6 +107,7 @@ pub fn answer_of(reply: &Reply) -> Told {
             version: row.version,
             shards: row.shards.get(),
         },
+        Reply::Names(names) => Told::Names { count: names.len() },
         Reply::Prepared(guard) => Told::Tag {
             tag: guard.tag,
             deadline: guard.deadline,

@@ -66,6 +66,11 @@ impl Play {
         })
     }
 
+    /// What the realm is set to.
+    pub fn settings(&self) -> Settings {
+        self.stage.settings()
+    }
+
     /// Makes the container, as the actor of this number.
     pub fn preset<R: Print>(&mut self, rt: &R, alloc: Global, actor: u64) -> anyhow::Result<()> {
         let (bucket, owner) = (bucket_name(alloc)?, account(alloc)?);

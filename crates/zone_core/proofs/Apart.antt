@@ -1,5 +1,5 @@
 -- An operation on one zone leaves the objects of each other zone.
-use Rattle.std.proofs.Common.{◌≡◌, ◌≢◌, ℕ, ◌==◌, Bool, false, cond, refl, sym, ap, subst, arith}
+use Rattle.std.proofs.Common.{◌≡◌, ◌≢◌, ℕ, ◌==◌, false, sym, ap, subst, arith}
 use Rattle.std.proofs.lemmas.Bool.Decides.{nat_tests}
 use Rattle.rgw_types.specs.declared.pool_key.Key.{Key}
 use Rattle.rgw_types.specs.declared.pool_key.Key.TheVariants.{Root, Head, Tail, Changes}
@@ -15,7 +15,7 @@ use Rattle.realm_model.specs.Settings.{SettingsView}
 use Rattle.realm_model.specs.States.{State, Touch, nothing, at_changes, at_head, at_root, at_shard, at_tail, put_in, touched}
 use Rattle.realm_model.specs.Steps.{touch_of}
 use Rattle.realm_model.specs.declared.op.Op.{Op}
-use Rattle.realm_model.specs.declared.op.Op.TheVariants.{BucketRead, BucketSwap, ShardMake, Prepare, Complete, Cancel, Page, Suggest, Stats, HeadRead, HeadWrite, TailMake, TailRead, Announce}
+use Rattle.realm_model.specs.declared.op.Op.TheVariants.{BucketRead, BucketSwap, AccountPage, BucketPage, ShardMake, Prepare, Complete, Cancel, Page, Suggest, Stats, CloseShard, Release, Shut, HeadRead, HeadWrite, TailMake, TailRead, Announce}
 use Rattle.zone_core.specs.Stands.{Stands}
 use Rattle.zone_core.proofs.StandLemmas.{put_else}
 
@@ -31,6 +31,8 @@ IsApart (at_changes z log) zone = (z == zone) ≡ false
 touch_apart : (settings : SettingsView) (st : State) (op : Op) (zone : ℕ) → (zone_of op == zone) ≡ false → IsApart (touch_of settings st op) zone
 touch_apart settings st (BucketRead z name) zone e = tt
 touch_apart settings st (BucketSwap z name expected new) zone e = e
+touch_apart settings st (AccountPage z account after limit) zone e = tt
+touch_apart settings st (BucketPage z after limit) zone e = tt
 touch_apart settings st (ShardMake z key) zone e = e
 touch_apart settings st (Prepare z key name) zone e = e
 touch_apart settings st (Complete z key name tag version row) zone e = e
@@ -38,6 +40,9 @@ touch_apart settings st (Cancel z key name tag) zone e = e
 touch_apart settings st (Page z key after limit) zone e = tt
 touch_apart settings st (Suggest z key name revision seen version row) zone e = e
 touch_apart settings st (Stats z key) zone e = tt
+touch_apart settings st (CloseShard z key id force) zone e = e
+touch_apart settings st (Release z key id) zone e = e
+touch_apart settings st (Shut z key) zone e = e
 touch_apart settings st (HeadRead z container name) zone e = tt
 touch_apart settings st (HeadWrite z container name guard new when) zone e = e
 touch_apart settings st (TailMake z write part bytes) zone e = e

@@ -1,5 +1,5 @@
 -- How much one event adds to a shard.
-use Rattle.std.proofs.Common.{◌≡◌, ℕ, ◌+◌, ◌^◌, ◌<◌, ◌≤◌, ◌==◌, ◌||◌, not, Bool, true, false, cond, nat_lt, List, [], ◌∷◌, ◌++◌, length, Option, Some, None, IfSome, refl, sym, ap, subst, arith, length-append}
+use Rattle.std.proofs.Common.{◌≡◌, ℕ, ◌+◌, ◌^◌, ◌<◌, ◌≤◌, ◌==◌, ◌||◌, not, Bool, true, false, cond, max, nat_le, nat_lt, List, [], ◌∷◌, ◌++◌, length, Option, Some, None, IfSome, refl, sym, ap, subst, arith, length-append}
 use Rattle.std.specs.List.{AllByRecursion}
 use Rattle.std.specs.Ordering.{eq_by_cmp}
 use Rattle.std.proofs.lemmas.Bool.{true≢false}
@@ -8,6 +8,9 @@ use Rattle.object_words.specs.declared.log.LogWhat.TheVariants.{Name}
 use Rattle.object_words.specs.declared.entry.Tag.{Tag}
 use Rattle.object_words.specs.declared.why.Why.{Why}
 use Rattle.object_words.specs.Entries.{EntryView, entry_of, is_kept, stored_if_newer, with_tags}
+use Rattle.object_words.specs.declared.shard.Hold.{Hold}
+use Rattle.object_words.specs.declared.shard.Hold.TheVariants.{Free, Closing}
+use Rattle.object_words.specs.HoldCalls.{close_refusal, closed, hold_number, released, shut_down, taken}
 use Rattle.object_words.specs.Logs.{Log}
 use Rattle.object_words.specs.Names.{at, entries, name_cmp, none, with_name, without_name}
 use Rattle.object_words.specs.Numbers.{next}
@@ -209,3 +212,31 @@ small_cancelled count s name tag small =
     unless count (complete_refusal s name tag) s (with_entry s name (with_tags e (without_tag tag e.tags))) small
     (small_with count s name (with_tags e (without_tag tag e.tags)) s.log small (omega arith) (omega (arith, fewer)) (omega arith)
     (no_more count (without_tag tag e.tags) (one_less count tag e.tags (tags_here count s name small))))
+
+-- ---- what holds a shard
+
+-- a hold and a fence are no part of a size
+small_held : (count : ℕ) (s : Shard) (hold : Hold) (fence : ℕ) → IsSmallBy count s → IsSmallBy (count + 1) (record s { hold = hold; fence = fence })
+small_held count s hold fence small =
+    let next = small_next count s small in
+    record { objects = next.objects; bytes = next.bytes; tags = next.tags; last = next.last; below = next.below }
+
+small_taken : (count : ℕ) (s : Shard) (id : ℕ) (hold : Hold) → IsSmallBy count s → IsSmallBy (count + 1) (taken s id hold)
+small_taken count s id hold small =
+    elim (hold_number s.hold == id) as (λ b. IsSmallBy (count + 1) (cond b s (record s { hold = hold; fence = max s.fence (hold_number s.hold) }))) [
+      | true ↦ small_next count s small
+      | false ↦ small_held count s hold (max s.fence (hold_number s.hold)) small
+    ]
+
+pub small_closed : (count : ℕ) (s : Shard) (id : ℕ) (force : Bool) → IsSmallBy count s → IsSmallBy (count + 1) (closed s id force)
+small_closed count s id force small =
+    unless count (close_refusal s id force) s (taken s id (Closing id)) small (small_taken count s id (Closing id) small)
+
+pub small_released : (count : ℕ) (s : Shard) (id : ℕ) → IsSmallBy count s → IsSmallBy (count + 1) (released s id)
+small_released count s id small = small_held count s (cond (nat_le (hold_number s.hold) id) Free s.hold) (max s.fence id) small
+
+-- a shard that is shut has no entry
+pub small_shut : (count : ℕ) (s : Shard) → IsSmallBy count s → IsSmallBy (count + 1) (shut_down s)
+small_shut count s small =
+    let new = small_new (count + 1) in
+    record { objects = new.objects; bytes = new.bytes; tags = new.tags; last = omega (arith, small.last); below = new.below }

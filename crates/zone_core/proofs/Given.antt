@@ -13,7 +13,7 @@ use Rattle.object_words.specs.Tails.{Tail}
 use Rattle.class_words.specs.Works.{WorksWith}
 use Rattle.cls_head.specs.Heads.{IsHead}
 use Rattle.cls_head.specs.Tails.{IsTail}
-use Rattle.cls_record.specs.RootObjects.{IsRoot}
+use Rattle.cls_record.specs.RootObjects.{IsRoot, account_key}
 use Rattle.cls_log.specs.LogObjects.{IsLogObject}
 
 -- what a call on the place of a key left
@@ -62,7 +62,7 @@ no_bytes o here = none o.bytes (left_true (length o.bytes == 0) _ (gone o here))
 no_attrs : (o : Object) → exists o ≡ false → o.attrs ≡ []
 no_attrs o here = none o.attrs (left_true (length o.attrs == 0) _ (right_true (length o.bytes == 0) _ (gone o here)))
 
-no_rows_left : (o : Object) → exists o ≡ false → o.rows.rows ≡ []
+pub no_rows_left : (o : Object) → exists o ≡ false → o.rows.rows ≡ []
 no_rows_left o here = none o.rows.rows (right_true (length o.attrs == 0) _ (right_true (length o.bytes == 0) _ (gone o here)))
 
 -- a property that holds of the object, and of nothing where the object doesn't exist
@@ -91,7 +91,8 @@ pub settled_root : (o : Object) (r : Root) → IsRoot o r → IsRoot (settled o)
 settled_root o r is = by_existence (λ x. IsRoot x r) o (λ there. is) (λ absent. record {
   bytes = refl;
   attrs = sym (no_attrs o absent) ∙ is.attrs;
-  rows = λ key. ap (λ rows. value_at rows key) (sym (no_rows_left o absent)) ∙ is.rows key;
+  rows = λ key low. ap (λ rows. value_at rows key) (sym (no_rows_left o absent)) ∙ is.rows key low;
+  accounts = λ account name fits. ap (λ rows. value_at rows (account_key account name)) (sym (no_rows_left o absent)) ∙ is.accounts account name fits;
   named = is.named;
   bucket = is.bucket;
   log = is.log;

@@ -1,6 +1,5 @@
 -- The pool of a zone before the first event.
-use Rattle.std.proofs.Common.{◌≡◌, ℕ, List, [], refl, arith}
-use Rattle.object_pool.specs.Objects.{PoolView}
+use Rattle.std.proofs.Common.{ℕ, refl, arith}
 use Rattle.cls_log.proofs.RowLemmas.{empty_log}
 use Rattle.cls_record.proofs.RootLemmas.{new_root}
 use Rattle.realm_model.specs.Settings.{SettingsView}

@@ -140,6 +140,14 @@ module _ (settings : SettingsView) (zone : ℕ) (p f : PoolView) (st : State) (k
               (replies s here.1 (subst (λ o. IsShard o s) (sym at.object) here.2)),
         )
 
+    -- a class call that is never refused
+    pub class_changes : (change : Shard → Shard) → ((s : Shard) → IsShard (object_of place) s → IsShard (object_of place') (change s))
+        → Stands settings zone f (touched settings st (at_shard zone key (change_at (st.shards zone key) change)))
+    class_changes change step =
+        let here = shard_here there in
+        let s = here.0 in
+        becomes s change here.1 (step s (subst (λ o. IsShard o s) (sym at.object) here.2))
+
 -- ---- a shard that is made
 
 pub settled_made : (o : Object) (found : Option Shard) → IsShardOr o (made found) → IsShardOr (settled o) (made found)

@@ -4,6 +4,7 @@ use Rattle.rgw_types.specs.declared.pool_key.Key.{Key}
 use Rattle.object_words.specs.declared.bucket.Bucket.{Bucket}
 use Rattle.object_words.specs.declared.why.Why.{Why}
 use Rattle.object_words.specs.declared.log.LogWhat.{LogWhat}
+use Rattle.object_words.specs.HoldCalls.{closed, released, shut_down}
 use Rattle.object_words.specs.Keys.{is_key, put, put_key}
 use Rattle.object_words.specs.Logs.{Log, logged}
 use Rattle.object_words.specs.Refusals.{unless_refused}
@@ -16,9 +17,9 @@ use Rattle.realm_model.specs.Settings.{SettingsView}
 use Rattle.realm_model.specs.States.{State, number_next, put_in, touched}
 use Rattle.realm_model.specs.Steps.{change_at, is_master, new_tag, suggest_event_refusal, touch_of}
 use Rattle.realm_model.specs.declared.op.Op.{Op}
-use Rattle.realm_model.specs.declared.op.Op.TheVariants.{BucketRead, BucketSwap, ShardMake, Prepare, Complete, Cancel, Page, Suggest, Stats, HeadRead, HeadWrite, TailMake, TailRead, Announce}
+use Rattle.realm_model.specs.declared.op.Op.TheVariants.{BucketRead, BucketSwap, AccountPage, BucketPage, ShardMake, Prepare, Complete, Cancel, Page, Suggest, Stats, CloseShard, Release, Shut, HeadRead, HeadWrite, TailMake, TailRead, Announce}
 use Rattle.zone_core.specs.Bounds.{AreSmallBy, FitsOp, IsSmallBy}
-use Rattle.zone_core.proofs.BoundLemmas.{if_some, small_cancelled, small_completed, small_new, small_next, small_prepared, small_suggested}
+use Rattle.zone_core.proofs.BoundLemmas.{if_some, small_cancelled, small_closed, small_completed, small_new, small_next, small_prepared, small_released, small_shut, small_suggested}
 
 -- what holds of every value of a function, also where it has another one
 put_all : {A : Type 0} (Is : A → Type 0) (f : ℕ → A) (n : ℕ) (x : A) (q : ℕ) → Is x → Is (f q) → Is (put f n x q)
@@ -95,12 +96,20 @@ small_after settings st (Suggest zone key name revision seen version row) z fits
       of : (s : Shard) (refusal : Option Why) → IsSmallBy st.count s → IsSmallBy (st.count + 1) (unless_refused refusal s (suggested s name revision seen version row))
       of s None here = small_suggested st.count s name revision seen version row here fits
       of s (Some why) here = small_next st.count s here
+small_after settings st (CloseShard zone key id force) z fits small = at_shard_small settings st.count zone z st key _ small
+    (changed st.count (st.shards zone key) (λ s. closed s id force) (λ s here. small_closed st.count s id force here) ((small zone).shards key))
+small_after settings st (Release zone key id) z fits small = at_shard_small settings st.count zone z st key _ small
+    (changed st.count (st.shards zone key) (λ s. released s id) (λ s here. small_released st.count s id here) ((small zone).shards key))
+small_after settings st (Shut zone key) z fits small = at_shard_small settings st.count zone z st key _ small
+    (changed st.count (st.shards zone key) shut_down (small_shut st.count) ((small zone).shards key))
 small_after settings st (Announce zone container instance shard bucket) z fits small = record {
   root = omega (arith, (small z).root);
   changes = put_all (λ log. log.last ≤ st.count + 1) st.changes zone _ z (grown (st.changes zone) (shard_row container instance shard bucket) st.count (small zone).changes) (omega (arith, (small z).changes));
   shards = λ key. if_some (st.shards z key) _ _ (small_next st.count) ((small z).shards key);
 }
 small_after settings st (BucketRead zone name) z fits small = small_still st.count z st (small z)
+small_after settings st (AccountPage zone account after limit) z fits small = small_still st.count z st (small z)
+small_after settings st (BucketPage zone after limit) z fits small = small_still st.count z st (small z)
 small_after settings st (Page zone key after limit) z fits small = small_still st.count z st (small z)
 small_after settings st (Stats zone key) z fits small = small_still st.count z st (small z)
 small_after settings st (HeadRead zone container name) z fits small = small_still st.count z st (small z)

@@ -34,6 +34,13 @@ pub fn perform(
             expected,
             new,
         } => steps::bucket_swap(alloc, pool, *zone, name, *expected, new, number),
+        Op::AccountPage {
+            account,
+            after,
+            limit,
+            ..
+        } => steps::account_page(alloc, pool, account, after, *limit),
+        Op::BucketPage { after, limit, .. } => steps::bucket_page(alloc, pool, after, *limit),
         Op::ShardMake { key, .. } => steps::shard_make(alloc, pool, *key),
         Op::Prepare { key, name, .. } => steps::prepare(
             alloc, pool, settings, *key, name, number, clock,
@@ -63,6 +70,11 @@ pub fn perform(
             ..
         } => { steps::suggest(pool, *key, name, *revision, *seen, *version, row) }
         Op::Stats { key, .. } => steps::stats(pool, *key),
+        Op::CloseShard { key, id, force, .. } => {
+            steps::close_shard(alloc, pool, *key, *id, *force)
+        }
+        Op::Release { key, id, .. } => steps::release(pool, *key, *id),
+        Op::Shut { key, .. } => steps::shut(pool, *key),
         Op::HeadRead {
             container,
             name,

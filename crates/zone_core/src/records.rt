@@ -4,14 +4,16 @@ ghost use Rattle.object_words.specs.Answers.{Answers};
 ghost use Rattle.object_words.specs.Logs.{logged};
 ghost use Rattle.object_words.specs.Names.{at};
 ghost use Rattle.object_words.specs.Numbers.{next};
+ghost use Rattle.object_words.specs.Pages.{account_names, bucket_names};
 ghost use Rattle.object_words.specs.Roots.{swap_refusal, swapped};
 ghost use Rattle.realm_model.specs.Settings.{SettingsView};
 ghost use Rattle.realm_model.specs.States.{State, at_changes, at_root, touched};
 ghost use Rattle.zone_core.specs.Stands.{Stands};
 
+use cls_record::{account_page, bucket_page};
 use object_pool::{OutOfMemory, Pool};
-use object_words::{Bucket, BucketName, ClassFault, LogWhat};
-use rgw_types::Key;
+use object_words::{Bucket, BucketName, BucketNames, ClassFault, LogWhat};
+use rgw_types::{Key, Text};
 use std::alloc::{AllocError, Global};
 
 /// The row of a container.
@@ -29,6 +31,43 @@ pub(crate) fn read_bucket(
         return Ok(None);
     };
     cls_record::read(alloc, &root, name)
+}
+
+/// The first names above `after` of containers of this account, by rising bytes: at most `limit`.
+pub(crate) fn account_page_at(
+    alloc: Global,
+    pool: &mut Pool,
+    account: &Text,
+    after: &Text,
+    limit: u32,
+) -> Result<BucketNames, AllocError>
+    requires { (settings : SettingsView) × (zone : ℕ) × (st : State) × Stands settings zone pool.old st }
+    ensures found { (settings : SettingsView) (zone : ℕ) (st : State) → Stands settings zone pool.old st
+        → IfOk result (λ names. names ≡ account_names (st.root zone) account.now after.now limit) }
+    ensures stays { (settings : SettingsView) (zone : ℕ) (st : State) → Stands settings zone pool.old st → Stands settings zone pool.new st }
+{
+    let Some(root) = pool.find(&Key::Root) else {
+        return Ok(BucketNames::new(alloc));
+    };
+    account_page(alloc, &root, account, after, limit)
+}
+
+/// The first names above `after` of containers, by rising bytes: at most `limit`.
+pub(crate) fn bucket_page_at(
+    alloc: Global,
+    pool: &mut Pool,
+    after: &Text,
+    limit: u32,
+) -> Result<BucketNames, AllocError>
+    requires { (settings : SettingsView) × (zone : ℕ) × (st : State) × Stands settings zone pool.old st }
+    ensures found { (settings : SettingsView) (zone : ℕ) (st : State) → Stands settings zone pool.old st
+        → IfOk result (λ names. names ≡ bucket_names (st.root zone) after.now limit) }
+    ensures stays { (settings : SettingsView) (zone : ℕ) (st : State) → Stands settings zone pool.old st → Stands settings zone pool.new st }
+{
+    let Some(root) = pool.find(&Key::Root) else {
+        return Ok(BucketNames::new(alloc));
+    };
+    bucket_page(alloc, &root, after, limit)
 }
 
 /// Swaps the row of a container.

@@ -1,5 +1,6 @@
 ghost use Rattle.std.specs.Prelude.{◌≡◌, ℕ, true, IfSome, OnErr, OnOk};
 ghost use Rattle.object_words.specs.Answers.{Answers, Replies};
+ghost use Rattle.object_words.specs.HoldCalls.{close_refusal, closed, released, shut_down};
 ghost use Rattle.object_words.specs.Keys.{is_shard_key};
 ghost use Rattle.object_words.specs.Refusals.{fate_refusal, unless_refused};
 ghost use Rattle.object_words.specs.ShardCalls.{cancelled, complete_refusal, completed, made, page_of, prepare_refusal, prepared, suggested};
@@ -12,7 +13,7 @@ ghost use Rattle.zone_core.specs.Bounds.{IsReady, IsShardReady};
 ghost use Rattle.zone_core.specs.Calls.{AnswersAt, refusal_at};
 ghost use Rattle.zone_core.specs.Stands.{Stands};
 
-use cls_hold::make;
+use cls_hold::{close, make, release, shut};
 use cls_index::{cancel, complete, page, prepare, stats, suggest, untimely};
 use object_pool::{OutOfMemory, Pool};
 use object_words::{ClassFault, EntryPage, EntryRow, Guard, ObjectName, ShardStats, Why};
@@ -145,4 +146,51 @@ pub(crate) fn stats_at(pool: &mut Pool, key: &Key) -> Result<ShardStats, Why>
         return Err(Why::Closed);
     };
     stats(&shard)
+}
+
+/// Closes the shard of a key to changes under a number, where no entry stands in the way.
+pub(crate) fn close_at(
+    alloc: Global,
+    pool: &mut Pool,
+    key: &Key,
+    id: u64,
+    force: bool,
+) -> Result<(), ClassFault>
+    requires shard { is_shard_key key.now ≡ true }
+    requires stands { (settings : SettingsView) × (zone : ℕ) × (st : State) × Stands settings zone pool.old st }
+    ensures { (settings : SettingsView) (zone : ℕ) (st : State) → Stands settings zone pool.old st
+        → let found = st.shards zone key.now in
+        Answers result (refusal_at found (λ s. close_refusal s id force)) (λ _. Unit {0})
+        (Stands settings zone pool.new) st (touched settings st (at_shard zone key.now (change_at found (λ s. closed s id force)))) }
+{
+    let Some(mut shard) = pool.find(key) else {
+        return Err(ClassFault::No(Why::Closed));
+    };
+    close(alloc, &mut shard, id, force)
+}
+
+/// Takes a hold of the shard of a key away whose number is not above this one. Where there is no shard
+/// nothing changes.
+pub(crate) fn release_at(pool: &mut Pool, key: &Key, id: u64)
+    requires shard { is_shard_key key.now ≡ true }
+    requires stands { (settings : SettingsView) × (zone : ℕ) × (st : State) × Stands settings zone pool.old st }
+    ensures { (settings : SettingsView) (zone : ℕ) (st : State) → Stands settings zone pool.old st
+        → Stands settings zone pool.new (touched settings st (at_shard zone key.now (change_at (st.shards zone key.now) (λ s. released s id)))) }
+{
+    if let Some(mut shard) = pool.find(key) {
+        release(&mut shard, id);
+    }
+}
+
+/// Takes all entries of the shard of a key away, and closes it for good. Where there is no shard nothing
+/// changes.
+pub(crate) fn shut_at(pool: &mut Pool, key: &Key)
+    requires shard { is_shard_key key.now ≡ true }
+    requires stands { (settings : SettingsView) × (zone : ℕ) × (st : State) × Stands settings zone pool.old st }
+    ensures { (settings : SettingsView) (zone : ℕ) (st : State) → Stands settings zone pool.old st
+        → Stands settings zone pool.new (touched settings st (at_shard zone key.now (change_at (st.shards zone key.now) shut_down))) }
+{
+    if let Some(mut shard) = pool.find(key) {
+        shut(&mut shard);
+    }
 }

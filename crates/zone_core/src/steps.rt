@@ -2,13 +2,16 @@
 ghost use Rattle.std.specs.Prelude.{◌≡◌, ◌≤◌, ℕ, Option};
 ghost use Rattle.realm_model.specs.Settings.{SettingsView};
 ghost use Rattle.realm_model.specs.States.{State, number_next};
-ghost use Rattle.realm_model.specs.declared.op.Op.TheVariants.{Announce, BucketRead, BucketSwap, Cancel, Complete, HeadRead, HeadWrite, Page, Prepare, ShardMake, Stats, Suggest, TailMake, TailRead};
+ghost use Rattle.realm_model.specs.declared.op.Op.TheVariants.{AccountPage, Announce, BucketPage, BucketRead, BucketSwap, Cancel, CloseShard, Complete, HeadRead, HeadWrite, Page, Prepare, Release, ShardMake, Shut, Stats, Suggest, TailMake, TailRead};
 ghost use Rattle.zone_core.specs.Bounds.{CanStep, IsReady};
 ghost use Rattle.zone_core.specs.Calls.{Performs, fault_reply};
 
 use crate::heads::{make_tail_at, read_head, read_tail_at, write_head};
-use crate::records::{announce, read_bucket, swap_bucket};
-use crate::shards::{cancel_at, complete_at, make_at, page_at, prepare_at, stats_at, suggest_at};
+use crate::records::{account_page_at, announce, bucket_page_at, read_bucket, swap_bucket};
+use crate::shards::{
+    cancel_at, close_at, complete_at, make_at, page_at, prepare_at, release_at, shut_at, stats_at,
+    suggest_at,
+};
 use object_pool::{OutOfMemory, Pool};
 use object_words::{
     Bucket, BucketName, ClassFault, Conditions, EntryRow, Guard, LogWhat, NewHead, ObjectName,
@@ -64,6 +67,35 @@ pub(crate) fn bucket_swap(
         Ok(()) => Ok(Reply::Done),
         Err(fault) => fault_reply(fault),
     }
+}
+
+pub(crate) fn account_page(
+    alloc: Global,
+    pool: &mut Pool,
+    account: &Text,
+    after: &Text,
+    limit: u32,
+) -> Result<Reply, OutOfMemory>
+    requires ready { CanStep pool.old }
+    ensures { (settings : SettingsView) (zone : ℕ) (st : State) → IsReady settings zone pool.old st
+        → Performs settings zone st (AccountPage zone account.now after.now limit) result pool.new }
+{
+    let names = account_page_at(alloc, pool, account, after, limit)?;
+    Ok(Reply::Names(names))
+}
+
+pub(crate) fn bucket_page(
+    alloc: Global,
+    pool: &mut Pool,
+    after: &Text,
+    limit: u32,
+) -> Result<Reply, OutOfMemory>
+    requires ready { CanStep pool.old }
+    ensures { (settings : SettingsView) (zone : ℕ) (st : State) → IsReady settings zone pool.old st
+        → Performs settings zone st (BucketPage zone after.now limit) result pool.new }
+{
+    let names = bucket_page_at(alloc, pool, after, limit)?;
+    Ok(Reply::Names(names))
 }
 
 pub(crate) fn shard_make(
@@ -187,6 +219,44 @@ pub(crate) fn stats(pool: &mut Pool, key: ShardKey) -> Result<Reply, OutOfMemory
         Ok(stats) => Ok(Reply::Stats(stats)),
         Err(why) => Ok(Reply::No(why)),
     }
+}
+
+pub(crate) fn close_shard(
+    alloc: Global,
+    pool: &mut Pool,
+    key: ShardKey,
+    id: u64,
+    force: bool,
+) -> Result<Reply, OutOfMemory>
+    requires ready { CanStep pool.old }
+    ensures { (settings : SettingsView) (zone : ℕ) (st : State) → IsReady settings zone pool.old st
+        → Performs settings zone st (CloseShard zone key id force) result pool.new }
+{
+    let key = key.to_key();
+    match close_at(alloc, pool, &key, id, force) {
+        Ok(()) => Ok(Reply::Done),
+        Err(fault) => fault_reply(fault),
+    }
+}
+
+pub(crate) fn release(pool: &mut Pool, key: ShardKey, id: u64) -> Result<Reply, OutOfMemory>
+    requires ready { CanStep pool.old }
+    ensures { (settings : SettingsView) (zone : ℕ) (st : State) → IsReady settings zone pool.old st
+        → Performs settings zone st (Release zone key id) result pool.new }
+{
+    let key = key.to_key();
+    release_at(pool, &key, id);
+    Ok(Reply::Done)
+}
+
+pub(crate) fn shut(pool: &mut Pool, key: ShardKey) -> Result<Reply, OutOfMemory>
+    requires ready { CanStep pool.old }
+    ensures { (settings : SettingsView) (zone : ℕ) (st : State) → IsReady settings zone pool.old st
+        → Performs settings zone st (Shut zone key) result pool.new }
+{
+    let key = key.to_key();
+    shut_at(pool, &key);
+    Ok(Reply::Done)
 }
 
 pub(crate) fn head_read(

@@ -1,7 +1,8 @@
 // Each public call at its greatest sizes: a head of 65536 bytes with a target of 8192 and 128 fields.
 use crate::repeating::{add, repeated};
 use http_model::{
-    FIELD_LIMIT, Framing, HEAD_LIMIT, Head, field_count, field_value, framing_of, read_head,
+    FIELD_LIMIT, Framing, HEAD_LIMIT, Head, REQUEST_LIMIT, field_count, field_value, framing_of,
+    read_head,
 };
 use std::alloc::{AllocError, Global};
 use std::test::Fail;
@@ -66,5 +67,11 @@ fn what_the_greatest_head_asks(rt: HostRuntime) -> Result<(), Fail> {
     let is_put = is_put_with_host(&head);
     drop(head);
     assert!(rt; is_put);
+    Ok(())
+}
+
+#[test]
+fn a_connection_has_at_most_100000_requests(rt: HostRuntime) -> Result<(), Fail> {
+    assert_eq!(rt; REQUEST_LIMIT, 100_000);
     Ok(())
 }

@@ -1,6 +1,5 @@
 use Rattle.std.proofs.Common.{[], ◌++◌, take, refl, ◌∙◌, arith}
-use Rattle.call_service.proofs.Passing.{give_more, break_behind, end_behind, none_given}
-use Rattle.http_chunks.specs.declared.body.BodyEnd.TheVariants as End
+use Rattle.call_service.proofs.Passing.{give_more, short_behind, end_behind, none_given}
 use Rattle.call_service.proofs.body.drop_body.Goals as goal
 
 pub pieces-init : goal.pieces-init
@@ -16,13 +15,13 @@ pub returns-in-Ended-clause-dropped : goal.returns-in-Ended-clause-dropped
 returns-in-Ended-clause-dropped g c =
     let so_far = c.pieces.invariant.so_far in (
       so_far.0 ++ [],
-      end_behind c.args.intake.now c.pieces.intake (g.S.Source.left c.args.source.now) (g.S.Source.left c.pieces.source) (g.S.Source.left c.next_piece.new.source) so_far.0 c.next_piece.new.intake c.in-Ended.end so_far.1 c.in-Ended.ensures.passed,
+      end_behind c.args.intake.now c.pieces.intake (g.S.Source.left c.args.source.now) (g.S.Source.left c.pieces.source) (g.S.Source.left c.next_piece.new.source) so_far.0 c.next_piece.new.intake [] c.in-Ended.end so_far.1 c.in-Ended.ensures.passed,
     )
 
 pub returns-in-Failed-clause-err : goal.returns-in-Failed-clause-err
 returns-in-Failed-clause-err g c =
     let so_far = c.pieces.invariant.so_far in
-    break_behind c.args.intake.now c.pieces.intake (g.S.Source.left c.args.source.now) (g.S.Source.left c.pieces.source) (g.S.Source.left c.next_piece.new.source) so_far.0 End.Cut so_far.1 c.in-Failed.ensures.passed
+    short_behind c.args.intake.now c.pieces.intake (g.S.Source.left c.args.source.now) (g.S.Source.left c.pieces.source) (g.S.Source.left c.next_piece.new.source) so_far.0 so_far.1 c.in-Failed.ensures.passed
 
 pub pieces-preserved : goal.pieces-preserved
 pieces-preserved g c =

@@ -2,7 +2,8 @@ use Rattle.std.proofs.Common.{◌≡◌, ℕ, List, length, map}
 use Rattle.std.specs.List.{AllByRecursion}
 use Rattle.std.specs.Vec.Iter.{into_iter_items}
 use Rattle.object_words.specs.Entries.{EntryView}
-use Rattle.cls_index.specs.Pages.{IsNamed, written}
+use Rattle.class_words.specs.Pages.{written}
+use Rattle.cls_index.specs.Pages.{IsNamed}
 use Rattle.cls_index.proofs.PageLemmas.{IsRead}
 use Rattle.cls_index.proofs.paging.entries_in.Given as goal
 

@@ -1,4 +1,4 @@
-use Rattle.gateway.proofs.Reading.{one_stream}
+use Rattle.call_words.proofs.Reading.{one_stream}
 use Rattle.gateway.proofs.laws.a_connection_has_one_reading.Goals as goal
 
 pub returns : goal.returns

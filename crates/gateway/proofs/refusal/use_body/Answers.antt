@@ -13,7 +13,7 @@ pub returns-in_err-end-clause-err : goal.returns-in_err-end-clause-err
 returns-in_err-end-clause-err g c =
     let read : is_unread c.args.plan ≡ false = search rules in
     let p = err_from_is_err_and c.from_residual.result c.from_residual.ensures.1 in
-    rw (p.1, p.2) (left c.args.plan c.args.intake.now (g.S.Source.left c.args.source.now) (g.S.Source.left c.drop_body.new.source) c.in_err-end.field-0.0 read c.in_err-end.ensures.err)
+    rw (p.1, p.2) (left c.args.plan c.args.intake.now (g.S.Source.left c.args.source.now) (g.S.Source.left c.drop_body.new.source) c.in_err-end.field-0.0 read c.requires.sound c.in_err-end.ensures.err)
 
 pub returns-clause-used : goal.returns-clause-used
 returns-clause-used g c =

@@ -21,23 +21,23 @@ not_false false is = absurd (cc)
 pub serve_put-requires-clause-few : goal.serve_put-requires-clause-few
 serve_put-requires-clause-few g c κs within =
     let e : asked_of c.args.settings.now.largest c.args.head.now ≡ asks.Put c.in-Put.put = sym c.requires.asks ∙ c.in-Put.is in
-    let low = (put_body c.args.settings.now.largest c.args.head.now c.args.intake.now c.in-Put.put e c.requires.behind).0 in
+    let low = (put_body c.args.settings.now.largest c.args.head.now c.args.connection.now.intake.now c.in-Put.put e c.requires.behind).0 in
     omega (arith, low, c.requires.most)
 
 pub serve_put-requires-clause-form : goal.serve_put-requires-clause-form
 serve_put-requires-clause-form g c κs within =
     let e : asked_of c.args.settings.now.largest c.args.head.now ≡ asks.Put c.in-Put.put = sym c.requires.asks ∙ c.in-Put.is in
-    c.requires.form ∙ (put_body c.args.settings.now.largest c.args.head.now c.args.intake.now c.in-Put.put e c.requires.behind).1
+    c.requires.form ∙ (put_body c.args.settings.now.largest c.args.head.now c.args.connection.now.intake.now c.in-Put.put e c.requires.behind).1
 
 pub serve_put-requires-clause-ready : goal.serve_put-requires-clause-ready
 serve_put-requires-clause-ready g c κs within =
     let settings = c.begin.ensures.settings ∙ c.requires.goes.site.same in
-    may_serve g.D.Door.tells c.args.settings.now _ _ c.args.zone (g.D.Door.told c.args.door.now) (g.D.Door.told c.begin.new.self) c.args.user.now c.args.intake.now _ c.requires.goes c.requires.behind.failed c.begin.ensures.begins settings
+    may_serve g.D.Door.tells c.args.settings.now _ _ c.args.zone (g.D.Door.told c.args.connection.now.door.now) (g.D.Door.told c.begin.new.self) c.args.user.now c.args.connection.now.intake.now _ c.requires.goes c.requires.behind.failed c.begin.ensures.begins settings
 
 pub serve_command-requires-clause-ready : goal.serve_command-requires-clause-ready
 serve_command-requires-clause-ready g c κs within =
     let settings = c.begin-in-Unfed.ensures.settings ∙ c.requires.goes.site.same in
-    may_serve g.D.Door.tells c.args.settings.now _ _ c.args.zone (g.D.Door.told c.args.door.now) (g.D.Door.told c.begin-in-Unfed.new.self) c.args.user.now c.args.intake.now _ c.requires.goes c.requires.behind.failed c.begin-in-Unfed.ensures.begins settings
+    may_serve g.D.Door.tells c.args.settings.now _ _ c.args.zone (g.D.Door.told c.args.connection.now.door.now) (g.D.Door.told c.begin-in-Unfed.new.self) c.args.user.now c.args.connection.now.intake.now _ c.requires.goes c.requires.behind.failed c.begin-in-Unfed.ensures.begins settings
 
 pub serve_command-requires-clause-shut : goal.serve_command-requires-clause-shut
 serve_command-requires-clause-shut g c κs within is =
@@ -71,11 +71,11 @@ returns-in-Ok-clause-left g c =
     let e : asked_of c.args.settings.now.largest c.args.head.now ≡ asks_so = sym c.requires.asks ∙ c.in-Put.is in
     let waiting = waits_so c.args.settings.now.largest c.args.head.now asks_so ∙ ap (λ (a : Asked). is_awaited (body_use c.args.settings.now.largest c.args.head.now a)) (sym e) in
     asked_left g.D.Door.tells g.D.Door.alone (site_of c.args.settings.now c.args.zone) c.args.head.now c.args.asked asks_so c.args.form _ _
-    (use_of c.args.settings.now.largest c.args.head.now) c.in-Put.is (g.D.Door.found c.serve_put.new.door) c.serve_put.result
+    (use_of c.args.settings.now.largest c.args.head.now) c.in-Put.is (g.D.Door.found c.serve_put.new.connection.door.now) c.serve_put.result
     (put_stopped_if g.D.Door.tells g.D.Door.alone (site_of c.args.settings.now c.args.zone) c.args.form c.in-Put.put _ (g.D.Door.told c.begin.new.self) _ c.requires.goes.may c.begin.ensures.begins
     c.args.head.now c.requires.behind.failed (use_of c.args.settings.now.largest c.args.head.now) c.is_awaited-waits.result (put_use c.args.settings.now.largest c.args.head.now c.in-Put.put e) waiting
     (c.is_awaited-waits.ensures ∙ ap is_awaited c.requires.used)
-    _ (g.D.Door.found c.serve_put.new.door) c.serve_put.result (site_is (g.D.Door.settings c.begin.new.self) c.args.settings.now c.args.zone c.in-Ok.asker (c.begin.ensures.settings ∙ c.requires.goes.site.same) c.in-Ok.ensures) c.serve_put.ensures.stopped)
+    _ (g.D.Door.found c.serve_put.new.connection.door.now) c.serve_put.result (site_is (g.D.Door.settings c.begin.new.self) c.args.settings.now c.args.zone c.in-Ok.asker (c.begin.ensures.settings ∙ c.requires.goes.site.same) c.in-Ok.ensures) c.serve_put.ensures.stopped)
 
 pub returns-in-Ok-asker_of-clause-served : goal.returns-in-Ok-asker_of-clause-served
 returns-in-Ok-asker_of-clause-served g c =
@@ -94,10 +94,10 @@ returns-in-Ok-asker_of-clause-left g c =
     let e : asked_of c.args.settings.now.largest c.args.head.now ≡ asks_so = sym c.requires.asks ∙ c.in-Unfed.is in
     let quiet = sym (waits_so c.args.settings.now.largest c.args.head.now asks_so ∙ ap (λ (a : Asked). is_awaited (body_use c.args.settings.now.largest c.args.head.now a)) (sym e)) in
     asked_left g.D.Door.tells g.D.Door.alone (site_of c.args.settings.now c.args.zone) c.args.head.now c.args.asked asks_so c.args.form _ _
-    (use_of c.args.settings.now.largest c.args.head.now) c.in-Unfed.is (g.D.Door.found c.serve_command.new.door) c.serve_command.result
+    (use_of c.args.settings.now.largest c.args.head.now) c.in-Unfed.is (g.D.Door.found c.serve_command.new.connection.door.now) c.serve_command.result
     (unwanted_stopped g.D.Door.tells g.D.Door.alone (site_of c.args.settings.now c.args.zone) c.args.form asks_so _ (g.D.Door.told c.begin-in-Unfed.new.self) _ c.requires.goes.may c.begin-in-Unfed.ensures.begins
     c.args.head.now (use_of c.args.settings.now.largest c.args.head.now) refl quiet _ (ap (λ b. dropped_if (not b)) (c.is_unread-read.ensures ∙ ap is_unread c.requires.used) ∙ unfed_use c.args.settings.now.largest c.args.head.now c.in-Unfed.command e)
-    (g.D.Door.found c.serve_command.new.door) (λ fault x. (g.D.Door.told c.begin-in-Unfed.new.self, c.begin-in-Unfed.ensures.begins, x)) _ c.serve_command.result (site_is (g.D.Door.settings c.begin-in-Unfed.new.self) c.args.settings.now c.args.zone c.in-Ok-asker_of.asker (c.begin-in-Unfed.ensures.settings ∙ c.requires.goes.site.same) c.in-Ok-asker_of.ensures) c.serve_command.ensures.stopped)
+    (g.D.Door.found c.serve_command.new.connection.door.now) (λ fault x. (g.D.Door.told c.begin-in-Unfed.new.self, c.begin-in-Unfed.ensures.begins, x)) _ c.serve_command.result (site_is (g.D.Door.settings c.begin-in-Unfed.new.self) c.args.settings.now c.args.zone c.in-Ok-asker_of.asker (c.begin-in-Unfed.ensures.settings ∙ c.requires.goes.site.same) c.in-Ok-asker_of.ensures) c.serve_command.ensures.stopped)
 
 pub returns-in_default-clause-served : goal.returns-in_default-clause-served
 returns-in_default-clause-served g c =
@@ -105,7 +105,7 @@ returns-in_default-clause-served g c =
     let plan_by = c.requires.used ∙ ap (body_use c.args.settings.now.largest c.args.head.now) (sym c.requires.asks) in
     refused_served g.D.Door.tells g.D.Door.alone (site_of c.args.settings.now c.args.zone) c.args.head.now c.args.asked refused c.args.settings.now.largest c.args.plan plan_by c.args.form
     (λ unread. c.requires.shut (sym (ap is_unread c.requires.used) ∙ unread))
-    (g.D.Door.told c.args.door.now) c.args.intake.now c.serve_refused-served.new.intake _ _ c.requires.goes.may refl c.args.asked (use_of c.args.settings.now.largest c.args.head.now) c.serve_refused-served.result refl c.requires.used c.serve_refused-served.ensures.served
+    (g.D.Door.told c.args.connection.now.door.now) c.args.connection.now.intake.now c.serve_refused-served.new.intake _ _ c.requires.goes.may refl c.args.asked (use_of c.args.settings.now.largest c.args.head.now) c.serve_refused-served.result refl c.requires.used c.serve_refused-served.ensures.served
 
 pub returns-in_default-clause-left : goal.returns-in_default-clause-left
 returns-in_default-clause-left g c =
@@ -113,4 +113,4 @@ returns-in_default-clause-left g c =
     let plan_by = c.requires.used ∙ ap (body_use c.args.settings.now.largest c.args.head.now) (sym c.requires.asks) in
     refused_left g.D.Door.tells g.D.Door.alone (site_of c.args.settings.now c.args.zone) c.args.head.now c.args.asked refused c.args.settings.now.largest c.args.plan plan_by c.args.form
     (λ unread. c.requires.shut (sym (ap is_unread c.requires.used) ∙ unread))
-    (g.D.Door.told c.args.door.now) c.args.intake.now c.serve_refused-served.new.intake _ _ c.requires.goes.may refl (g.D.Door.found c.args.door.now) c.args.asked (use_of c.args.settings.now.largest c.args.head.now) c.serve_refused-served.result refl c.requires.used c.serve_refused-served.ensures.left
+    (g.D.Door.told c.args.connection.now.door.now) c.args.connection.now.intake.now c.serve_refused-served.new.intake _ _ c.requires.goes.may refl (g.D.Door.found c.args.connection.now.door.now) c.args.asked (use_of c.args.settings.now.largest c.args.head.now) c.serve_refused-served.result refl c.requires.used c.serve_refused-served.ensures.left

@@ -8,13 +8,13 @@ use Rattle.gateway.proofs.request.serve_request.Goals as goal
 
 pub returns-in-Err-clause-turn : goal.returns-in-Err-clause-turn
 returns-in-Err-clause-turn g c x reads =
-    not_judged g.D.Door.tells g.D.Door.alone (site_of c.args.settings.now c.args.zone) c.args.k x _ c.args.head.now (g.D.Door.found c.args.door.now) c.requires.goes.may reads
+    not_judged g.D.Door.tells g.D.Door.alone (site_of c.args.settings.now c.args.zone) c.args.k x _ c.args.head.now (g.D.Door.found c.args.connection.now.door.now) c.requires.goes.may reads
 
 pub returns-in-Err-serve_asked-clause-turn : goal.returns-in-Err-serve_asked-clause-turn
 returns-in-Err-serve_asked-clause-turn g c x reads =
     served_not g.D.Door.tells g.D.Door.alone (site_of c.args.settings.now c.args.zone) c.args.k x _ _ c.args.head.now reads c.in-Ok.asked c.body_use-plan.result c.is_bodiless-bodiless.result c.closes-close.result
     (c.in-Ok.ensures ∙ ap (λ n. asked_of n c.args.head.now) (ap (λ (s : SettingsView). s.largest) c.settings.view_is))
-    (c.body_use-plan.ensures ∙ ap (λ n. body_use n c.args.head.now c.in-Ok.asked) (ap (λ (s : SettingsView). s.largest) c.settings.view_is)) c.is_bodiless-bodiless.ensures (c.closes-close.ensures ∙ ap (closes c.args.k c.args.head.now) c.is_unread.ensures) (g.D.Door.found c.serve_asked.new.door) c.in-Err-serve_asked.fault c.requires.goes.may c.in-Err-serve_asked.ensures.left
+    (c.body_use-plan.ensures ∙ ap (λ n. body_use n c.args.head.now c.in-Ok.asked) (ap (λ (s : SettingsView). s.largest) c.settings.view_is)) c.is_bodiless-bodiless.ensures (c.closes-close.ensures ∙ ap (closes c.args.k c.args.head.now) c.is_unread.ensures) (g.D.Door.found c.serve_asked.new.connection.door.now) c.in-Err-serve_asked.fault c.requires.goes.may c.in-Err-serve_asked.ensures.left
 
 pub returns-in-Ok-Cut-clause-turn : goal.returns-in-Ok-Cut-clause-turn
 returns-in-Ok-Cut-clause-turn g c x reads =

@@ -16,8 +16,8 @@ pub returns-in-Err-vec-clause-served : goal.returns-in-Err-vec-clause-served
 returns-in-Err-vec-clause-served g c =
     nothing_served g.D.Door.tells g.D.Door.alone (site_of c.args.settings.now c.args.zone) (g.D.Door.found c.args.door.now) (g.D.Door.told c.args.door.now) _ faults.OutOfMemory c.requires.may refl
 
-pub serve_requests-requires-clause-goes : goal.serve_requests-requires-clause-goes
-serve_requests-requires-clause-goes g c κs within =
+pub serve_parts-requires-clause-goes : goal.serve_parts-requires-clause-goes
+serve_parts-requires-clause-goes g c κs within =
     let long = ap length c.deref_mut.ensures.value in
     record {
       site = record { low = c.requires.low; high = c.requires.high; same = c.requires.same; user_is = c.in-Ok.ensures.user };

@@ -2,7 +2,7 @@ use Rattle.index_update.proofs.ChangingNeeds.{may_prepare, may_announce, may_wri
 use Rattle.index_update.proofs.laws.an_update_may_go_on.Goals as goal
 
 pub returns-clause-prepare : goal.returns-clause-prepare
-returns-clause-prepare c = λ settings r x key change k low high fits. may_prepare settings r x k low high key change fits
+returns-clause-prepare c = λ settings r x key change k low high named fits. may_prepare settings r x k low high key change named fits
 
 pub returns-clause-announce : goal.returns-clause-announce
 returns-clause-announce c = λ settings r x key guard change k low high fits. may_announce settings r x k low high key guard change fits

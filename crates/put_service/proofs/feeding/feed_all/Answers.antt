@@ -1,10 +1,13 @@
-use Rattle.std.proofs.Common.{rules, ◌-◌, true, false, Bool, [], ◌++◌, take, drop, length, refl, sym, ◌∙◌, subst}
+use Rattle.std.proofs.Common.{rules, ◌-◌, true, false, Bool, [], ◌++◌, take, drop, length, refl, sym, ap, ◌∙◌, subst}
 use Rattle.realm_model.specs.Settings.{SettingsView}
 use Rattle.task_put.specs.Runs.{request_of}
 use Rattle.door_moments.specs.Acts.{Asks}
 use Rattle.door_moments.proofs.Asking.{none_asks, both_ask}
 use Rattle.put_service.specs.Standing.{IsUp, PausesAt, is_untold}
 use Rattle.put_service.specs.declared.stepping.Pause.{Pause}
+use Rattle.task_put.specs.Tasks.{request_of as stages_request}
+use Rattle.put_service.specs.Parts.{HasDone}
+use Rattle.put_service.proofs.Doing.{has_done, done_more}
 use Rattle.put_service.proofs.Joining.{fed_none, fed_behind, request_fed, seam, few_left}
 use Rattle.put_service.proofs.feeding.feed_all.Goals as goal
 
@@ -75,3 +78,23 @@ returns-in-Over-clause-taken g c =
       sym (seam i.so_far.0 c.parts.rest.now c.args.bytes.now c.in-Ok.count i.so_far.1),
       fed_behind (request_of c.args.task.now) (request_of c.parts.task) (request_of c.advance.new.task) i.so_far.0 part i.so_far.2 request,
     )
+
+pub returns-in_err-advance-clause-left : goal.returns-in_err-advance-clause-left
+returns-in_err-advance-clause-left g c =
+    let i = c.parts.invariant in
+    let r = request_of c.args.task.now in
+    let part = take c.in-Ok.count c.parts.rest.now in
+    let rest = take (length c.parts.rest.now - c.in-Ok.count) (drop c.in-Ok.count c.parts.rest.now) in
+    let request = ap stages_request c.in-Ok.ensures.task in
+    let so = fed_behind r (request_of c.parts.task) (stages_request c.feed.new.self) i.so_far.0 part i.so_far.2 request in
+    let done = subst (λ (s : SettingsView). HasDone g.D.Door.tells s (stages_request c.feed.new.self) (g.D.Door.told c.advance.new.door)) i.settings c.in_err-advance.ensures.left in
+    let left = done_more g.D.Door.tells (g.D.Door.settings c.args.door.now) r (stages_request c.feed.new.self) (g.D.Door.told c.advance.new.door) c.requires.open c.args.bytes.now (i.so_far.0 ++ part) rest
+    (sym (seam i.so_far.0 c.parts.rest.now c.args.bytes.now c.in-Ok.count i.so_far.1)) so done in
+    search (rules, left)
+
+pub returns-in_default-clause-left : goal.returns-in_default-clause-left
+returns-in_default-clause-left g c =
+    let i = c.parts.invariant in
+    let r = request_of c.args.task.now in
+    let done = has_done g.D.Door.tells (g.D.Door.settings c.args.door.now) c.parts.task (g.D.Door.told c.parts.door) i.sound (λ tells. (i.up tells).1) in
+    done_more g.D.Door.tells (g.D.Door.settings c.args.door.now) r (request_of c.parts.task) (g.D.Door.told c.parts.door) c.requires.open c.args.bytes.now i.so_far.0 c.parts.rest.now (sym i.so_far.1) i.so_far.2 done

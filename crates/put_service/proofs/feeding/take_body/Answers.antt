@@ -1,26 +1,37 @@
-use Rattle.std.proofs.Common.{◌≡◌, inl, ◌≤◌, ◌+◌, rules, true, false, ℕ, List, [], ◌++◌, take, length, refl, sym, ap, ◌∙◌, subst, arith, append_assoc, length-append}
+use Rattle.std.proofs.Common.{◌≡◌, ◌≤◌, ◌+◌, rules, true, false, ℕ, List, [], None, ◌++◌, take, length, refl, sym, ap, ◌∙◌, subst, arith, append_assoc, length-append}
+use Rattle.std.proofs.lemmas.List.{append-nil}
 use Rattle.realm_model.specs.Settings.{SettingsView}
 use Rattle.task_put.specs.declared.stage.PutRequest.{PutRequest}
 use Rattle.task_put.specs.Bodies.{most_bytes}
 use Rattle.task_put.specs.Runs.{request_of}
 use Rattle.task_put.specs.Taking.{fed_request}
-use Rattle.http_chunks.specs.declared.body.BodyEnd.TheVariants as End
 use Rattle.call_service.specs.Bodies.{most_due}
 use Rattle.door_moments.specs.Acts.{Asks}
 use Rattle.door_moments.proofs.Asking.{both_ask}
-use Rattle.call_service.proofs.Passing.{none_given, give_more, break_behind, end_behind}
+use Rattle.call_service.proofs.Passing.{none_given, give_more, end_behind}
+use Rattle.call_service.specs.Serving.{body_of}
 use Rattle.put_service.specs.declared.stepping.Pause.{Pause}
 use Rattle.put_service.specs.Standing.{IsUp, PausesAt, is_untold}
-use Rattle.put_service.specs.Parts.{TakesBytes, place}
+use Rattle.put_service.specs.Parts.{HasDone, TakesBytes, place}
+use Rattle.put_service.proofs.Doing.{has_done, done_of}
 use Rattle.put_service.proofs.Joining.{fed_none, fed_behind, step_stops}
 use Rattle.put_service.proofs.feeding.take_body.Goals as goal
 
 pub returns-in_err-pause-clause-fault : goal.returns-in_err-pause-clause-fault
 returns-in_err-pause-clause-fault g c =
-    let stops = step_stops g.D.Door.tells g.D.Door.alone (g.D.Door.settings c.args.door.now) (g.D.Door.found c.advance.new.door) _
+    let settings = g.D.Door.settings c.args.door.now in
+    let r = request_of c.args.task.now in
+    let stops = step_stops g.D.Door.tells g.D.Door.alone settings r (g.D.Door.found c.advance.new.door) _
     (place (g.D.Door.told c.args.door.now) c.args.intake.now (g.S.Source.left c.args.source.now) (g.C.Clock.told c.args.clock.now))
     (place (g.D.Door.told c.advance.new.door) c.args.intake.now (g.S.Source.left c.args.source.now) (g.C.Clock.told c.advance.new.clock))
-    true c.in_err-pause.ensures.fault (inl ([], none_given c.args.intake.now (g.S.Source.left c.args.source.now) c.requires.intake)) c.in_err-pause.ensures.stopped in
+    c.in_err-pause.ensures.fault
+    (record {
+      body = body_of [];
+      came = none_given c.args.intake.now (g.S.Source.left c.args.source.now) c.requires.intake;
+      more = true;
+      asks = c.in_err-pause.ensures.stopped;
+      so_far = done_of g.D.Door.tells settings r r (g.D.Door.told c.advance.new.door) c.requires.none c.requires.open [] [] [] None refl (sym (fed_none r)) c.in_err-pause.ensures.left;
+    }) in
     search (rules, stops)
 
 pub returns-in-Over-clause-taken : goal.returns-in-Over-clause-taken
@@ -64,10 +75,21 @@ returns-in_err-feed_all-in-Bytes-clause-fault g c =
     let asks = both_ask g.D.Door.tells g.D.Door.alone settings (g.D.Door.settings c.pieces.door) refused.0 (g.D.Door.told c.args.door.now) (g.D.Door.told c.pieces.door) (g.D.Door.told c.feed_all.new.door) (g.C.Clock.told c.args.clock.now) (g.C.Clock.told c.pieces.clock) (g.C.Clock.told c.feed_all.new.clock)
     i.settings i.asks refused.1 in
     let gives = give_more c.args.intake.now c.pieces.intake (g.S.Source.left c.args.source.now) (g.S.Source.left c.pieces.source) (g.S.Source.left c.next_piece.new.source) i.so_far.0 piece c.next_piece.new.intake i.so_far.1 c.in-Bytes.ensures.passed.0 in
-    let stops = step_stops g.D.Door.tells g.D.Door.alone settings (g.D.Door.found c.feed_all.new.door) _
+    let r = request_of c.args.task.now in
+    let given = i.so_far.0 ++ piece in
+    let request : fed_request (request_of c.pieces.task) piece ≡ fed_request r given = fed_behind r (request_of c.pieces.task) _ i.so_far.0 piece i.so_far.2 refl in
+    let done = subst (λ (s : SettingsView). HasDone g.D.Door.tells s (fed_request (request_of c.pieces.task) piece) (g.D.Door.told c.feed_all.new.door)) i.settings c.in_err-feed_all-in-Bytes.ensures.left in
+    let stops = step_stops g.D.Door.tells g.D.Door.alone settings r (g.D.Door.found c.feed_all.new.door) _
     (place (g.D.Door.told c.args.door.now) c.args.intake.now (g.S.Source.left c.args.source.now) (g.C.Clock.told c.args.clock.now))
     (place (g.D.Door.told c.feed_all.new.door) c.next_piece.new.intake (g.S.Source.left c.next_piece.new.source) (g.C.Clock.told c.feed_all.new.clock))
-    refused.0 c.in_err-feed_all-in-Bytes.ensures.fault (inl (i.so_far.0 ++ piece, gives)) asks in
+    c.in_err-feed_all-in-Bytes.ensures.fault
+    (record {
+      body = body_of given;
+      came = gives;
+      more = refused.0;
+      asks = asks;
+      so_far = done_of g.D.Door.tells settings r (fed_request (request_of c.pieces.task) piece) (g.D.Door.told c.feed_all.new.door) c.requires.none c.requires.open given given [] None (sym (append-nil given)) request done;
+    }) in
     search (rules, stops)
 
 pub returns-then-not-branch-clause-taken : goal.returns-then-not-branch-clause-taken
@@ -131,13 +153,20 @@ pub returns-in-Ended-clause-taken : goal.returns-in-Ended-clause-taken
 returns-in-Ended-clause-taken g c =
     let i = c.pieces.invariant in (
       i.so_far.0 ++ [],
-      end_behind c.args.intake.now c.pieces.intake (g.S.Source.left c.args.source.now) (g.S.Source.left c.pieces.source) (g.S.Source.left c.next_piece.new.source) i.so_far.0 c.next_piece.new.intake c.in-Ended.end i.so_far.1 c.in-Ended.ensures.passed,
+      end_behind c.args.intake.now c.pieces.intake (g.S.Source.left c.args.source.now) (g.S.Source.left c.pieces.source) (g.S.Source.left c.next_piece.new.source) i.so_far.0 c.next_piece.new.intake [] c.in-Ended.end i.so_far.1 c.in-Ended.ensures.passed,
       (i.steady, i.wants, fed_behind (request_of c.args.task.now) (request_of c.pieces.task) (request_of c.pieces.task) i.so_far.0 [] i.so_far.2 (sym (fed_none (request_of c.pieces.task)))),
     )
 
 pub returns-in-Failed-clause-fault : goal.returns-in-Failed-clause-fault
 returns-in-Failed-clause-fault g c =
-    let i = c.pieces.invariant in (
-      break_behind c.args.intake.now c.pieces.intake (g.S.Source.left c.args.source.now) (g.S.Source.left c.pieces.source) (g.S.Source.left c.next_piece.new.source) i.so_far.0 End.Cut i.so_far.1 c.in-Failed.ensures.passed,
-      i.asks,
-    )
+    let i = c.pieces.invariant in
+    let settings = g.D.Door.settings c.args.door.now in
+    let r = request_of c.args.task.now in
+    let given = i.so_far.0 in
+    record {
+      given = given;
+      falls = record { between = c.pieces.intake; left = g.S.Source.left c.pieces.source; has_given = i.so_far.1; falls = c.in-Failed.ensures.passed };
+      asks = i.asks;
+      so_far = done_of g.D.Door.tells settings r (request_of c.pieces.task) (g.D.Door.told c.pieces.door) c.requires.none c.requires.open given given [] None (sym (append-nil given)) i.so_far.2
+          (has_done g.D.Door.tells settings c.pieces.task (g.D.Door.told c.pieces.door) i.sound (λ tells. (i.up tells).1));
+    }

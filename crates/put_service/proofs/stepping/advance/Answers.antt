@@ -1,4 +1,6 @@
-use Rattle.std.proofs.Common.{◌≡◌, rules, false, true, Option, None, refl, ◌∙◌, subst}
+use Rattle.std.proofs.Common.{◌≡◌, rules, false, true, Option, None, refl, ◌∙◌, subst, subst₂}
+use Rattle.task_put.specs.declared.stage.PutRequest.{PutRequest}
+use Rattle.put_service.specs.Parts.{HasDone}
 use Rattle.realm_model.specs.Settings.{SettingsView}
 use Rattle.door_moments.specs.Acts.{Asks}
 use Rattle.door_moments.proofs.Asking.{none_asks, both_ask}
@@ -24,6 +26,12 @@ returns-in_err-pause-clause-stopped g c =
     let asks = both_ask g.D.Door.tells g.D.Door.alone (g.D.Door.settings c.args.door.now) (g.D.Door.settings c.events.door) true (g.D.Door.told c.args.door.now) (g.D.Door.told c.events.door) (g.D.Door.told c.take_step.new.door) (g.C.Clock.told c.args.clock.now) (g.C.Clock.told c.events.clock) (g.C.Clock.told c.take_step.new.clock)
     i.settings i.asks c.in_err-pause.ensures.stopped in
     search (rules, asks)
+
+pub returns-in_err-pause-clause-left : goal.returns-in_err-pause-clause-left
+returns-in_err-pause-clause-left g c =
+    let i = c.events.invariant in
+    let left = subst₂ (λ (s : SettingsView) (q : PutRequest). HasDone g.D.Door.tells s q (g.D.Door.told c.take_step.new.door)) i.settings i.request c.in_err-pause.ensures.left in
+    search (rules, left)
 
 pub returns-in-Some-clause-asks : goal.returns-in-Some-clause-asks
 returns-in-Some-clause-asks g c =

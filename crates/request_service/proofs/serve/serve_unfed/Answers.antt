@@ -1,23 +1,184 @@
-use Rattle.std.proofs.Common.{rules, ◌≡◌, subst}
-use Rattle.std.specs.Prelude.{IfOk, IfErr}
-use Rattle.call_service.specs.Bodies.{dropped_if}
-use Rattle.call_service.specs.Serving.{IsServed, IsStopped, side}
+use Rattle.std.proofs.Common.{rules, ◌≡◌, ◌++◌, [], true, false, ap, ◌∙◌, refl, subst}
+use Rattle.std.proofs.KnownBytes.{Appends-nil, Consumes-nil}
+use Rattle.std.proofs.lemmas.Result.{err_from_is_err_and, IfOk-weaker, IfErr-weaker}
+use Rattle.std.specs.Io.KnownBytes.{Appends}
+use Rattle.swift_requests.specs.declared.body.BodyUse.TheVariants.{Dropped, Unread}
+use Rattle.call_words.specs.Bodies.{read_whole, broken_off, unread}
+use Rattle.call_words.specs.Calls.{body_at}
+use Rattle.call_words.proofs.Fates.{wrong_of}
+use Rattle.call_service.specs.Bodies.{DropsBody}
+use Rattle.call_service.specs.Faults.{fault_by_door}
+use Rattle.call_service.specs.Replying.{Replies, stand, StopsReply}
+use Rattle.call_service.specs.Serving.{BearsOut, BearsOutSoFar, body_of}
+use Rattle.call_service.proofs.Passing.{none_come, breaks_so}
+use Rattle.call_service.proofs.Replying.{event_stopped, row_stops, body_stops, reply_stops, replied, shut_form}
+use Rattle.door_moments.specs.Acts.{Asks}
+use Rattle.door_moments.proofs.Asking.{none_asks}
+use Rattle.request_service.specs.Early.{early_end, EndsEarly, LeavesEarly}
 use Rattle.request_service.specs.Requests.{site_of}
-use Rattle.request_service.proofs.Ends.{ends_at}
+use Rattle.request_service.proofs.Early.{BreaksEarly, served_early, stops_early}
+use Rattle.request_service.proofs.Ends.{at_site, stands_so}
+use Rattle.request_service.proofs.Texts.{unwanted}
+use Rattle.request_service.proofs.serve.serve_unfed.Given.{Over}
 use Rattle.request_service.proofs.serve.serve_unfed.Goals as goal
 
-pub returns-clause-served : goal.returns-clause-served
-returns-clause-served g c =
-    let settings = g.D.Door.settings c.args.door.now in
-    let same : g.T.Staged.command c.new-task.result.stages ≡ g.T.Staged.command c.args.request = search rules in
-    let x = side (g.D.Door.told c.args.door.now) c.args.intake.now (ends_at (g.S.Source.left c.args.source.now) (g.K.Sink.taken c.args.sink.now) (g.C.Clock.told c.args.clock.now) (g.C.Clock.plan c.args.clock.now) (g.S.Source.faults c.args.source.now) (g.K.Sink.faults c.args.sink.now)) in
-    let y = side (g.D.Door.told c.serve_new-served.new.door) c.serve_new-served.new.intake (ends_at (g.S.Source.left c.serve_new-served.new.source) (g.K.Sink.taken c.serve_new-served.new.sink) (g.C.Clock.told c.serve_new-served.new.clock) (g.C.Clock.plan c.serve_new-served.new.clock) (g.S.Source.faults c.serve_new-served.new.source) (g.K.Sink.faults c.serve_new-served.new.sink)) in
-    subst (λ k. IfOk c.serve_new-served.result (IsServed g.D.Door.tells g.D.Door.alone (site_of settings (g.T.Request.question k)) c.args.form (g.T.Request.question k).asked (dropped_if c.args.read) x y)) same c.serve_new-served.ensures.served
+-- ---- the body is left
 
-pub returns-clause-stopped : goal.returns-clause-stopped
-returns-clause-stopped g c =
-    let settings = g.D.Door.settings c.args.door.now in
-    let same : g.T.Staged.command c.new-task.result.stages ≡ g.T.Staged.command c.args.request = search rules in
-    let x = side (g.D.Door.told c.args.door.now) c.args.intake.now (ends_at (g.S.Source.left c.args.source.now) (g.K.Sink.taken c.args.sink.now) (g.C.Clock.told c.args.clock.now) (g.C.Clock.plan c.args.clock.now) (g.S.Source.faults c.args.source.now) (g.K.Sink.faults c.args.sink.now)) in
-    let y = side (g.D.Door.told c.serve_new-served.new.door) c.serve_new-served.new.intake (ends_at (g.S.Source.left c.serve_new-served.new.source) (g.K.Sink.taken c.serve_new-served.new.sink) (g.C.Clock.told c.serve_new-served.new.clock) (g.C.Clock.plan c.serve_new-served.new.clock) (g.S.Source.faults c.serve_new-served.new.source) (g.K.Sink.faults c.serve_new-served.new.sink)) in
-    subst (λ k. IfErr c.serve_new-served.result (IsStopped g.D.Door.tells g.D.Door.alone (site_of settings (g.T.Request.question k)) c.args.form (g.T.Request.question k).asked (dropped_if c.args.read) (g.D.Door.found c.serve_new-served.new.door) x y)) same c.serve_new-served.ensures.stopped
+pub returns-in_err-send_reply-clause-stopped : goal.returns-in_err-send_reply-clause-stopped
+returns-in_err-send_reply-clause-stopped g c =
+    let is : c.args.read ≡ false = search rules in
+    let none = none_asks g.D.Door.tells g.D.Door.alone _ _ (g.C.Clock.told c.args.connection.now.clock.now) (λ tells. (c.requires.ready.new tells).legal) in
+    let wants = unwanted _ (g.met.T.Request.unfed (g.T.Staged.command c.args.task.now.stages)) in
+    let p = err_from_is_err_and c.from_residual.result c.from_residual.ensures.1 in
+    rw (is, p.1, p.2)
+    (reply_stops _ _ _ _ _ Unread _ _ _ unread tt refl c.requires.ready.failed [] (refl, refl, Consumes-nil _) (shut_form c.args.form (c.requires.shut is)) wants
+    _ _ none c.in_err-send_reply.field-0.0 c.in_err-send_reply.ensures.stopped)
+
+pub returns-then-not-read-clause-served : goal.returns-then-not-read-clause-served
+returns-then-not-read-clause-served g c =
+    let is : c.args.read ≡ false = search rules in
+    let none = none_asks g.D.Door.tells g.D.Door.alone _ _ (g.C.Clock.told c.args.connection.now.clock.now) (λ tells. (c.requires.ready.new tells).legal) in
+    let wants = unwanted _ (g.met.T.Request.unfed (g.T.Staged.command c.args.task.now.stages)) in
+    rw is
+    (replied _ _ _ _ _ Unread (g.D.Door.found c.send_reply.new.door) _ _ unread tt refl c.requires.ready.failed [] (refl, refl, Consumes-nil _) (shut_form c.args.form (c.requires.shut is)) wants
+    _ _ none c.in_ok-send_reply.ensures.asks c.in_ok-send_reply.ensures.written)
+
+-- ---- the row, and the body dropped
+
+pub returns-in_err-act-clause-stopped : goal.returns-in_err-act-clause-stopped
+returns-in_err-act-clause-stopped g c =
+    let now = c.in_err-act.ensures in
+    let ready = c.requires.ready in
+    let tells = g.D.Door.tells in
+    let t = c.args.task.now.stages in
+    let q = g.T.Request.question (g.T.Staged.command t) in
+    let settings = g.D.Door.settings c.args.connection.now.door.now in
+    let d = g.D.Door.told c.args.connection.now.door.now in
+    let found = g.D.Door.found c.act.new.door in
+    let is : c.args.read ≡ true = search rules in
+    let so_far : tells → BearsOutSoFar (record { settings = settings; zone = q.zone; asker = q.asker }) q.asked (body_of []) (g.D.Door.told c.act.new.door) =
+    λ is. rw (now.stays is) (g.met.T.Request.so_far t settings d (body_of []) (c.requires.fits settings d ready.low ready.high (ready.new is).account (ready.new is).events)) in
+    let p = err_from_is_err_and c.from_residual-in_err-act.result c.from_residual-in_err-act.ensures.1 in
+    rw (is, p.1, p.2)
+    (row_stops tells g.D.Door.alone _ _ _ Dropped found _ _ (body_of []) (fault_by_door c.in_err-act.field-0.0) (event_stopped tells found c.in_err-act.field-0.0 now.worn)
+    (none_come Dropped _ _ ready.failed)
+    (record { unwritten = Appends-nil _; asks = now.unasked; so_far = so_far }))
+
+pub returns-in_err-why-clause-stopped : goal.returns-in_err-why-clause-stopped
+returns-in_err-why-clause-stopped g c =
+    let before = c.in_ok-act.ensures in
+    let tells = g.D.Door.tells in
+    let u = c.act.new.task.stages in
+    let k = g.T.Staged.command c.args.task.now.stages in
+    let settings = g.D.Door.settings c.args.connection.now.door.now in
+    let d = g.D.Door.told c.act.new.door in
+    let is : c.args.read ≡ true = search rules in
+    let fits : tells → g.T.Staged.fits u settings d = λ is. stands_so c.act.new.task.fault (g.T.Staged.fits u settings d) before.sound (before.up is).1 in
+    let p = err_from_is_err_and c.from_residual-in_err-why.result c.from_residual-in_err-why.ensures.1 in
+    rw (is, p.1, p.2)
+    (body_stops tells g.D.Door.alone _ _ _ Dropped (g.D.Door.found c.act.new.door) _ _ c.in_err-why.field-0.0 refl c.requires.ready.failed c.in_err-why.ensures.err
+    (record {
+      unwritten = Appends-nil _;
+      asks = before.asks;
+      so_far = λ is. at_site g.T.Request.question (λ s a. BearsOutSoFar s a (body_of []) d) settings settings k (g.T.Staged.command u) refl before.command (g.met.T.Request.so_far u settings d (body_of []) (fits is));
+    }))
+
+-- ---- the reply behind a whole body
+
+pub send_reply-requires-in-Whole-clause-none : goal.send_reply-requires-in-Whole-clause-none
+send_reply-requires-in-Whole-clause-none g c κs within = λ is.
+    let before = c.in_ok-act.ensures in
+    let settings = g.D.Door.settings c.args.connection.now.door.now in
+    let t = c.args.task.now.stages in
+    let u = c.act.new.task.stages in
+    let k = g.T.Staged.command t in
+    let d = g.D.Door.told c.args.connection.now.door.now in
+    let e = g.D.Door.told c.act.new.door in
+    let fits = stands_so c.act.new.task.fault (g.T.Staged.fits u settings e) before.sound (before.up is).1 in
+    let brought : g.T.Request.brought k e ≡ g.T.Request.brought k d ++ g.T.Staged.piece u = g.met.T.Request.brings t u settings d e (before.made is).0 before.command fits (before.made is).1 in
+    let none : g.T.Request.brought k d ≡ [] = g.met.T.Request.unbrought k d (c.requires.ready.new is).events in
+    let first : g.T.Staged.piece u ≡ [] = g.met.T.Request.first t u before.steps c.requires.begins in
+    ap (λ k. g.T.Request.brought k e) before.command ∙ brought ∙ (λ i. none i ++ first i)
+
+pub returns-in_err-send_reply-in-Whole-clause-stopped : goal.returns-in_err-send_reply-in-Whole-clause-stopped
+returns-in_err-send_reply-in-Whole-clause-stopped g c =
+    let before = c.in_ok-act.ensures in
+    let k = g.T.Staged.command c.args.task.now.stages in
+    let settings = g.D.Door.settings c.args.connection.now.door.now in
+    let x = stand (g.D.Door.told c.act.new.door) (g.K.Sink.taken c.args.connection.now.sink.now) (g.C.Clock.told c.act.new.clock) in
+    let y = stand (g.D.Door.told c.send_reply-in-Whole.new.door) (g.K.Sink.taken c.send_reply-in-Whole.new.sink) (g.C.Clock.told c.send_reply-in-Whole.new.clock) in
+    let found = g.D.Door.found c.send_reply-in-Whole.new.door in
+    let fault = c.in_err-send_reply-in-Whole.field-0.0 in
+    let is : c.args.read ≡ true = search rules in
+    let body = subst (DropsBody _ _ _ _) c.in-Whole.is c.in_ok-why.ensures.dropped in
+    let stops = at_site g.T.Request.question (λ s a. StopsReply g.D.Door.tells g.D.Door.alone s c.args.form a found x y fault) settings (g.D.Door.settings c.act.new.door) k (g.T.Staged.command c.act.new.task.stages) before.settings before.command c.in_err-send_reply-in-Whole.ensures.stopped in
+    let p = err_from_is_err_and c.from_residual-in_err-send_reply-in-Whole.result c.from_residual-in_err-send_reply-in-Whole.ensures.1 in
+    rw (is, p.1, p.2)
+    (reply_stops _ _ _ _ _ Dropped found _ _ read_whole tt refl c.requires.ready.failed body.0 body.1 refl (unwanted _ (g.met.T.Request.unfed k)) _ _ before.asks fault stops)
+
+pub returns-in_ok-send_reply-in-Whole-clause-served : goal.returns-in_ok-send_reply-in-Whole-clause-served
+returns-in_ok-send_reply-in-Whole-clause-served g c =
+    let before = c.in_ok-act.ensures in
+    let now = c.in_ok-send_reply-in-Whole.ensures in
+    let k = g.T.Staged.command c.args.task.now.stages in
+    let settings = g.D.Door.settings c.args.connection.now.door.now in
+    let e = g.D.Door.told c.send_reply-in-Whole.new.door in
+    let grown = Appends (g.K.Sink.taken c.args.connection.now.sink.now) (g.K.Sink.taken c.send_reply-in-Whole.new.sink) in
+    let is : c.args.read ≡ true = search rules in
+    let body = subst (DropsBody _ _ _ _) c.in-Whole.is c.in_ok-why.ensures.dropped in
+    let reply = at_site g.T.Request.question (λ s a. Replies g.D.Door.tells s c.args.form a e grown) settings (g.D.Door.settings c.act.new.door) k (g.T.Staged.command c.act.new.task.stages) before.settings before.command now.written in
+    let asks = subst (λ s. Asks g.D.Door.tells g.D.Door.alone s false (g.D.Door.told c.act.new.door) e (g.C.Clock.told c.act.new.clock) (g.C.Clock.told c.send_reply-in-Whole.new.clock)) before.settings now.asks in
+    rw is
+    (replied _ _ _ _ _ Dropped (g.D.Door.found c.send_reply-in-Whole.new.door) _ _ read_whole tt refl c.requires.ready.failed body.0 body.1 refl (unwanted _ (g.met.T.Request.unfed k)) _ _ before.asks asks reply)
+
+-- ---- the reply behind a body that broke off
+
+broke_off : (g : Over) (c : goal.After-end_early g)
+    → BreaksEarly g.D.Door.tells (site_of (g.D.Door.settings c.args.connection.now.door.now) (g.T.Request.question (g.T.Staged.command c.args.task.now.stages))) (g.T.Request.question (g.T.Staged.command c.args.task.now.stages)).asked c.in_ok-why.why
+    (g.T.Request.is_broken c.act.new.task.stages) (early_end (g.T.Request.ended c.act.new.task.stages)) c.args.connection.now.intake.now c.drop_body.new.intake (g.S.Source.left c.args.connection.now.source.now) (g.S.Source.left c.drop_body.new.source) (g.D.Door.told c.act.new.door)
+broke_off g c =
+    let before = c.in_ok-act.ensures in
+    let t = c.args.task.now.stages in
+    let u = c.act.new.task.stages in
+    let question = g.T.Request.question in
+    let settings = g.D.Door.settings c.args.connection.now.door.now in
+    let d = g.D.Door.told c.args.connection.now.door.now in
+    let e = g.D.Door.told c.act.new.door in
+    let why = c.in_ok-why.why in
+    let wrong = wrong_of why c.in_default.not-Whole c.in_default.not-Cut in
+    let broken = breaks_so _ _ _ _ why wrong c.in_ok-why.ensures.dropped in
+    let body = body_at (broken_off why) broken.0 in
+    let fits : g.D.Door.tells → g.T.Staged.fits u settings e = λ is. stands_so c.act.new.task.fault (g.T.Staged.fits u settings e) before.sound (before.up is).1 in
+    record {
+      wrong = wrong;
+      came = broken.0;
+      breaks = broken.1;
+      right = λ going is.
+          at_site question (λ s a. BearsOut s a (broken_off why) broken.0 (early_end (g.T.Request.ended u)) [] e) settings settings (g.T.Staged.command t) (g.T.Staged.command u) refl before.command
+          (g.met.T.Request.early t u settings d e (before.made is).0 why broken.0 c.requires.begins before.steps going (fits is) (c.requires.ready.new is) (before.made is).1 wrong);
+      so_far = λ is. at_site question (λ s a. BearsOutSoFar s a body e) settings settings (g.T.Staged.command t) (g.T.Staged.command u) refl before.command (g.met.T.Request.so_far u settings e body (fits is));
+    }
+
+pub returns-in_default-clause-served : goal.returns-in_default-clause-served
+returns-in_default-clause-served g c =
+    let before = c.in_ok-act.ensures in
+    let u = c.act.new.task.stages in
+    let why = c.in_ok-why.why in
+    let is : c.args.read ≡ true = search rules in
+    rw is
+    (IfOk-weaker c.end_early.result _ _
+    (λ served early. served_early _ _ _ _ _ (g.D.Door.found c.act.new.door) _ _ _ before.asks (λ is. (before.up is).0) c.requires.ready.failed why (g.T.Request.is_broken u) (g.T.Request.ended u) (broke_off g c) served
+    (subst (λ k. EndsEarly c.args.form (g.T.Request.question k).asked why (g.T.Request.is_broken u) (early_end (g.T.Request.ended u)) (g.K.Sink.taken c.args.connection.now.sink.now) (g.K.Sink.taken c.end_early.new.sink) (g.C.Clock.told c.act.new.clock) (g.C.Clock.told c.end_early.new.clock) served) before.command early))
+    c.end_early.ensures.ended)
+
+pub returns-in_default-clause-stopped : goal.returns-in_default-clause-stopped
+returns-in_default-clause-stopped g c =
+    let before = c.in_ok-act.ensures in
+    let u = c.act.new.task.stages in
+    let why = c.in_ok-why.why in
+    let is : c.args.read ≡ true = search rules in
+    rw is
+    (IfErr-weaker c.end_early.result _ _
+    (λ fault left. stops_early _ _ _ _ _ (g.D.Door.found c.act.new.door) _ _ _ before.asks (λ is. (before.up is).0) c.requires.ready.failed why (g.T.Request.is_broken u) (g.T.Request.ended u) (broke_off g c) fault
+    (subst (λ k. LeavesEarly c.args.form (g.T.Request.question k).asked why (g.T.Request.is_broken u) (early_end (g.T.Request.ended u)) (g.K.Sink.taken c.args.connection.now.sink.now) (g.K.Sink.taken c.end_early.new.sink) (g.C.Clock.told c.act.new.clock) (g.C.Clock.told c.end_early.new.clock) fault) before.command left))
+    c.end_early.ensures.left)

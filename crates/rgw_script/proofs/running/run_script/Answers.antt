@@ -1,3 +1,4 @@
+use Rattle.std.proofs.Common.{◌∙◌}
 use Rattle.std.proofs.lemmas.Result.{err_from_is_err_and}
 use Rattle.rgw_script.proofs.Containers.{unbegun, unmade_counts, opens, opens_holds, runs_on}
 use Rattle.rgw_script.specs.Runs.{opening}
@@ -28,7 +29,7 @@ returns-in_err-make_planned-clause-cause g c =
     rw (p.1, p.2) (unmade_counts c.args.settings.now c.args.plan.now _ (g.S.Source.faults c.args.input.now) (g.K.Sink.faults c.args.output.now) c.in_err-make_planned.field-0.0 c.in_err-make_planned.ensures.stopped)
 
 pub play_lines-requires-clause-holds : goal.play_lines-requires-clause-holds
-play_lines-requires-clause-holds g c = opens_holds c.args.settings.now c.args.plan.now c.new-2.result c.in_ok-asker.asker c.make_planned.new.realm c.new-2.ensures c.in_ok-make_planned.ensures.open c.in_ok-make_planned.ensures.below
+play_lines-requires-clause-holds g c = opens_holds c.args.settings.now c.args.plan.now c.new.result c.in_ok-asker.asker c.make_planned.new.realm c.new.ensures c.in_ok-make_planned.ensures.open c.in_ok-make_planned.ensures.below
 
 pub returns-clause-runs : goal.returns-clause-runs
-returns-clause-runs g c = runs_on _ _ _ _ _ _ _ _ _ (opens c.args.settings.now c.args.plan.now c.new-2.result c.in_ok-asker.asker c.make_planned.new.realm.history c.new-2.ensures c.in_ok-make_planned.ensures.made) c.play_lines.ensures.runs
+returns-clause-runs g c = runs_on _ _ _ _ _ _ _ _ _ (opens c.args.settings.now c.args.plan.now c.new.result c.in_ok-asker.asker c.make_planned.new.realm.history (c.in_ok-asker.ensures.cases ∙ c.first_user.ensures) c.new.ensures c.in_ok-make_planned.ensures.made) c.play_lines.ensures.runs

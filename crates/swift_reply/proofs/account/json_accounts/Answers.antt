@@ -3,7 +3,7 @@ use Rattle.std.proofs.lemmas.List.{take_all}
 use Rattle.json.specs.Token as json
 use Rattle.json.specs.Token.{Token}
 use Rattle.json.specs.Print.{print}
-use Rattle.swift_reply.specs.declared.row.AccountRow.{AccountRow}
+use Rattle.list_words.specs.declared.row.AccountRow.{AccountRow}
 use Rattle.swift_reply.specs.Listings.{account_row_data}
 use Rattle.swift_reply.proofs.Tokens.{tokens_of, rows_print}
 use Rattle.swift_reply.proofs.account.json_accounts.Goals as goal

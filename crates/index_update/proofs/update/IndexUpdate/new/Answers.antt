@@ -7,5 +7,5 @@ use Rattle.index_update.proofs.update.IndexUpdate.new.Goals as goal
 
 pub returns-clause-fits : goal.returns-clause-fits
 returns-clause-fits c = λ settings d may.
-    subst (λ u. fits (start_at turned c.args.change settings d) u settings d) (sym c.begun.ensures)
-    (looking_begins settings (known_at settings d) c.args.target c.args.change may)
+    subst (λ u. fits (start_at turned c.args.change settings d) u settings d) (sym c.begun.ensures.update)
+    (looking_begins settings (known_at settings d) c.args.target c.args.change c.begun.ensures.named may)

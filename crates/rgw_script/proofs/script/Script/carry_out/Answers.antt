@@ -1,13 +1,15 @@
 use Rattle.std.proofs.Common.{subst}
 use Rattle.rgw_script.specs.Stages.{IsOpen, HasEnded}
-use Rattle.rgw_script.proofs.Playing.{any_err, begun_do, OthersStand, done_holds, done_so}
+use Rattle.rgw_script.proofs.Playing.{any_err, broke_off, ended_first, begun_do, OthersStand, done_holds, done_so}
 use Rattle.rgw_script.proofs.script.Script.carry_out.Goals as goal
 
 pub returns-in_err-finish-clause-begun : goal.returns-in_err-finish-clause-begun
-returns-in_err-finish-clause-begun c = any_err _ _ (begun_do c.args.self.now c.args.zone c.args.verb c.in_ok-active.active _ _ _ c.in_ok-active.ensures.role c.in_err-finish.ensures.acted)
+returns-in_err-finish-clause-begun c = any_err _ _ (begun_do c.args.settings.now c.args.self.now c.args.zone c.args.verb c.in_ok-active.active _ _ _ c.in_ok-active.ensures.role
+    (broke_off _ c.args.self.now c.in_ok-active.active _ _ _ c.in_err-finish.ensures.acted _ c.requires.holds.is_open.settings_are c.in_err-finish.ensures.broken))
 
 pub returns-in_err-push_ending-clause-begun : goal.returns-in_err-push_ending-clause-begun
-returns-in_err-push_ending-clause-begun c = any_err _ _ (begun_do c.args.self.now c.args.zone c.args.verb c.in_ok-active.active _ _ _ c.in_ok-active.ensures.role c.in_ok-finish.ensures.acted)
+returns-in_err-push_ending-clause-begun c = any_err _ _ (begun_do c.args.settings.now c.args.self.now c.args.zone c.args.verb c.in_ok-active.active _ _ _ c.in_ok-active.ensures.role
+    (ended_first _ c.args.self.now c.in_ok-active.active _ _ _ c.in_ok-finish.ensures.acted c.finish.new.self c.in_ok-finish.ensures.role _ c.requires.holds.is_open.settings_are c.in_ok-finish.ensures.ended c.push_ending.ensures))
 
 pub returns-clause-holds : goal.returns-clause-holds
 returns-clause-holds c =

@@ -1,6 +1,6 @@
 use Rattle.std.proofs.Common.{subst, Some}
 use Rattle.rgw_script.specs.Stages.{IsOpen, HasEnded}
-use Rattle.rgw_script.proofs.Playing.{Takes, taken_holds, stood_there, part_taken, any_err, begun_run, OthersStand, out_holds, ran_out}
+use Rattle.rgw_script.proofs.Playing.{Takes, taken_holds, stood_there, part_taken, any_err, broke_off, ended_first, begun_run, OthersStand, out_holds, ran_out}
 use Rattle.rgw_script.proofs.script.Script.run.Goals as goal
 
 pub returns-in_default-clause-holds : goal.returns-in_default-clause-holds
@@ -12,12 +12,14 @@ finish-requires-clause-stands c = stood_there c.args.settings.now c.args.self.no
     (record { who = c.in-Some.ensures.who; gone = c.in-Some.ensures.gone; kept = c.in-Some.ensures.kept }) c.requires.holds
 
 pub returns-in_err-finish-clause-begun : goal.returns-in_err-finish-clause-begun
-returns-in_err-finish-clause-begun c = any_err _ _ (begun_run c.args.self.now c.take.new.self c.args.name c.in-Some.active _ _ _
-    (record { who = c.in-Some.ensures.who; gone = c.in-Some.ensures.gone; kept = c.in-Some.ensures.kept }) c.in_err-finish.ensures.acted)
+returns-in_err-finish-clause-begun c = any_err _ _ (begun_run c.args.settings.now c.args.self.now c.take.new.self c.args.name c.in-Some.active _ _ _
+    (record { who = c.in-Some.ensures.who; gone = c.in-Some.ensures.gone; kept = c.in-Some.ensures.kept })
+    (broke_off _ c.args.self.now c.in-Some.active _ _ _ c.in_err-finish.ensures.acted _ c.requires.holds.is_open.settings_are c.in_err-finish.ensures.broken))
 
 pub returns-in_err-push_named_ending-clause-begun : goal.returns-in_err-push_named_ending-clause-begun
-returns-in_err-push_named_ending-clause-begun c = any_err _ _ (begun_run c.args.self.now c.take.new.self c.args.name c.in-Some.active _ _ _
-    (record { who = c.in-Some.ensures.who; gone = c.in-Some.ensures.gone; kept = c.in-Some.ensures.kept }) c.in_ok-finish.ensures.acted)
+returns-in_err-push_named_ending-clause-begun c = any_err _ _ (begun_run c.args.settings.now c.args.self.now c.take.new.self c.args.name c.in-Some.active _ _ _
+    (record { who = c.in-Some.ensures.who; gone = c.in-Some.ensures.gone; kept = c.in-Some.ensures.kept })
+    (ended_first _ c.args.self.now c.in-Some.active _ _ _ c.in_ok-finish.ensures.acted c.finish.new.self c.in_ok-finish.ensures.role _ c.requires.holds.is_open.settings_are c.in_ok-finish.ensures.ended c.push_named_ending.ensures))
 
 pub returns-clause-holds : goal.returns-clause-holds
 returns-clause-holds c =

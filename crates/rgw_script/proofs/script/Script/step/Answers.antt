@@ -1,7 +1,7 @@
-use Rattle.std.proofs.Common.{subst, inl, inr, Some}
+use Rattle.std.proofs.Common.{refl, subst, inl, inr, Some}
 use Rattle.script_player.specs.declared.player.Gone.TheVariants.{Short, Ended}
 use Rattle.rgw_script.specs.Stages.{IsOpen}
-use Rattle.rgw_script.proofs.Playing.{Takes, taken_holds, stood_there, part_taken, any_err, begun_step, acted_some, acted_as, stands_as, OthersStand, out_holds, back_holds, ran_out, stepped}
+use Rattle.rgw_script.proofs.Playing.{Takes, taken_holds, stood_there, part_taken, any_err, broke_off, ended_first, went_first, begun_step, acted_some, acted_as, stands_as, OthersStand, out_holds, back_holds, ran_out, stepped}
 use Rattle.rgw_script.proofs.script.Script.step.Goals as goal
 
 pub returns-in_default-clause-holds : goal.returns-in_default-clause-holds
@@ -13,20 +13,27 @@ act-requires-clause-stands c = stood_there c.args.settings.now c.args.self.now c
     (record { who = c.in-Some.ensures.who; gone = c.in-Some.ensures.gone; kept = c.in-Some.ensures.kept }) c.requires.holds
 
 pub returns-in_err-act-clause-begun : goal.returns-in_err-act-clause-begun
-returns-in_err-act-clause-begun c = any_err _ _ (begun_step c.args.self.now c.take.new.self c.args.name c.in-Some.active c.args.events _ _
-    (record { who = c.in-Some.ensures.who; gone = c.in-Some.ensures.gone; kept = c.in-Some.ensures.kept }) c.in_err-act.ensures.stopped)
+returns-in_err-act-clause-begun c = any_err _ _ (begun_step c.args.settings.now c.args.self.now c.take.new.self c.args.name c.in-Some.active c.args.events _ _
+    (record { who = c.in-Some.ensures.who; gone = c.in-Some.ensures.gone; kept = c.in-Some.ensures.kept })
+    (broke_off _ c.args.self.now c.in-Some.active _ _ _ c.in_err-act.ensures.stopped _ c.requires.holds.is_open.settings_are c.in_err-act.ensures.broken))
 
 pub returns-in_err-push_named_ending-in-Ended-clause-begun : goal.returns-in_err-push_named_ending-in-Ended-clause-begun
-returns-in_err-push_named_ending-in-Ended-clause-begun c = any_err _ _ (begun_step c.args.self.now c.take.new.self c.args.name c.in-Some.active c.args.events _ _
-    (record { who = c.in-Some.ensures.who; gone = c.in-Some.ensures.gone; kept = c.in-Some.ensures.kept }) (acted_some _ _ _ _ _ _ c.in_ok-act.ensures.acted))
+returns-in_err-push_named_ending-in-Ended-clause-begun c = any_err _ _ (begun_step c.args.settings.now c.args.self.now c.take.new.self c.args.name c.in-Some.active c.args.events _ _
+    (record { who = c.in-Some.ensures.who; gone = c.in-Some.ensures.gone; kept = c.in-Some.ensures.kept })
+    (ended_first _ c.args.self.now c.in-Some.active _ _ _ (acted_some _ _ _ _ _ _ c.in_ok-act.ensures.acted) c.act.new.self c.in_ok-act.ensures.role _ c.requires.holds.is_open.settings_are
+    (stands_as _ Ended _ _ _ _ c.in-Ended.is refl c.in_ok-act.ensures.stands) c.push_named_ending.ensures))
 
 pub returns-in_err-push_count_line-in-Short-clause-begun : goal.returns-in_err-push_count_line-in-Short-clause-begun
-returns-in_err-push_count_line-in-Short-clause-begun c = any_err _ _ (begun_step c.args.self.now c.take.new.self c.args.name c.in-Some.active c.args.events _ _
-    (record { who = c.in-Some.ensures.who; gone = c.in-Some.ensures.gone; kept = c.in-Some.ensures.kept }) (acted_some _ _ _ _ _ _ c.in_ok-act.ensures.acted))
+returns-in_err-push_count_line-in-Short-clause-begun c = any_err _ _ (begun_step c.args.settings.now c.args.self.now c.take.new.self c.args.name c.in-Some.active c.args.events _ _
+    (record { who = c.in-Some.ensures.who; gone = c.in-Some.ensures.gone; kept = c.in-Some.ensures.kept })
+    (went_first _ c.args.self.now c.in-Some.active _ _ _ (acted_some _ _ _ _ _ _ c.in_ok-act.ensures.acted) c.act.new.self c.in_ok-act.ensures.role
+    (stands_as _ Short _ _ _ _ c.in-Short.is c.requires.holds.is_open.settings_are c.in_ok-act.ensures.stands)))
 
 pub returns-in_err-put-in-Short-clause-begun : goal.returns-in_err-put-in-Short-clause-begun
-returns-in_err-put-in-Short-clause-begun c = any_err _ _ (begun_step c.args.self.now c.take.new.self c.args.name c.in-Some.active c.args.events _ _
-    (record { who = c.in-Some.ensures.who; gone = c.in-Some.ensures.gone; kept = c.in-Some.ensures.kept }) (acted_some _ _ _ _ _ _ c.in_ok-act.ensures.acted))
+returns-in_err-put-in-Short-clause-begun c = any_err _ _ (begun_step c.args.settings.now c.args.self.now c.take.new.self c.args.name c.in-Some.active c.args.events _ _
+    (record { who = c.in-Some.ensures.who; gone = c.in-Some.ensures.gone; kept = c.in-Some.ensures.kept })
+    (went_first _ c.args.self.now c.in-Some.active _ _ _ (acted_some _ _ _ _ _ _ c.in_ok-act.ensures.acted) c.act.new.self c.in_ok-act.ensures.role
+    (stands_as _ Short _ _ _ _ c.in-Short.is c.requires.holds.is_open.settings_are c.in_ok-act.ensures.stands)))
 
 pub returns-in_ok-push_named_ending-in-Ended-clause-holds : goal.returns-in_ok-push_named_ending-in-Ended-clause-holds
 returns-in_ok-push_named_ending-in-Ended-clause-holds c =

@@ -1,17 +1,7 @@
-use Rattle.std.proofs.Common.{rules, inl}
-use Rattle.script_player.specs.Going.{GoesUpTo}
-use Rattle.script_player.proofs.Going.{goes_once, up_to_still}
+use Rattle.std.proofs.Common.{inl}
+use Rattle.script_player.proofs.Going.{goes_once}
 use Rattle.script_player.proofs.Putting.{next_stands}
 use Rattle.script_player.proofs.put.PutPlayPlay.act.Goals as goal
-
-pub returns-in_err-event-clause-stopped : goal.returns-in_err-event-clause-stopped
-returns-in_err-event-clause-stopped g c =
-    let settings = g.D.Door.settings c.args.door.now in
-    let d = g.D.Door.told c.args.door.now in
-    let e = g.D.Door.told c.event.new.door in
-    let stopped : g.D.Door.tells → GoesUpTo g.D.Door.alone settings c.args.moment 1 d e =
-    λ tells. up_to_still g.D.Door.alone settings c.args.moment 1 d e (c.requires.legal tells) (c.in_err-event.ensures.stopped.0 tells) in
-    search (rules, stopped)
 
 pub returns-in_ok-event-clause-stands : goal.returns-in_ok-event-clause-stands
 returns-in_ok-event-clause-stands g c =

@@ -1,0 +1,4 @@
+pub mod Fronts
+pub mod Passing
+pub mod OnLiterals
+pub mod Rights

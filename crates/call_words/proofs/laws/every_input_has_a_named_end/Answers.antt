@@ -1,0 +1,5 @@
+use Rattle.call_words.proofs.EveryInput.{every_stream}
+use Rattle.call_words.proofs.laws.every_input_has_a_named_end.Goals as goal
+
+pub returns : goal.returns
+returns c left largest k bytes none = every_stream left largest k bytes none

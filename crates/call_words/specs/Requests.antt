@@ -1,0 +1,16 @@
+-- The requests of calls.
+use Rattle.std.specs.Prelude.{◌≡◌, ℕ, List, map}
+use Rattle.std.specs.List.{AllByRecursion}
+use Rattle.swift_requests.specs.Asks.{asked_of}
+use Rattle.call_words.specs.Calls.{Call}
+use Rattle.call_words.specs.Streams.{Taken}
+
+abbrev pub taken_of : Call → Taken
+taken_of call = record { request = call.request; fate = call.fate }
+
+abbrev pub requests_of : List Call → List Taken
+requests_of calls = map taken_of calls
+
+-- each call is what its head asks
+abbrev pub AreAsked : ℕ → List Call → Type 0
+AreAsked largest calls = AllByRecursion (λ call. call.asked ≡ asked_of largest call.request.head) calls

@@ -1,0 +1,4 @@
+pub mod Asking
+pub mod Counts
+pub mod Stages
+pub mod Tasks
