@@ -26,6 +26,7 @@ use Rattle.http_model.specs.Heads.{skip_breaks, EndsIn, EndsHead, IsHeadText, Ha
 use Rattle.http_model.specs.Streams.{IsBlank, IsCutHead, BreaksGrammar}
 use Rattle.http_model.proofs.PlainLemmas.{begun_not_blank}
 use Rattle.http_model.proofs.StreamLaws.{one_head}
+use Rattle.swift_auth.specs.Users.{UserView}
 use Rattle.swift_requests.specs.Bodies.{is_unread, is_awaited}
 use Rattle.swift_requests.specs.declared.body.BodyUse.{BodyUse}
 use Rattle.swift_requests.specs.declared.body.BodyUse.TheVariants.{Fed, Awaited, Dropped, Unread}
@@ -267,25 +268,25 @@ wrong_suits Awaited why is wrong = wrong
 wrong_suits Dropped why is wrong = wrong
 wrong_suits Unread why is wrong = absurd (cc)
 
-cut_request : (largest : ℕ) (bytes : List ℕ) (continued : Bool) → IsCutBody largest bytes continued → IsCutRequest largest bytes continued
-cut_request largest bytes true cut = cut
-cut_request largest bytes false cut = inr cut
+cut_request : (largest : ℕ) (users : List UserView) (bytes : List ℕ) (continued : Bool) → IsCutBody largest users bytes continued → IsCutRequest largest users bytes continued
+cut_request largest users bytes true cut = cut
+cut_request largest users bytes false cut = inr cut
 
-module _ (says : ℕ → Head → Bool) (largest : ℕ) where
+module _ (says : ℕ → Head → Bool) (largest : ℕ) (users : List UserView) where
   -- what follows the kth request, by whether its reply closes the connection
-  abbrev Follows : ℕ → List ℕ → List Taken → CallsEnd → Bool → Type 0
-  Follows k rest ms e closed = MatchBool closed ((ms ≡ []) × (e ≡ at_close)) (IsStreamFrom largest (suc k) rest ms e)
+  abbrev Follows : ℕ → List UserView → List ℕ → List Taken → CallsEnd → Bool → Type 0
+  Follows k rest ms e closed = MatchBool closed ((ms ≡ []) × (e ≡ at_close)) (IsStreamFrom largest users (suc k) rest ms e)
 
   -- no list of requests with an end is the stream
   abbrev HasNone : ℕ → List ℕ → Type 0
-  HasNone k bytes = (requests : List Taken) (end : CallsEnd) → IsStreamFrom largest k bytes requests end → ¬ (AreLeftAs says largest k bytes requests end)
+  HasNone k bytes = (requests : List Taken) (end : CallsEnd) → IsStreamFrom largest users k bytes requests end → ¬ (AreLeftAs says largest users k bytes requests end)
 
   -- a shorter input is a stream, whichever request of a connection is its first
   abbrev ShorterAre : ℕ → Type 0
   ShorterAre size = (k : ℕ) (bytes : List ℕ) → length bytes < size → ¬ (HasNone k bytes)
 
   module _ (k : ℕ) (bytes : List ℕ) (none : HasNone k bytes) (shorter : ShorterAre (length bytes)) where
-    taken : (t : Taken) (rest : List ℕ) (closed : Bool) → length rest < length bytes → Agrees largest (says k t.request.head) t → TakesCall largest bytes t rest → (form_of k t.request.head t.fate).close ≡ closed → ⊥
+    taken : (t : Taken) (rest : List ℕ) (closed : Bool) → length rest < length bytes → Agrees largest users (says k t.request.head) t → TakesCall largest users bytes t rest → (form_of k t.request.head t.fate).close ≡ closed → ⊥
     taken t rest true less agrees takes is =
         none (t ∷ []) at_close
         (rest, takes, subst (Follows k rest [] at_close) (sym is) (refl, refl))
@@ -296,12 +297,12 @@ module _ (says : ℕ → Head → Bool) (largest : ℕ) where
         (rest, takes, subst (Follows k rest requests end) (sym is) stream) (
           agrees,
           λ other also stays.
-              subst (λ l. AreLeftAs says largest (suc k) l requests end) (one_call largest bytes (says k t.request.head) t t rest other agrees agrees takes also).1 left,
+              subst (λ l. AreLeftAs says largest users (suc k) l requests end) (one_call largest users bytes (says k t.request.head) t t rest other agrees agrees takes also).1 left,
         ))
 
     module _ (head : Head) (after : List ℕ) (begins : BeginsWith bytes head after) where
       abbrev plan : BodyUse
-      plan = use_of largest head
+      plan = use_of largest users head
 
       less : length after < length bytes
       less = begun_has_bytes bytes begins.0 after begins.1
@@ -324,7 +325,7 @@ module _ (says : ℕ → Head → Bool) (largest : ℕ) where
           (record { after = after; head = begins; suits = wrong_suits plan why is_read wrong; body = (goes, refl) }) refl)
           (λ cut.
           none [] (at_cut (is_awaited plan))
-          (begun_not_blank bytes begins.0 after begins.1, cut_request largest bytes (is_awaited plan) (head, after, begins, is_read, refl, cut))
+          (begun_not_blank bytes begins.0 after begins.1, cut_request largest users bytes (is_awaited plan) (head, after, begins, is_read, refl, cut))
           (λ other behind starts is.
           let same = one_head bytes head other after behind begins starts in
           let awaits : is_awaited plan ≡ true = cc in
@@ -337,7 +338,7 @@ module _ (says : ℕ → Head → Bool) (largest : ℕ) where
       planned Dropped is left said = read_there (ap is_unread is) (λ awaits. let clash : false ≡ true = sym (ap is_awaited is) ∙ awaits in absurd (cc))
       planned Unread is left said = left_there (subst (λ p. Suits p unread) (sym is) tt) (λ awaits. let clash : false ≡ true = sym (ap is_awaited is) ∙ awaits in absurd (cc))
 
-    cut_head_ends : (skip_breaks bytes ≢ []) × IsCutHead bytes → IsEnd largest bytes (at_cut false)
+    cut_head_ends : (skip_breaks bytes ≢ []) × IsCutHead bytes → IsEnd largest users bytes (at_cut false)
     cut_head_ends (some, cut) = (some, inl cut)
 
     some_stream : ⊥
@@ -346,7 +347,7 @@ module _ (says : ℕ → Head → Bool) (largest : ℕ) where
         (λ blank. none [] at_clean blank (λ head after begins is. absurd (cc)))
         (λ cut. none [] (at_cut false) (cut_head_ends cut) (λ head after begins is. absurd (cc)))
         (λ word bodiless bad. none [] (at_bad word bodiless) bad (λ head after begins is. absurd (cc)))
-        (λ head after begins. planned head after begins (use_of largest head) refl (says k head) refl)
+        (λ head after begins. planned head after begins (use_of largest users head) refl (says k head) refl)
 
   up_to : (size : ℕ) → ShorterAre size
   up_to zero k bytes short none = omega (arith, short)
@@ -357,21 +358,21 @@ module _ (says : ℕ → Head → Bool) (largest : ℕ) where
 
 -- ---- where the place alone says which bodies are left
 
-module _ (left : ℕ → Bool) (largest : ℕ) where
-  cut_says : (k : ℕ) (bytes : List ℕ) (end : CallsEnd) → end ≡ at_cut true → IsEnd largest bytes (at_cut true) → AreLeftAs (λ k head. left k) largest k bytes [] end → left k ≡ false
+module _ (left : ℕ → Bool) (largest : ℕ) (users : List UserView) where
+  cut_says : (k : ℕ) (bytes : List ℕ) (end : CallsEnd) → end ≡ at_cut true → IsEnd largest users bytes (at_cut true) → AreLeftAs (λ k head. left k) largest users k bytes [] end → left k ≡ false
   cut_says k bytes end is (some, (head, after, begins, read, awaits, cut)) says = says head after begins is
 
-  behind_says : (k : ℕ) (closed : Bool) (rest : List ℕ) (ms : List Taken) (end : CallsEnd) → (IsStreamFrom largest k rest ms end → AreLeftAs (λ k head. left k) largest k rest ms end → AreLeft left largest k ms end)
-      → MatchBool closed ((ms ≡ []) × (end ≡ at_close)) (IsStreamFrom largest k rest ms end) → (closed ≡ false → AreLeftAs (λ k head. left k) largest k rest ms end) → AreLeft left largest k ms end
+  behind_says : (k : ℕ) (closed : Bool) (rest : List ℕ) (ms : List Taken) (end : CallsEnd) → (IsStreamFrom largest users k rest ms end → AreLeftAs (λ k head. left k) largest users k rest ms end → AreLeft left largest users k ms end)
+      → MatchBool closed ((ms ≡ []) × (end ≡ at_close)) (IsStreamFrom largest users k rest ms end) → (closed ≡ false → AreLeftAs (λ k head. left k) largest users k rest ms end) → AreLeft left largest users k ms end
   behind_says k true rest [] end further after says = λ is. let clash : at_close ≡ at_cut true = sym after.1 ∙ is in absurd (cc)
   behind_says k true rest (m ∷ ms) end further after says = let clash : ◌∷◌ m ms ≡ [] = after.0 in absurd (cc)
   behind_says k false rest ms end further after says = further after (says refl)
 
-  place_says : (k : ℕ) (bytes : List ℕ) (ms : List Taken) (end : CallsEnd) → IsStreamFrom largest k bytes ms end → AreLeftAs (λ k head. left k) largest k bytes ms end → AreLeft left largest k ms end
-  place_says k bytes [] end stream says = λ is. cut_says k bytes end is (subst (IsEnd largest bytes) is stream) says
+  place_says : (k : ℕ) (bytes : List ℕ) (ms : List Taken) (end : CallsEnd) → IsStreamFrom largest users k bytes ms end → AreLeftAs (λ k head. left k) largest users k bytes ms end → AreLeft left largest users k ms end
+  place_says k bytes [] end stream says = λ is. cut_says k bytes end is (subst (IsEnd largest users bytes) is stream) says
   place_says k bytes (m ∷ ms) end (rest, takes, after) says =
       (says.0, behind_says (suc k) (form_of k m.request.head m.fate).close rest ms end (place_says (suc k) rest ms end) after (says.1 rest takes))
 
-pub every_stream : (left : ℕ → Bool) (largest k : ℕ) (bytes : List ℕ) → ¬ ((requests : List Taken) (end : CallsEnd) → IsStreamFrom largest k bytes requests end → ¬ (AreLeft left largest k requests end))
-every_stream left largest k bytes none =
-    every_input (λ k head. left k) largest k bytes (λ requests end stream says. none requests end stream (place_says left largest k bytes requests end stream says))
+pub every_stream : (left : ℕ → Bool) (largest : ℕ) (users : List UserView) (k : ℕ) (bytes : List ℕ) → ¬ ((requests : List Taken) (end : CallsEnd) → IsStreamFrom largest users k bytes requests end → ¬ (AreLeft left largest users k requests end))
+every_stream left largest users k bytes none =
+    every_input (λ k head. left k) largest users k bytes (λ requests end stream says. none requests end stream (place_says left largest users k bytes requests end stream says))

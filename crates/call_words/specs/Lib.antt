@@ -1,4 +1,5 @@
 pub mod Bodies
+pub mod Ends
 pub mod Texts
 pub mod Events
 pub mod Calls

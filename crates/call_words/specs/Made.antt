@@ -13,7 +13,7 @@ AreBy pass actor events = AllByRecursion (λ e. actor_of e ≡ actor_of_pass pas
 -- the events that were made for a reply that rests on this
 abbrev pub AreMadeFor : ℕ → Ground → List Event → Type 0
 AreMadeFor pass alone events = events ≡ []
-AreMadeFor pass (task actor outcome) events = AreBy pass actor events
+AreMadeFor pass (task actor end) events = AreBy pass actor events
 
 -- the events that were made for calls, one after another, and then later
 abbrev pub AreMade : ℕ → List Call → List Event → List Event → Type 0

@@ -1,4 +1,4 @@
--- The reply of the Swift API that an end of a task is, and its text (OpenStack Object Storage API v1, objects).
+-- The reply of the Swift API that an end of a task is, and its text (OpenStack Object Storage API v1).
 use Rattle.std.specs.Prelude.{ℕ, Bool, true, false, List, [], ◌∷◌, ◌++◌, Option, Some, None, option_map, if◌then◌else◌, codes}
 use Rattle.http_chunks.specs.declared.body.BodyEnd.{BodyEnd}
 use Rattle.http_chunks.specs.declared.body.BodyEnd.TheVariants as Body
@@ -16,6 +16,23 @@ use Rattle.swift_reply.specs.declared.reply.SwiftRefusal.TheVariants as Why
 use Rattle.swift_reply.specs.declared.reply.SwiftReply.{SwiftReply}
 use Rattle.swift_reply.specs.declared.reply.SwiftReply.TheVariants as Swift
 use Rattle.swift_reply.specs.Replies.{reply_head, reply_text}
+use Rattle.swift_reply.specs.Counts.{counts_of}
+use Rattle.swift_auth.specs.Policies.{is_of}
+use Rattle.swift_requests.specs.declared.asked.Asked.{Asked}
+use Rattle.swift_requests.specs.declared.asked.Asked.TheVariants.{Put, Unfed}
+use Rattle.swift_requests.specs.declared.asked.UnfedCommand.{UnfedCommand}
+use Rattle.swift_requests.specs.declared.asked.UnfedCommand.TheVariants as commands
+use Rattle.task_account.specs.declared.reply.AccountOutcome.{AccountOutcome}
+use Rattle.task_account.specs.declared.reply.AccountOutcome.TheVariants as account
+use Rattle.task_account.specs.declared.reply.AccountReply.TheVariants as accounts
+use Rattle.task_container.specs.declared.outcome.ContainerOutcome.{ContainerOutcome}
+use Rattle.task_container.specs.declared.outcome.ContainerOutcome.TheVariants as container
+use Rattle.task_container.specs.declared.outcome.ContainerReply.{ContainerReply}
+use Rattle.task_container.specs.declared.outcome.ContainerReply.TheVariants as containers
+use Rattle.task_container.specs.declared.outcome.ContainerRefusal.{ContainerRefusal}
+use Rattle.task_container.specs.declared.outcome.ContainerRefusal.TheVariants as cause
+use Rattle.task_words.specs.declared.asker.Asker.{Asker}
+use Rattle.task_words.specs.Answers.{span_of}
 use Rattle.task_words.specs.declared.outcome.Outcome.{Outcome}
 use Rattle.task_words.specs.declared.outcome.Outcome.TheVariants.{Done, BodyFailed, Busy, MovedOften, RacedOften, LateTag, LateRead, NoSpace}
 use Rattle.task_words.specs.declared.reply.MapReply.{MapReply}
@@ -25,6 +42,7 @@ use Rattle.task_words.specs.declared.reply.Refusal.TheVariants as Map
 use Rattle.task_words.specs.declared.span.Span.{Span}
 use Rattle.task_words.specs.Spans.{is_partial}
 use Rattle.call_words.specs.Bodies.{Fate, read_whole, broken_off, unread}
+use Rattle.call_words.specs.Ends.{TaskEnd, on_object, on_container, on_account}
 
 abbrev pub denial_of : Rule → Denial
 denial_of Rules.Account = Denied.Account
@@ -86,6 +104,38 @@ list_reply listing (Done (Refused refusal)) = Some (Swift.Refused (refusal_in re
 list_reply listing (Done reply) = None
 list_reply listing outcome = option_map Swift.Refused (refusal_by outcome)
 
+-- ---- containers and accounts
+
+-- the refusal of the Swift API that one of a request on a container is
+abbrev pub container_refusal_in : ContainerRefusal → SwiftRefusal
+container_refusal_in (cause.ByRow refusal) = refusal_in refusal
+container_refusal_in cause.NotYours = Why.NotYours
+container_refusal_in (cause.NotEmpty name) = Why.NotEmpty name
+container_refusal_in (cause.Unsettled name) = Why.Unsettled name
+
+-- the reply on a container; its lists are shown to users of its account
+abbrev pub container_reply_in : Asker → ContainerReply → SwiftReply
+container_reply_in asker (containers.Counted row objects bytes) =
+    Swift.Counted (counts_of row objects bytes (is_of asker.account asker.user))
+container_reply_in asker containers.Made = Swift.Created
+container_reply_in asker containers.Accepted = Swift.Accepted
+container_reply_in asker containers.Changed = Swift.Done
+container_reply_in asker containers.Removed = Swift.Done
+container_reply_in asker (containers.Refused why) = Swift.Refused (container_refusal_in why)
+
+-- the reply where a request on a container ended so
+abbrev pub container_reply : Asker → ContainerOutcome → SwiftReply
+container_reply asker (container.Done reply) = container_reply_in asker reply
+container_reply asker (container.Busy id) = Swift.Refused (Why.Busy id)
+container_reply asker container.MovedOften = Swift.Refused Why.MovedOften
+container_reply asker container.RacedOften = Swift.Refused Why.RacedOften
+
+-- the reply where a request on an account ended so, with its rows in this form
+abbrev pub account_reply : ListingForm → AccountOutcome → SwiftReply
+account_reply listing (account.Done (accounts.Counted containers objects bytes)) = Swift.AccountCounted containers objects bytes
+account_reply listing (account.Done (accounts.Listed rows)) = Swift.AccountListed rows listing
+account_reply listing account.MovedOften = Swift.Refused Why.MovedOften
+
 -- ---- bodies that break off
 
 -- the refusal of a body that was wanted and broke off
@@ -105,6 +155,32 @@ told_reply asked fate outcome = outcome_reply asked outcome
 abbrev pub told_list : ListingForm → Fate → Outcome → Option SwiftReply
 told_list listing fate BodyFailed = option_map Swift.Refused (refusal_at fate)
 told_list listing fate outcome = list_reply listing outcome
+
+-- only the end of a request on an object says that its body failed
+abbrev pub told_container : Asker → Fate → TaskEnd → Option SwiftReply
+told_container asker fate (on_object BodyFailed) = option_map Swift.Refused (refusal_at fate)
+told_container asker fate (on_container outcome) = Some (container_reply asker outcome)
+told_container asker fate end = None
+
+abbrev pub told_account : ListingForm → Fate → TaskEnd → Option SwiftReply
+told_account listing fate (on_object BodyFailed) = option_map Swift.Refused (refusal_at fate)
+told_account listing fate (on_account outcome) = Some (account_reply listing outcome)
+told_account listing fate end = None
+
+-- ---- by what was asked
+
+abbrev pub told_unfed : Asker → UnfedCommand → Fate → TaskEnd → Option SwiftReply
+told_unfed asker (commands.Get c) fate (on_object outcome) = told_reply (span_of c) fate outcome
+told_unfed asker (commands.Listing c listing) fate (on_object outcome) = told_list listing fate outcome
+told_unfed asker (commands.Container c) fate end = told_container asker fate end
+told_unfed asker (commands.Account c listing) fate end = told_account listing fate end
+told_unfed asker u fate end = None
+
+-- the reply where the task of a request ended so over a body of that fate
+abbrev pub told_by : Asked → Fate → TaskEnd → Option SwiftReply
+told_by (Put asker c) fate (on_object outcome) = told_reply None fate outcome
+told_by (Unfed asker u) fate end = told_unfed asker u fate end
+told_by asked fate end = None
 
 -- ---- before a body
 

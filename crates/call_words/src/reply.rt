@@ -27,7 +27,7 @@ fn denial_of(rule: Rule) -> Denial
 }
 
 /// The refusal of the Swift API that a refusal by what is stored is.
-fn refusal_in(refusal: Refusal) -> SwiftRefusal
+pub(crate) fn refusal_in(refusal: Refusal) -> SwiftRefusal
     ensures { result ≡ refusal_in refusal }
 {
     match refusal {
