@@ -9,21 +9,25 @@ use Rattle.turn_cell.specs.declared.machine.DoorFault.TheVariants as doors
 use Rattle.realm_model.specs.Doors.{DoorView, actor_at}
 use Rattle.realm_model.specs.Histories.{account_of}
 use Rattle.realm_model.specs.Owns.{OwnEvent, own_events}
+use Rattle.realm_model.specs.Settings.{SettingsView}
 use Rattle.realm_model.specs.declared.event.Event.{Event}
 use Rattle.swift_reply.specs.declared.reply.ListingForm.{ListingForm}
 use Rattle.swift_requests.specs.declared.asked.Asked.{Asked}
-use Rattle.swift_requests.specs.declared.asked.Asked.TheVariants.{BadHost, Refused, Put, Unfed}
-use Rattle.swift_requests.specs.declared.asked.UnfedCommand.TheVariants.{Get, Listing}
+use Rattle.swift_requests.specs.declared.asked.Asked.TheVariants.{Put, Unfed}
+use Rattle.swift_requests.specs.declared.asked.UnfedCommand.{UnfedCommand}
+use Rattle.swift_requests.specs.declared.asked.UnfedCommand.TheVariants.{Get, Listing, Container, Account as OfAccount}
 use Rattle.swift_requests.specs.declared.body.BodyUse.{BodyUse}
 use Rattle.swift_requests.specs.Bodies.{is_unread}
 use Rattle.task_words.specs.declared.asker.Asker.{Asker}
+use Rattle.task_words.specs.declared.command.PutCommand.{PutCommand}
 use Rattle.task_words.specs.declared.outcome.Outcome.{Outcome}
 use Rattle.task_words.specs.Outcomes.{Body}
 use Rattle.task_words.specs.declared.outcome.Outcome.TheVariants.{BodyFailed}
 use Rattle.task_words.specs.declared.span.Span.{Span}
 use Rattle.call_words.specs.Bodies.{Fate, read_whole, broken_off, unread, is_broken, Suits}
-use Rattle.call_words.specs.Calls.{task, text_by, body_at, IsBorneOut}
-use Rattle.call_words.specs.Texts.{told_reply, told_list, text_if}
+use Rattle.call_words.specs.Ends.{TaskEnd, on_object, on_container, on_account, body_failed}
+use Rattle.call_words.specs.Calls.{task, text_by, body_at, IsUnfedBorneOut, IsBorneOut}
+use Rattle.call_words.specs.Texts.{told_reply, told_list, told_unfed, told_by, HasReply, text_if}
 use Rattle.task_words.specs.Answers.{span_of}
 use Rattle.call_service.specs.Bodies.{BreaksIn, HasFate, HasCome, LeavesBody}
 use Rattle.call_service.specs.declared.fault.ServeFault.{ServeFault}
@@ -42,12 +46,10 @@ event_stopped tells found doors.OutOfMemory worn = tt
 event_stopped tells found doors.Worn worn = λ is. worn is refl
 
 -- the text of a reply does not say whose task it was
-pub any_actor : (form : ReplyForm) (asked : Asked) (fate : Fate) (outcome : Outcome) (shown : List ℕ) (a b : ℕ) → text_by form asked fate (task a outcome) shown ≡ text_by form asked fate (task b outcome) shown
-any_actor form BadHost fate outcome shown a b = refl
-any_actor form (Refused why) fate outcome shown a b = refl
-any_actor form (Put c) fate outcome shown a b = refl
-any_actor form (Unfed (Get c)) fate outcome shown a b = refl
-any_actor form (Unfed (Listing c listing)) fate outcome shown a b = refl
+pub any_actor : (form : ReplyForm) (asked : Asked) (fate : Fate) (outcome : TaskEnd) (shown : List ℕ) (a b : ℕ) → text_by form asked fate (task a outcome) shown ≡ text_by form asked fate (task b outcome) shown
+any_actor form (Unfed asker (Get c)) fate outcome shown a b = refl
+any_actor form (Unfed asker u) fate outcome shown a b = refl
+any_actor form asked fate outcome shown a b = refl
 
 -- a form that closes the connection is that behind a body that is left
 pub shut_form : (form : ReplyForm) → form.close ≡ true → form ≡ form_at form unread
@@ -55,37 +57,63 @@ shut_form form is = λ i. record { bodiless = form.bodiless; close = is i }
 
 -- ---- a body that was left says nothing
 
-told_same : (span : Option Span) (outcome : Outcome) → is_by_end outcome ≡ false → told_reply span read_whole outcome ≡ told_reply span unread outcome
+told_same : (span : Option Span) (outcome : Outcome) → is_by_end (on_object outcome) ≡ false → told_reply span read_whole outcome ≡ told_reply span unread outcome
 told_same span BodyFailed is = let clash : true ≡ false = is in absurd (cc)
 told_same span outcome is = refl
 
-listed_same : (listing : ListingForm) (outcome : Outcome) → is_by_end outcome ≡ false → told_list listing read_whole outcome ≡ told_list listing unread outcome
+listed_same : (listing : ListingForm) (outcome : Outcome) → is_by_end (on_object outcome) ≡ false → told_list listing read_whole outcome ≡ told_list listing unread outcome
 listed_same listing BodyFailed is = let clash : true ≡ false = is in absurd (cc)
 listed_same listing outcome is = refl
 
-left_text : (form : ReplyForm) (asked : Asked) (outcome : Outcome) (shown : List ℕ) (a : ℕ) → is_by_end outcome ≡ false → text_by form asked read_whole (task a outcome) shown ≡ text_by form asked unread (task a outcome) shown
-left_text form BadHost outcome shown a is = refl
-left_text form (Refused why) outcome shown a is = refl
-left_text form (Put c) outcome shown a is = ap (λ r. text_if form r []) (told_same None outcome is)
-left_text form (Unfed (Get c)) outcome shown a is = ap (λ r. text_if form r shown) (told_same (span_of c) outcome is)
-left_text form (Unfed (Listing c listing)) outcome shown a is = ap (λ r. text_if form r []) (listed_same listing outcome is)
+unfed_same : (asker : Asker) (u : UnfedCommand) (outcome : TaskEnd) → is_by_end outcome ≡ false → told_unfed asker u read_whole outcome ≡ told_unfed asker u unread outcome
+unfed_same asker u (on_object BodyFailed) is = let clash : true ≡ false = is in absurd (cc)
+unfed_same asker (Get c) (on_object outcome) is = told_same (span_of c) outcome is
+unfed_same asker (Listing c listing) (on_object outcome) is = listed_same listing outcome is
+unfed_same asker (Container c) (on_object outcome) is = refl
+unfed_same asker (OfAccount c listing) (on_object outcome) is = refl
+unfed_same asker (Get c) outcome is = refl
+unfed_same asker (Listing c listing) outcome is = refl
+unfed_same asker (Container c) outcome is = refl
+unfed_same asker (OfAccount c listing) outcome is = refl
 
-fate_text : (form : ReplyForm) (asked : Asked) (fate : Fate) (outcome : Outcome) (shown : List ℕ) (a b : ℕ) → is_broken fate ≡ false → is_by_end outcome ≡ false → text_by form asked read_whole (task a outcome) shown ≡ text_by form asked fate (task b outcome) shown
+put_same : (asker : Asker) (c : PutCommand) (outcome : TaskEnd) → is_by_end outcome ≡ false → told_by (Put asker c) read_whole outcome ≡ told_by (Put asker c) unread outcome
+put_same asker c (on_object outcome) is = told_same None outcome is
+put_same asker c outcome is = refl
+
+left_text : (form : ReplyForm) (asked : Asked) (outcome : TaskEnd) (shown : List ℕ) (a : ℕ) → is_by_end outcome ≡ false → text_by form asked read_whole (task a outcome) shown ≡ text_by form asked unread (task a outcome) shown
+left_text form (Put asker c) outcome shown a is = ap (λ r. text_if form r []) (put_same asker c outcome is)
+left_text form (Unfed asker (Get c)) outcome shown a is = ap (λ r. text_if form r shown) (unfed_same asker (Get c) outcome is)
+left_text form (Unfed asker (Listing c listing)) outcome shown a is = ap (λ r. text_if form r []) (unfed_same asker (Listing c listing) outcome is)
+left_text form (Unfed asker (Container c)) outcome shown a is = ap (λ r. text_if form r []) (unfed_same asker (Container c) outcome is)
+left_text form (Unfed asker (OfAccount c listing)) outcome shown a is = ap (λ r. text_if form r []) (unfed_same asker (OfAccount c listing) outcome is)
+left_text form asked outcome shown a is = refl
+
+fate_text : (form : ReplyForm) (asked : Asked) (fate : Fate) (outcome : TaskEnd) (shown : List ℕ) (a b : ℕ) → is_broken fate ≡ false → is_by_end outcome ≡ false → text_by form asked read_whole (task a outcome) shown ≡ text_by form asked fate (task b outcome) shown
 fate_text form asked read_whole outcome shown a b whole is = any_actor form asked read_whole outcome shown a b
 fate_text form asked (broken_off why) outcome shown a b whole is = let clash : true ≡ false = whole in absurd (cc)
 fate_text form asked unread outcome shown a b whole is = left_text form asked outcome shown a is ∙ any_actor form asked unread outcome shown a b
 
-module _ (stripe zone : ℕ) (asker : Asker) (body shown : List ℕ) (y : Account) (events : List OwnEvent) where
-  left_borne : (asked : Asked) (outcome : Outcome) → IsUnwanted asked → is_by_end outcome ≡ false → IsBorneOut stripe zone asker asked read_whole body outcome shown y events → IsBorneOut stripe zone asker asked unread body outcome shown y events
-  left_borne BadHost outcome unwanted is borne = absurd borne
-  left_borne (Refused why) outcome unwanted is borne = absurd borne
-  left_borne (Put c) outcome unwanted is borne = absurd unwanted
-  left_borne (Unfed (Get c)) BodyFailed unwanted is borne = let clash : true ≡ false = is in absurd (cc)
-  left_borne (Unfed (Get c)) outcome unwanted is borne = borne
-  left_borne (Unfed (Listing c listing)) BodyFailed unwanted is borne = let clash : true ≡ false = is in absurd (cc)
-  left_borne (Unfed (Listing c listing)) outcome unwanted is borne = borne
+module _ (settings : SettingsView) (zone : ℕ) (body shown : List ℕ) (y : Account) (events : List OwnEvent) where
+  reply_same : (asker : Asker) (u : UnfedCommand) (outcome : TaskEnd) → is_by_end outcome ≡ false → HasReply (told_unfed asker u read_whole outcome) → HasReply (told_unfed asker u unread outcome)
+  reply_same asker u outcome is has = subst HasReply (unfed_same asker u outcome is) has
 
-  fate_borne : (asked : Asked) (fate : Fate) (outcome : Outcome) → IsUnwanted asked → is_broken fate ≡ false → is_by_end outcome ≡ false → IsBorneOut stripe zone asker asked read_whole body outcome shown y events → IsBorneOut stripe zone asker asked fate body outcome shown y events
+  unfed_borne : (asker : Asker) (u : UnfedCommand) (outcome : TaskEnd) → is_by_end outcome ≡ false → IsUnfedBorneOut settings zone asker u read_whole outcome shown y events → IsUnfedBorneOut settings zone asker u unread outcome shown y events
+  unfed_borne asker u (on_object BodyFailed) is borne = let clash : true ≡ false = is in absurd (cc)
+  unfed_borne asker (Get c) (on_object outcome) is borne = borne
+  unfed_borne asker (Listing c listing) (on_object outcome) is borne = borne
+  unfed_borne asker (Container c) (on_container outcome) is borne = borne
+  unfed_borne asker (OfAccount c listing) (on_account outcome) is borne = borne
+  unfed_borne asker (Get c) outcome is borne = absurd borne
+  unfed_borne asker (Listing c listing) outcome is borne = absurd borne
+  unfed_borne asker (Container c) outcome is borne = absurd borne.0
+  unfed_borne asker (OfAccount c listing) outcome is borne = absurd borne.0
+
+  left_borne : (asked : Asked) (outcome : TaskEnd) → IsUnwanted asked → is_by_end outcome ≡ false → IsBorneOut settings zone asked read_whole body outcome shown y events → IsBorneOut settings zone asked unread body outcome shown y events
+  left_borne (Put asker c) outcome unwanted is borne = absurd unwanted
+  left_borne (Unfed asker u) outcome unwanted is borne = (unfed_borne asker u outcome is borne.0, reply_same asker u outcome is borne.1)
+  left_borne asked outcome unwanted is borne = absurd borne
+
+  fate_borne : (asked : Asked) (fate : Fate) (outcome : TaskEnd) → IsUnwanted asked → is_broken fate ≡ false → is_by_end outcome ≡ false → IsBorneOut settings zone asked read_whole body outcome shown y events → IsBorneOut settings zone asked fate body outcome shown y events
   fate_borne asked read_whole outcome unwanted whole is borne = borne
   fate_borne asked (broken_off why) outcome unwanted whole is borne = let clash : true ≡ false = whole in absurd (cc)
   fate_borne asked unread outcome unwanted whole is borne = left_borne asked outcome unwanted is borne
@@ -105,7 +133,7 @@ module _ (tells alone : Type 0) (site : Site) (form : ReplyForm) (asked : Asked)
   body_stops fault read sound stops leaves = absurd stops
 
   -- the body broke off behind these bytes, and the reply says how the task ended, or that it did
-  module _ (why : BodyEnd) (suits : Suits plan (broken_off why)) (came : List ℕ) (broken : BreaksIn x.intake x.ends.left y.ends.left why came) (sound : (x.intake).failed ≡ None) (outcome : Outcome)
+  module _ (why : BodyEnd) (suits : Suits plan (broken_off why)) (came : List ℕ) (broken : BreaksIn x.intake x.ends.left y.ends.left why came) (sound : (x.intake).failed ≡ None) (outcome : TaskEnd)
       (asks : Asks tells alone site.settings (is_by_end outcome) x.door y.door x.ends.told y.ends.told)
       (right : tells → BearsOut site asked (broken_off why) came outcome [] y.door)
       (so_far : tells → BearsOutSoFar site asked (body_at (broken_off why) came) y.door) where
@@ -154,14 +182,14 @@ module _ (tells alone : Type 0) (site : Site) (form : ReplyForm) (asked : Asked)
     in_all : (more : Bool) → Asks tells alone site.settings more d y.door told y.ends.told → Asks tells alone site.settings more x.door y.door x.ends.told y.ends.told
     in_all more asks = both_ask tells alone site.settings site.settings more x.door d y.door x.ends.told told y.ends.told refl first asks
 
-    text_is : (outcome : Outcome) (shown : List ℕ) → is_by_end outcome ≡ false → text_by form asked read_whole (task y.door.count outcome) shown ≡ text_by (form_at form fate) asked fate (task x.door.count outcome) shown
+    text_is : (outcome : TaskEnd) (shown : List ℕ) → is_by_end outcome ≡ false → text_by form asked read_whole (task y.door.count outcome) shown ≡ text_by (form_at form fate) asked fate (task x.door.count outcome) shown
     text_is outcome shown is =
         fate_text form asked fate outcome shown y.door.count x.door.count whole is
         ∙ ap (λ (f : ReplyForm). text_by f asked fate (task x.door.count outcome) shown) form_is
 
-    borne : (outcome : Outcome) (shown : List ℕ) → is_by_end outcome ≡ false → BearsOut site asked read_whole body outcome shown y.door → BearsOut site asked fate body outcome shown y.door
+    borne : (outcome : TaskEnd) (shown : List ℕ) → is_by_end outcome ≡ false → BearsOut site asked read_whole body outcome shown y.door → BearsOut site asked fate body outcome shown y.door
     borne outcome shown is right =
-        fate_borne site.settings.stripe site.zone site.asker body shown (account_of site.settings y.door.seen (actor_at y.door)) (own_events y.door.seen (actor_at y.door)) asked fate outcome unwanted whole is right
+        fate_borne site.settings site.zone body shown (account_of site.settings y.door.seen (actor_at y.door)) (own_events y.door.seen (actor_at y.door)) asked fate outcome unwanted whole is right
 
     abbrev in_part : (more : Bool) → Asks tells alone site.settings more d y.door told y.ends.told → Replies tells site form asked y.door (AppendsFront x.ends.taken y.ends.taken) → IsInPart tells alone site form asked plan x y
     in_part more asks part = record {

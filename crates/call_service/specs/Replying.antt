@@ -7,9 +7,9 @@ use Rattle.realm_model.specs.Settings.{SettingsView}
 use Rattle.realm_model.specs.declared.event.Event.{Event}
 use Rattle.swift_requests.specs.declared.asked.Asked.{Asked}
 use Rattle.swift_requests.specs.declared.asked.Asked.TheVariants.{Put}
-use Rattle.task_words.specs.declared.outcome.Outcome.{Outcome}
 use Rattle.task_words.specs.Outcomes.{Body}
 use Rattle.call_words.specs.Bodies.{read_whole}
+use Rattle.call_words.specs.Ends.{TaskEnd}
 use Rattle.call_words.specs.Calls.{task, text_by}
 use Rattle.call_service.specs.declared.fault.ServeFault.{ServeFault}
 use Rattle.call_service.specs.declared.fault.ServeFault.TheVariants as faults
@@ -24,14 +24,14 @@ StopsEvent tells found fault = ⊥
 
 -- the request wants no body
 abbrev pub IsUnwanted : Asked → Type 0
-IsUnwanted (Put c) = ⊥
+IsUnwanted (Put asker c) = ⊥
 IsUnwanted asked = Unit {0}
 
 -- ---- what was written
 
 -- the reply of a task that ended so, or will, behind a whole body: what the door tells bears it out, whatever body was sent
 pub record Replies (tells : Type 0) (site : Site) (form : ReplyForm) (asked : Asked) (e : DoorView) (grown : List ℕ → Type 0) : Type 0 where
-  pub outcome : Outcome
+  pub outcome : TaskEnd
   pub shown : List ℕ
   pub by_event : is_by_end outcome ≡ false
   pub written : grown (text_by form asked read_whole (task e.count outcome) shown)

@@ -1,4 +1,4 @@
--- What serving one request on an object comes to: its reply, the events that it rests on, the moments that were told for
+-- What serving one request comes to: its reply, the events that it rests on, the moments that were told for
 -- them, and what a fault leaves.
 use Rattle.std.specs.Prelude.{◌≡◌, ◌≢◌, ◌⊎◌, ℕ, ◌^◌, ◌<◌, ◌≤◌, Bool, true, false, List, [], ◌++◌, length, Option, None, Result, Err}
 use Rattle.std.specs.Io.KnownBytes.{Appends, IsAtEnd}
@@ -16,10 +16,8 @@ use Rattle.realm_model.specs.Settings.{SettingsView}
 use Rattle.realm_model.specs.declared.event.Event.{Event}
 use Rattle.door_moments.specs.Acts.{Asks}
 use Rattle.swift_requests.specs.declared.asked.Asked.{Asked}
-use Rattle.swift_requests.specs.declared.asked.Asked.TheVariants.{BadHost, Refused, Put, Unfed}
-use Rattle.swift_requests.specs.declared.asked.UnfedCommand.TheVariants.{Get, Listing}
-use Rattle.task_words.specs.declared.asker.Asker.{Asker}
-use Rattle.task_words.specs.declared.outcome.Outcome.{Outcome}
+use Rattle.swift_requests.specs.declared.asked.Asked.TheVariants.{Unfed}
+use Rattle.swift_requests.specs.declared.asked.UnfedCommand.TheVariants.{Get}
 use Rattle.task_words.specs.declared.outcome.Outcome.TheVariants.{Done, BodyFailed, LateRead}
 use Rattle.task_words.specs.declared.reply.MapReply.TheVariants as Map
 use Rattle.task_words.specs.declared.reply.Refusal.TheVariants.{OtherEtag}
@@ -28,6 +26,7 @@ use Rattle.task_get.specs.Gets.{MissesTail}
 use Rattle.swift_requests.specs.Bodies.{is_unread}
 use Rattle.swift_requests.specs.declared.body.BodyUse.{BodyUse}
 use Rattle.call_words.specs.Bodies.{Fate, read_whole, broken_off, unread, is_left, is_broken, Suits}
+use Rattle.call_words.specs.Ends.{TaskEnd, on_object, body_failed}
 use Rattle.call_words.specs.Calls.{task, text_by, body_at, IsBorneOut, IsSoFar}
 use Rattle.call_service.specs.Connections.{Names}
 use Rattle.call_service.specs.Bodies.{FallsBehind, HasFate, HasCome}
@@ -38,11 +37,10 @@ use Rattle.call_service.specs.declared.served.Served.TheVariants as services
 
 -- ---- where and when
 
--- where a connection is served: the realm's settings, the zone, and who asks
+-- where a connection is served: the realm's settings, and the zone
 pub record Site : Type 0 where
   pub settings : SettingsView
   pub zone : ℕ
-  pub asker : Asker
 
 -- what stands at one moment of a connection: what the door tells, the intake, and the ends
 pub record Side : Type 0 where
@@ -76,9 +74,9 @@ pub record MayServe (tells : Type 0) (settings : SettingsView) (zone : ℕ) (d :
 -- ---- moments
 
 -- the body's end decided, in a turn that made no event: a moment is told for it
-abbrev pub is_by_end : Outcome → Bool
-is_by_end BodyFailed = true
-is_by_end (Done (Map.Refused OtherEtag)) = true
+abbrev pub is_by_end : TaskEnd → Bool
+is_by_end (on_object BodyFailed) = true
+is_by_end (on_object (Done (Map.Refused OtherEtag))) = true
 is_by_end outcome = false
 
 -- ---- texts
@@ -107,14 +105,14 @@ form_at form (broken_off why) = record form { close = true }
 form_at form unread = record form { close = true }
 
 -- the present actor's account and events bear out that its task ended so, over a body of that fate
-abbrev pub BearsOut : Site → Asked → Fate → List ℕ → Outcome → List ℕ → DoorView → Type 0
+abbrev pub BearsOut : Site → Asked → Fate → List ℕ → TaskEnd → List ℕ → DoorView → Type 0
 BearsOut site asked fate body outcome shown e =
-    IsBorneOut site.settings.stripe site.zone site.asker asked fate body outcome shown (account_of site.settings e.seen (actor_at e)) (own_events e.seen (actor_at e))
+    IsBorneOut site.settings site.zone asked fate body outcome shown (account_of site.settings e.seen (actor_at e)) (own_events e.seen (actor_at e))
 
 -- they are those of such a request so far, of whose body so much came
 abbrev pub BearsOutSoFar : Site → Asked → Body → DoorView → Type 0
 BearsOutSoFar site asked body e =
-    IsSoFar site.settings.stripe site.zone site.asker asked body (account_of site.settings e.seen (actor_at e)) (own_events e.seen (actor_at e))
+    IsSoFar site.settings site.zone asked body (account_of site.settings e.seen (actor_at e)) (own_events e.seen (actor_at e))
 
 -- ---- good ends
 
@@ -122,7 +120,7 @@ BearsOutSoFar site asked body e =
 pub record IsReplied (tells alone : Type 0) (site : Site) (form : ReplyForm) (asked : Asked) (fate : Fate) (x y : Side) : Type 0 where
   pub body : List ℕ
   pub has_fate : HasFate fate x.intake y.intake x.ends.left y.ends.left body
-  pub outcome : Outcome
+  pub outcome : TaskEnd
   pub shown : List ℕ
   pub written : Appends x.ends.taken y.ends.taken (text_by (form_at form fate) asked fate (task x.door.count outcome) shown)
   pub right : tells → BearsOut site asked fate body outcome shown y.door
@@ -149,13 +147,13 @@ IsCutOff tells alone site asked plan x y = StopsShort tells alone site asked pla
 abbrev pub IsServed : Type 0 → Type 0 → Site → ReplyForm → Asked → BodyUse → Side → Side → Served → Type 0
 IsServed tells alone site form asked plan x y services.Replied =
     (fate : Fate) × Suits plan fate × (is_broken fate ≡ false)
-    × (r : IsReplied tells alone site form asked fate x y) × (r.outcome ≢ BodyFailed)
+    × (r : IsReplied tells alone site form asked fate x y) × (r.outcome ≢ body_failed)
 IsServed tells alone site form asked plan x y services.Closed =
     (fate : Fate) × Suits plan fate × (is_left fate ≡ true)
-    × (r : IsReplied tells alone site form asked fate x y) × (r.outcome ≢ BodyFailed)
+    × (r : IsReplied tells alone site form asked fate x y) × (r.outcome ≢ body_failed)
 IsServed tells alone site form asked plan x y services.Refused =
     (why : BodyEnd) × Suits plan (broken_off why)
-    × (r : IsReplied tells alone site form asked (broken_off why) x y) × (r.outcome ≡ BodyFailed)
+    × (r : IsReplied tells alone site form asked (broken_off why) x y) × (r.outcome ≡ body_failed)
 IsServed tells alone site form asked plan x y services.Cut = IsCutOff tells alone site asked plan x y
 
 -- ---- faults
@@ -166,7 +164,7 @@ pub record IsInPart (tells alone : Type 0) (site : Site) (form : ReplyForm) (ask
   pub suits : Suits plan fate
   pub body : List ℕ
   pub has_fate : HasFate fate x.intake y.intake x.ends.left y.ends.left body
-  pub outcome : Outcome
+  pub outcome : TaskEnd
   pub shown : List ℕ
   pub written : AppendsFront x.ends.taken y.ends.taken (text_by (form_at form fate) asked fate (task x.door.count outcome) shown)
   pub right : tells → BearsOut site asked fate body outcome shown y.door
@@ -193,13 +191,10 @@ pub record IsBeforeReply (tells alone : Type 0) (site : Site) (asked : Asked) (p
 -- A stripe of what the GET shows was gone: behind the reads of the row and, at the first clock, of the head, each tail of the
 -- range was read once, in order, up to the one that was gone at the second.
 abbrev pub IsLateIn : Site → Asked → DoorView → ℕ → ℕ → Type 0
-IsLateIn site BadHost e read_at clock = ⊥
-IsLateIn site (Refused why) e read_at clock = ⊥
-IsLateIn site (Put c) e read_at clock = ⊥
-IsLateIn site (Unfed (Listing c listing)) e read_at clock = ⊥
-IsLateIn site (Unfed (Get c)) e read_at clock =
-    IsGetOutcome site.zone site.asker c (LateRead read_at clock) (account_of site.settings e.seen (actor_at e))
-    × MissesTail (record { zone = site.zone; asker = site.asker; get = c }) read_at clock (own_events e.seen (actor_at e))
+IsLateIn site (Unfed asker (Get c)) e read_at clock =
+    IsGetOutcome site.zone asker c (LateRead read_at clock) (account_of site.settings e.seen (actor_at e))
+    × MissesTail (record { zone = site.zone; asker = asker; get = c }) read_at clock (own_events e.seen (actor_at e))
+IsLateIn site asked e read_at clock = ⊥
 
 -- what a fault leaves of a request whose body is used so, where the door's last step found this history
 abbrev pub IsStopped : Type 0 → Type 0 → Site → ReplyForm → Asked → BodyUse → List Event → Side → Side → ServeFault → Type 0
