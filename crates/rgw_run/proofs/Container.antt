@@ -30,11 +30,11 @@ use Rattle.realm_model.specs.declared.event.Event.{Event}
 use Rattle.realm_model.proofs.ObjectLemmas.{number_same}
 use Rattle.realm_model.proofs.Runs.{run-append, state-next}
 use Rattle.realm_door.specs.Steps.{next_count, actor_of_pass}
-use Rattle.swift_auth.specs.Users.{standard_user, account_of}
+use Rattle.swift_auth.specs.Users.{UserView}
 use Rattle.container_preset.specs.Presets.{row_now, new_row, shard_op, row_op, event_by, makes, look, made_row}
 use Rattle.container_preset.proofs.Rows.{makes_stay, next_is}
 use Rattle.once_law.specs.Maps.{rows_in, slots_in, no_slots}
-use Rattle.once_law.specs.Runs.{NoneFrom, IsOpen, AreAt}
+use Rattle.once_law.specs.Runs.{owner_in, NoneFrom, IsOpen, AreAt}
 use Rattle.once_law.proofs.Open.{keeps_open, homes_kept}
 use Rattle.once_law.proofs.Folding.{none_of_other}
 use Rattle.once_law.proofs.Moments.{clock_behind}
@@ -104,16 +104,16 @@ homes_stay settings w (e ∷ es) keep = homes_stay settings (happens settings w 
 
 -- ---- the making of the container
 
-module _ (settings : SettingsView) (bucket : List ℕ) (moment : ℕ) where
+module _ (settings : SettingsView) (users : List UserView) (bucket : List ℕ) (moment : ℕ) where
   abbrev swap : Event
-  swap = event_by maker (row_op settings bucket (account_of standard_user) 1) moment Done
+  swap = event_by maker (row_op settings bucket (owner_in users) 1) moment Done
 
   -- the read of the name, and the shards
   abbrev front : List Event
   front = look maker bucket moment ∷ makes maker 1 moment settings.shards
 
   abbrev made : List Event
-  made = making settings bucket moment
+  made = making settings users bucket moment
 
   all_making : (P : Event → Type 0) → P (look maker bucket moment) → ((n : ℕ) → P (event_by maker (shard_op 1 n) moment Done)) → P swap → AllByRecursion P made
   all_making P first each last = (first, all_both P (makes maker 1 moment settings.shards) (swap ∷ []) (all_makes P maker 1 moment each settings.shards) (last, tt))
@@ -145,14 +145,14 @@ module _ (settings : SettingsView) (bucket : List ℕ) (moment : ℕ) where
       let many = so_many maker 1 moment settings.shards in
       omega (arith, next, many)
 
-  row_at : (name : List ℕ) → rows_in settings made 1 name ≡ one_row settings (Some bucket) name
+  row_at : (name : List ℕ) → rows_in settings made 1 name ≡ one_row settings users (Some bucket) name
   row_at name =
       let st : State = at_moment (state_of settings front) moment in
-      let new = new_row settings (account_of standard_user) 1 in
+      let new = new_row settings (owner_in users) 1 in
       ap (λ (s : State). at (s.root 1).buckets name) (state-next settings front swap)
       ∙ swap_leaves (st.root 1) bucket new (number_next st) name (no_row bucket)
       ∙ ap (λ o. cond (bytes_eq name bucket) (Some (stored None new true (number_next st))) o) (no_row name)
-      ∙ ap (λ n. cond (bytes_eq name bucket) (Some (made_row settings (account_of standard_user) 1 n)) None) number
+      ∙ ap (λ n. cond (bytes_eq name bucket) (Some (made_row settings (owner_in users) 1 n)) None) number
 
   -- the one container stands
   abbrev home : Home
@@ -166,7 +166,7 @@ module _ (settings : SettingsView) (bucket : List ℕ) (moment : ℕ) where
   first_stands : is_standing (world_of settings made).rows (state_of settings made) 1 ≡ true
   first_stands =
       ap (λ (f : ℕ → Option Home). is_some (row_at_home (f 1) (state_of settings made) 1 1)) homes_are
-      ∙ ap (λ o. is_some (with_id o 1)) (row_at bucket ∙ ap (λ b. cond b (Some (made_row settings (account_of standard_user) 1 (settings.shards + 2))) None) ((bytes_eq-Decides bucket bucket).1 refl))
+      ∙ ap (λ o. is_some (with_id o 1)) (row_at bucket ∙ ap (λ b. cond b (Some (made_row settings (owner_in users) 1 (settings.shards + 2))) None) ((bytes_eq-Decides bucket bucket).1 refl))
 
   stands : (container : ℕ) (h : Home) → (world_of settings made).rows.homes container ≡ Some h → is_standing (world_of settings made).rows (state_of settings made) container ≡ true
   stands container h has =
@@ -182,16 +182,16 @@ module _ (settings : SettingsView) (bucket : List ℕ) (moment : ℕ) where
 -- ---- before the connection
 
 -- what stands there, where all moments are that one
-pub record IsPrepared (settings : SettingsView) (bucket : Option (List ℕ)) (moment : ℕ) (used : Bool) (before : List Event) : Type 0 where
+pub record IsPrepared (settings : SettingsView) (users : List UserView) (bucket : Option (List ℕ)) (moment : ℕ) (used : Bool) (before : List Event) : Type 0 where
   pub opened : IsOpen settings before
   pub unused : NoneFrom 1 (next_count (door_at used before)) before
   pub low : (state_of settings before).clock ≤ counted_moment moment
   pub slots : slots_in settings before 1 ≡ no_slots
-  pub rows : rows_in settings before 1 ≡ one_row settings bucket
+  pub rows : rows_in settings before 1 ≡ one_row settings users bucket
   pub free : (state_of settings before).free 1 ≡ settings.frames
 
-pub none_prepared : (settings : SettingsView) (moment : ℕ) → IsPrepared settings None moment false []
-none_prepared settings moment = record {
+pub none_prepared : (settings : SettingsView) (users : List UserView) (moment : ℕ) → IsPrepared settings users None moment false []
+none_prepared settings users moment = record {
   opened = record { closes = tt; stand = λ container home made. absurd cc };
   unused = λ count low. tt;
   low = omega arith;
@@ -200,12 +200,12 @@ none_prepared settings moment = record {
   free = refl;
 }
 
-pub one_prepared : (settings : SettingsView) (bucket : List ℕ) (moment : ℕ) → IsPrepared settings (Some bucket) moment true (making settings bucket moment)
-one_prepared settings bucket moment = record {
-  opened = is_open settings bucket moment;
-  unused = made_by_first settings bucket moment;
-  low = clock_behind settings [] (making settings bucket moment) moment (omega arith) (made_at settings bucket moment);
-  slots = no_object settings bucket moment;
-  rows = λ i name. row_at settings bucket moment name i;
-  free = ap (λ (f : ℕ → ℕ). f 1) (all_free settings bucket moment);
+pub one_prepared : (settings : SettingsView) (users : List UserView) (bucket : List ℕ) (moment : ℕ) → IsPrepared settings users (Some bucket) moment true (making settings users bucket moment)
+one_prepared settings users bucket moment = record {
+  opened = is_open settings users bucket moment;
+  unused = made_by_first settings users bucket moment;
+  low = clock_behind settings [] (making settings users bucket moment) moment (omega arith) (made_at settings users bucket moment);
+  slots = no_object settings users bucket moment;
+  rows = λ i name. row_at settings users bucket moment name i;
+  free = ap (λ (f : ℕ → ℕ). f 1) (all_free settings users bucket moment);
 }

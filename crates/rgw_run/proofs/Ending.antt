@@ -3,6 +3,7 @@ use Rattle.std.proofs.Common.{◌≡◌, inl, inr, ◌∙◌, ℕ, Bool, true, L
 use Rattle.gw_io.specs.Ends.{EndsState}
 use Rattle.gw_io.specs.Memory.{StepState, TellsOnly, moments_of, plan_of}
 use Rattle.realm_core.specs.Realms.{RealmView}
+use Rattle.swift_auth.specs.Users.{UserView}
 use Rattle.rgw_run.specs.declared.once_end.OnceEnd.TheVariants.{Unmade, Unbegun, Ended, Stopped}
 use Rattle.rgw_words.specs.declared.run_words.RunWords.{RunWords}
 use Rattle.turn_cell.specs.declared.machine.DoorFault.{DoorFault}
@@ -22,8 +23,8 @@ use Rattle.rgw_run.specs.Runs.{RunsByClock, with_clock, RunsAt, RunsBy, RunsOnce
 
 -- ---- memory was wanting before anything was done
 
-unmade : (settings : SettingsView) (bucket : Option (List ℕ)) (ends : EndsState) (realm : Option RealmView) → realm ≡ None → RunsByClock settings bucket ends ends realm 4
-unmade settings bucket ends realm none = record {
+unmade : (settings : SettingsView) (users : List UserView) (bucket : Option (List ℕ)) (ends : EndsState) (realm : Option RealmView) → realm ≡ None → RunsByClock settings users bucket ends ends realm 4
+unmade settings users bucket ends realm none = record {
   end = Unmade;
   in_time = tt;
   leaves = (none, refl);
@@ -37,10 +38,10 @@ unmade settings bucket ends realm none = record {
   };
 }
 
-unmade_by : (now : Option ℕ) (settings : SettingsView) (bucket : Option (List ℕ)) (ends : EndsState) (realm : Option RealmView) → realm ≡ None → RunsBy now settings bucket ends ends realm 4
-unmade_by None settings bucket ends realm none = unmade settings bucket ends realm none
+unmade_by : (now : Option ℕ) (settings : SettingsView) (users : List UserView) (bucket : Option (List ℕ)) (ends : EndsState) (realm : Option RealmView) → realm ≡ None → RunsBy now settings users bucket ends ends realm 4
+unmade_by None settings users bucket ends realm none = unmade settings users bucket ends realm none
 unmade_by (Some moment) settings bucket ends realm none =
-    record { told = []; each = λ k d few. absurd (omega (arith, few)); runs = unmade settings bucket (with_clock ends moment []) realm none; plan = refl }
+    record { told = []; each = λ k d few. absurd (omega (arith, few)); runs = unmade settings users bucket (with_clock ends moment []) realm none; plan = refl }
 
 scripted_unmade : (script : Option RunWords) (ends : EndsState) (realm : Option RealmView) → realm ≡ None → IfSome script (λ asked. RunsScripted asked ends ends realm 4)
 scripted_unmade None ends realm none = tt
@@ -52,7 +53,7 @@ unread (Some once) script may_ask ends realm none there = record {
   refused = λ e. absurd (omega (arith, e));
   neither = λ e. absurd (cc);
   nothing = λ e. absurd (cc);
-  once_runs = unmade_by once.now once.settings once.bucket ends realm none;
+  once_runs = unmade_by once.now once.settings once.users once.bucket ends realm none;
   script_runs = scripted_unmade script ends realm none;
 }
 unread None script may_ask ends realm none there = absurd (cc)
@@ -92,8 +93,8 @@ not_refused (Unbegun fault) e = not_of_door fault e
 not_refused (Ended served) e = not_of_end served.end e
 not_refused (Stopped fault) e = not_of_fault fault e
 
-once_not_refused : (now : Option ℕ) (settings : SettingsView) (bucket : Option (List ℕ)) (old new : EndsState) (realm : Option RealmView) (status : ℕ) → RunsBy now settings bucket old new realm status → status ≡ 1 → ⊥
-once_not_refused None settings bucket old new realm status runs e = not_refused runs.end (sym runs.ended ∙ e)
+once_not_refused : (now : Option ℕ) (settings : SettingsView) (users : List UserView) (bucket : Option (List ℕ)) (old new : EndsState) (realm : Option RealmView) (status : ℕ) → RunsBy now settings users bucket old new realm status → status ≡ 1 → ⊥
+once_not_refused None settings users bucket old new realm status runs e = not_refused runs.end (sym runs.ended ∙ e)
 once_not_refused (Some moment) settings bucket old new realm status runs e = not_refused runs.runs.end (sym runs.runs.ended ∙ e)
 
 script_not_refused : (result : Result (Unit {0}) ScriptFault) → script_status result ≡ 1 → ⊥
@@ -112,7 +113,7 @@ scripted_not_refused script old new realm status (inr run) e = script_not_refuse
 
 asked_once : (asked : RunWords) (may_ask : Bool) (old new : EndsState) (realm : Option RealmView) (status : ℕ) → RunsOnce asked old new realm status → RunsAlone (Some asked) None may_ask old new realm status
 asked_once asked may_ask old new realm status runs = record {
-  refused = λ e. absurd (once_not_refused asked.now asked.settings asked.bucket old new realm status runs e);
+  refused = λ e. absurd (once_not_refused asked.now asked.settings asked.users asked.bucket old new realm status runs e);
   neither = λ e _. let clash : Some asked ≡ None = e in absurd (cc);
   nothing = λ e _. let clash : Some asked ≡ None = e in absurd (cc);
   once_runs = runs;
@@ -166,7 +167,7 @@ has_run script old new made realm moment result status begins left settings lega
 abbrev still : ℕ → StepState
 still moment = record { first = moment; step = 0; calls = 0 }
 
-module _ (settings : SettingsView) (bucket : Option (List ℕ)) (moment : ℕ) (old new : EndsState) where
+module _ (settings : SettingsView) (users : List UserView) (bucket : Option (List ℕ)) (moment : ℕ) (old new : EndsState) where
   abbrev before : EndsState
   before = record old { told = None; plan = None }
 
@@ -174,18 +175,18 @@ module _ (settings : SettingsView) (bucket : Option (List ℕ)) (moment : ℕ) (
   after = record new { told = None; plan = None }
 
   by_still : (later : StepState) (realm : Option RealmView) (status : ℕ) → TellsOnly (still moment) moment
-      → RunsByClock settings bucket (with_clock old moment []) (record new { told = Some (moments_of later); plan = plan_of later }) realm status
-      → RunsAt settings bucket moment before after realm status
+      → RunsByClock settings users bucket (with_clock old moment []) (record new { told = Some (moments_of later); plan = plan_of later }) realm status
+      → RunsAt settings users bucket moment before after realm status
   by_still later realm status tells runs = record {
     told = moments_of later;
     each = tells later (moments_of later) runs.cause.plan refl;
-    runs = subst (λ p. RunsByClock settings bucket (with_clock old moment []) (record new { told = Some (moments_of later); plan = p }) realm status) runs.cause.plan runs;
+    runs = subst (λ p. RunsByClock settings users bucket (with_clock old moment []) (record new { told = Some (moments_of later); plan = p }) realm status) runs.cause.plan runs;
     plan = refl;
   }
 
   pub at_moment : (first later : StepState) (realm : Option RealmView) (status : ℕ) → first ≡ still moment → TellsOnly first moment
-      → RunsByClock settings bucket (record old { told = Some (moments_of first); plan = plan_of first }) (record new { told = Some (moments_of later); plan = plan_of later }) realm status
-      → RunsAt settings bucket moment before after realm status
+      → RunsByClock settings users bucket (record old { told = Some (moments_of first); plan = plan_of first }) (record new { told = Some (moments_of later); plan = plan_of later }) realm status
+      → RunsAt settings users bucket moment before after realm status
   at_moment first later realm status is tells runs =
       by_still later realm status (subst (λ f. TellsOnly f moment) is tells)
-      (subst (λ (f : StepState). RunsByClock settings bucket (record old { told = Some (moments_of f); plan = plan_of f }) (record new { told = Some (moments_of later); plan = plan_of later }) realm status) is runs)
+      (subst (λ (f : StepState). RunsByClock settings users bucket (record old { told = Some (moments_of f); plan = plan_of f }) (record new { told = Some (moments_of later); plan = plan_of later }) realm status) is runs)

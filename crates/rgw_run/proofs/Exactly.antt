@@ -7,6 +7,7 @@ use Rattle.std.proofs.lemmas.List.Elements.{recursion_from_All}
 use Rattle.gw_io.specs.Ends.{EndsState}
 use Rattle.http_intake.specs.Intake.{IntakeState, fresh}
 use Rattle.http_model.specs.declared.reply.ReplyForm.{ReplyForm}
+use Rattle.swift_auth.specs.Users.{UserView}
 use Rattle.rgw_model.specs.Stamps.{counted_moment}
 use Rattle.realm_core.specs.Realms.{RealmView}
 use Rattle.realm_model.specs.Doors.{DoorView}
@@ -76,13 +77,13 @@ shorter (x ∷ xs) ys = let rest = shorter xs ys in omega (arith, rest)
 
 -- ---- calls that the history bears out
 
-module _ (settings : SettingsView) (good : IsSettings settings) (bucket : Option (List ℕ)) (moment : ℕ) (used : Bool) (before : List Event) (prepared : IsPrepared settings bucket moment used before)
+module _ (settings : SettingsView) (users : List UserView) (good : IsSettings settings) (bucket : Option (List ℕ)) (moment : ℕ) (used : Bool) (before : List Event) (prepared : IsPrepared settings users bucket moment used before)
     (e : DoorView) (calls : List Call) (last : ℕ) (moments rest : List ℕ) (settled : AreSettled (Unit {0}) (site_of settings 1) (door_at used before) e calls last)
     (told : AreTold (Unit {0}) e.seen 1 calls moments rest) (are : AreMoment moment moments) where
   abbrev next : ℕ
   next = next_count (door_at used before)
 
-  pub exact_calls : AreExact settings bucket moment calls
+  pub exact_calls : AreExact settings users bucket moment calls
   exact_calls =
       let only = settled.only tt in
       let c = cut 1 calls only.more only.later only.made in
@@ -103,10 +104,10 @@ module _ (settings : SettingsView) (good : IsSettings settings) (bucket : Option
       let at = calls_at 1 moment e.seen only.later before c.events calls moments rest seen told c.made are in
       let clocks = clocks_at settings 1 before c.events next moment prepared.low at prepared.unused in
       let of_maps = fold settings good 1 standard_asker 1 (λ count. counted_moment moment) before c.events next calls last [] legal few prepared.unused right c.made tt prepared.opened clocks in
-      let x_is : record { zone = 1; asker = standard_asker; rows = rows_in settings before 1; clocks = λ count. counted_moment moment } ≡ fixed_at settings bucket moment =
+      let x_is : record { zone = 1; asker = standard_asker; rows = rows_in settings before 1; clocks = λ count. counted_moment moment } ≡ fixed_at settings users bucket moment =
       λ i. record { zone = 1; asker = standard_asker; rows = prepared.rows i; clocks = λ count. counted_moment moment } in
       record {
-        folded = subst (λ l. AreFolded (fixed_at settings bucket moment) l calls) prepared.slots
+        folded = subst (λ l. AreFolded (fixed_at settings users bucket moment) l calls) prepared.slots
             (subst (λ x. AreFolded x (slots_in settings before 1) calls) x_is of_maps.folded);
         full = full settings good 1 standard_asker 1 moment before c.events next calls last [] legal prepared.unused right c.made tt prepared.opened prepared.low at;
         found = λ fits.
@@ -161,28 +162,28 @@ next_grew site k found x y fault (inr (head, z, reads, left)) =
 -- ---- where the connection begins
 
 -- the door before the connection, where each moment that was told is that one
-record IsReadyAt (settings : SettingsView) (bucket : Option (List ℕ)) (moment : ℕ) (ready : DoorView) : Type 0 where
+record IsReadyAt (settings : SettingsView) (users : List UserView) (bucket : Option (List ℕ)) (moment : ℕ) (ready : DoorView) : Type 0 where
   used : Bool
   before : List Event
   is : ready ≡ door_at used before
-  prepared : IsPrepared settings bucket moment used before
+  prepared : IsPrepared settings users bucket moment used before
 
-ready_at : (settings : SettingsView) (bucket : Option (List ℕ)) (moment : ℕ) (firsts : List ℕ) (ready : DoorView) → Prepares settings bucket firsts ready → AreMoment moment firsts → IsReadyAt settings bucket moment ready
-ready_at settings None moment firsts ready (none, is) are =
-    record { used = false; before = []; is = is; prepared = none_prepared settings moment }
-ready_at settings (Some name) moment firsts ready (made, one, is) are =
+ready_at : (settings : SettingsView) (users : List UserView) (bucket : Option (List ℕ)) (moment : ℕ) (firsts : List ℕ) (ready : DoorView) → Prepares settings users bucket firsts ready → AreMoment moment firsts → IsReadyAt settings users bucket moment ready
+ready_at settings users None moment firsts ready (none, is) are =
+    record { used = false; before = []; is = is; prepared = none_prepared settings users moment }
+ready_at settings users (Some name) moment firsts ready (made, one, is) are =
     let all : AreMoment moment (made ∷ []) = subst (AreMoment moment) one are in
     let same : made ≡ moment = all.0 in
     record {
       used = true;
-      before = making settings name moment;
-      is = is ∙ ap (λ m. door_at true (making settings name m)) same;
-      prepared = one_prepared settings name moment;
+      before = making settings users name moment;
+      is = is ∙ ap (λ m. door_at true (making settings users name m)) same;
+      prepared = one_prepared settings users name moment;
     }
 
 -- ---- the connection
 
-module _ (settings : SettingsView) (good : IsSettings settings) (bucket : Option (List ℕ)) (moment : ℕ) (firsts : List ℕ) (ready : DoorView) (prepares : Prepares settings bucket firsts ready)
+module _ (settings : SettingsView) (users : List UserView) (good : IsSettings settings) (bucket : Option (List ℕ)) (moment : ℕ) (firsts : List ℕ) (ready : DoorView) (prepares : Prepares settings users bucket firsts ready)
     (told : List ℕ) (each : AreMoment moment told) (old middle : Option (List ℕ)) (none : old ≡ Some []) (first : Appends old middle firsts) where
   -- the container was made at the moment, and the calls were told it
   moments_are : (moments : List ℕ) → Appends middle (Some told) moments → AreMoment moment firsts × AreMoment moment moments
@@ -191,15 +192,15 @@ module _ (settings : SettingsView) (good : IsSettings settings) (bucket : Option
       both_are moment firsts moments (subst (AreMoment moment) both each)
 
   calls_exact : (e : DoorView) (calls : List Call) (last : ℕ) (moments rest : List ℕ) → AreSettled (Unit {0}) (site_of settings 1) ready e calls last
-      → AreTold (Unit {0}) e.seen ready.pass calls moments rest → AreMoment moment firsts → AreMoment moment moments → AreExact settings bucket moment calls
+      → AreTold (Unit {0}) e.seen ready.pass calls moments rest → AreMoment moment firsts → AreMoment moment moments → AreExact settings users bucket moment calls
   calls_exact e calls last moments rest settled told begun are =
-      let r = ready_at settings bucket moment firsts ready prepares begun in
-      exact_calls settings good bucket moment r.used r.before r.prepared e calls last moments rest
+      let r = ready_at settings users bucket moment firsts ready prepares begun in
+      exact_calls settings users good bucket moment r.used r.before r.prepared e calls last moments rest
       (subst (λ d. AreSettled (Unit {0}) (site_of settings 1) d e calls last) r.is settled)
       (subst (λ (d : DoorView). AreTold (Unit {0}) e.seen d.pass calls moments rest) r.is told) are
 
   stopped_exact : (found : List Event) (e : DoorView) (intake intake' : IntakeState) (old_ends new_ends : EndsState) (fault : ServeFault) → old_ends.told ≡ middle → new_ends.told ≡ Some told
-      → (l : StopsFrom (Unit {0}) (Unit {0}) (site_of settings 1) 1 found (side ready intake old_ends) (side e intake' new_ends) fault) → AreExact settings bucket moment l.calls
+      → (l : StopsFrom (Unit {0}) (Unit {0}) (site_of settings 1) 1 found (side ready intake old_ends) (side e intake' new_ends) fault) → AreExact settings users bucket moment l.calls
   unfolding Grew
   stopped_exact found e intake intake' old_ends new_ends fault at_middle at_end l =
       let grew = next_grew (site_of settings 1) (place_after 1 l.calls) found l.between (side e intake' new_ends) fault l.left in
@@ -209,7 +210,7 @@ module _ (settings : SettingsView) (good : IsSettings settings) (bucket : Option
       calls_exact e l.calls (next_count l.between.door) l.moments [] (l.settled tt) l.told are.0 (both_are moment l.moments grew.0 are.1).0
 
   replied_exact : (e : DoorView) (old_ends new_ends : EndsState) (calls : List Call) (end : CallsEnd) → old_ends.told ≡ middle → new_ends.told ≡ Some told
-      → RepliesTo (Unit {0}) (Unit {0}) (site_of settings 1) 1 [] ready e old_ends new_ends calls end → AreExact settings bucket moment calls
+      → RepliesTo (Unit {0}) (Unit {0}) (site_of settings 1) 1 [] ready e old_ends new_ends calls end → AreExact settings users bucket moment calls
   replied_exact e old_ends new_ends calls end at_middle at_end r =
       let all = subst (λ o. Appends o (Some told) r.moments) at_middle (subst (λ o. Appends old_ends.told o r.moments) at_end r.asked_clock) in
       let are = moments_are r.moments all in
@@ -217,13 +218,13 @@ module _ (settings : SettingsView) (good : IsSettings settings) (bucket : Option
 
   pub connection_exact : (found : List Event) (e : DoorView) (old_ends new_ends : EndsState) (result : Result Served ServeFault) → old_ends.told ≡ middle → new_ends.told ≡ Some told
       → (s : ServesConnection (Unit {0}) (Unit {0}) (site_of settings 1) found ready e old_ends new_ends result)
-      → AreExact settings bucket moment (calls_in settings found ready e old_ends new_ends result s)
+      → AreExact settings users bucket moment (calls_in settings found ready e old_ends new_ends result s)
   connection_exact found e old_ends new_ends (Ok served) at_middle at_end s =
       replied_exact e old_ends new_ends s.served.calls s.served.stream_end at_middle at_end s.served.replied
   connection_exact found e old_ends new_ends (Err fault) at_middle at_end s = by_fault fault (s.left fault refl).0 (s.left fault refl).1
     where
       by_fault : (fault : ServeFault) (intake : IntakeState) (l : LeavesAt (Unit {0}) (Unit {0}) (site_of settings 1) 1 found (side ready (fresh settings.largest) old_ends) (side e intake new_ends) fault)
-          → AreExact settings bucket moment (calls_before settings found (side ready (fresh settings.largest) old_ends) (side e intake new_ends) fault l)
+          → AreExact settings users bucket moment (calls_before settings found (side ready (fresh settings.largest) old_ends) (side e intake new_ends) fault l)
       by_fault faults.ReadFault intake l = replied_exact e old_ends new_ends l.calls l.stream_end at_middle at_end l.replied
       by_fault faults.OutOfMemory intake l = stopped_exact found e (fresh settings.largest) intake old_ends new_ends faults.OutOfMemory at_middle at_end l
       by_fault faults.WriteFault intake l = stopped_exact found e (fresh settings.largest) intake old_ends new_ends faults.WriteFault at_middle at_end l
@@ -232,28 +233,28 @@ module _ (settings : SettingsView) (good : IsSettings settings) (bucket : Option
 
 -- ---- the run
 
-module _ (settings : SettingsView) (bucket : Option (List ℕ)) (moment : ℕ) (old new : EndsState) (realm : Option RealmView) (told : List ℕ) (each : AreMoment moment told) where
-  end_exact : (end : OnceEnd) (l : Leaves settings bucket (with_clock old moment []) (with_clock new moment told) realm end) → IsExactEnd settings bucket moment (with_clock old moment []) (with_clock new moment told) realm end l
+module _ (settings : SettingsView) (users : List UserView) (bucket : Option (List ℕ)) (moment : ℕ) (old new : EndsState) (realm : Option RealmView) (told : List ℕ) (each : AreMoment moment told) where
+  end_exact : (end : OnceEnd) (l : Leaves settings users bucket (with_clock old moment []) (with_clock new moment told) realm end) → IsExactEnd settings users bucket moment (with_clock old moment []) (with_clock new moment told) realm end l
   end_exact Unmade l = tt
   end_exact (Unbegun fault) l = tt
   end_exact (Ended served) l =
-      connection_exact settings l.bounds bucket moment l.moments l.ready l.prepares told each (Some []) (l.middle).told refl l.tells.told l.door.seen l.door l.middle (with_clock new moment told) (Ok served) refl refl l.serves
+      connection_exact settings users l.bounds bucket moment l.moments l.ready l.prepares told each (Some []) (l.middle).told refl l.tells.told l.door.seen l.door l.middle (with_clock new moment told) (Ok served) refl refl l.serves
   end_exact (Stopped fault) l =
-      connection_exact settings l.bounds bucket moment l.moments l.ready l.prepares told each (Some []) (l.middle).told refl l.tells.told l.door.seen l.door l.middle (with_clock new moment told) (Err fault) refl refl l.serves
+      connection_exact settings users l.bounds bucket moment l.moments l.ready l.prepares told each (Some []) (l.middle).told refl l.tells.told l.door.seen l.door l.middle (with_clock new moment told) (Err fault) refl refl l.serves
 
-exactly : (settings : SettingsView) (bucket : Option (List ℕ)) (moment : ℕ) (old new : EndsState) (realm : Option RealmView) (status : ℕ) → RunsAt settings bucket moment old new realm status → RunsExactly settings bucket moment old new realm status
-exactly settings bucket moment old new realm status runs = record {
+exactly : (settings : SettingsView) (users : List UserView) (bucket : Option (List ℕ)) (moment : ℕ) (old new : EndsState) (realm : Option RealmView) (status : ℕ) → RunsAt settings users bucket moment old new realm status → RunsExactly settings users bucket moment old new realm status
+exactly settings users bucket moment old new realm status runs = record {
   runs = runs;
-  exact = end_exact settings bucket moment old new realm runs.told (recursion_from_All (λ m. m ≡ moment) runs.told runs.each) runs.runs.end runs.runs.leaves;
+  exact = end_exact settings users bucket moment old new realm runs.told (recursion_from_All (λ m. m ≡ moment) runs.told runs.each) runs.runs.end runs.runs.leaves;
 }
 
 -- where the words say the moment
-pub exactly_if : (once : RunWords) (old new : EndsState) (realm : Option RealmView) (status : ℕ) → RunsOnce once old new realm status → IfSome once.now (λ moment. RunsExactly once.settings once.bucket moment old new realm status)
+pub exactly_if : (once : RunWords) (old new : EndsState) (realm : Option RealmView) (status : ℕ) → RunsOnce once old new realm status → IfSome once.now (λ moment. RunsExactly once.settings once.users once.bucket moment old new realm status)
 exactly_if once old new realm status = by_now once.now
   where
-    by_now : (now : Option ℕ) → RunsBy now once.settings once.bucket old new realm status → IfSome now (λ moment. RunsExactly once.settings once.bucket moment old new realm status)
+    by_now : (now : Option ℕ) → RunsBy now once.settings once.users once.bucket old new realm status → IfSome now (λ moment. RunsExactly once.settings once.users once.bucket moment old new realm status)
     by_now None runs = tt
-    by_now (Some moment) runs = exactly once.settings once.bucket moment old new realm status runs
+    by_now (Some moment) runs = exactly once.settings once.users once.bucket moment old new realm status runs
 
 pub exactly_of : (words : Option RunWords) (script : Option RunWords) (may_ask : Bool) (old new : EndsState) (realm : Option RealmView) (status : ℕ) → RunsAlone words script may_ask old new realm status → RunsExactlyIf words old new realm status
 exactly_of None script may_ask old new realm status runs = tt

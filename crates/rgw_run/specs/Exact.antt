@@ -4,10 +4,10 @@ use Rattle.std.specs.Prelude.{ℕ, ◌+◌, ◌≤◌, List, [], bytes_eq, Optio
 use Rattle.gw_io.specs.Ends.{EndsState}
 use Rattle.rgw_model.specs.Stamps.{counted_moment}
 use Rattle.realm_core.specs.Realms.{RealmView}
+use Rattle.swift_auth.specs.Users.{UserView}
 use Rattle.realm_model.specs.Doors.{DoorView}
 use Rattle.realm_model.specs.Settings.{SettingsView}
 use Rattle.realm_model.specs.declared.event.Event.{Event}
-use Rattle.swift_auth.specs.Users.{standard_user, account_of}
 use Rattle.container_preset.specs.Presets.{made_row}
 use Rattle.call_words.specs.Calls.{Call}
 use Rattle.http_intake.specs.Intake.{fresh}
@@ -23,7 +23,7 @@ use Rattle.room_law.specs.Rooms.{frames_together}
 use Rattle.rgw_run.specs.declared.once_end.OnceEnd.{OnceEnd}
 use Rattle.rgw_run.specs.declared.once_end.OnceEnd.TheVariants.{Unmade, Unbegun, Ended, Stopped}
 use Rattle.rgw_words.specs.declared.run_words.RunWords.{RunWords}
-use Rattle.rgw_run.specs.Runs.{with_clock, Leaves, RunsAt}
+use Rattle.rgw_run.specs.Runs.{owner_in, with_clock, Leaves, RunsAt}
 
 -- ---- the calls
 
@@ -46,45 +46,45 @@ calls_in settings found d e old new (Err fault) serves =
 
 -- the one row, of a container that the first events of the realm make: a read of its name, its shards, and the row; none where
 -- none was made
-abbrev pub one_row : SettingsView → Option (List ℕ) → Rows
-one_row settings None name = None
-one_row settings (Some bucket) name =
-    if bytes_eq name bucket then Some (made_row settings (account_of standard_user) 1 (settings.shards + 2)) else None
+abbrev pub one_row : SettingsView → List UserView → Option (List ℕ) → Rows
+one_row settings users None name = None
+one_row settings users (Some bucket) name =
+    if bytes_eq name bucket then Some (made_row settings (owner_in users) 1 (settings.shards + 2)) else None
 
 -- what stays the same from call to call of a run at one moment
-abbrev pub fixed_at : SettingsView → Option (List ℕ) → ℕ → Fixed
-fixed_at settings bucket moment = record {
+abbrev pub fixed_at : SettingsView → List UserView → Option (List ℕ) → ℕ → Fixed
+fixed_at settings users bucket moment = record {
   zone = 1;
   asker = standard_asker;
-  rows = one_row settings bucket;
+  rows = one_row settings users bucket;
   clocks = λ actor. counted_moment moment;
 }
 
 -- The calls are replied as the map of the one container says, which has no name at first; but where a body broke off, or there
 -- is no room, which leaves the map as it was. There is room where the frames that all bodies of PUTs take together are no more
 -- than the zone's.
-pub record AreExact (settings : SettingsView) (bucket : Option (List ℕ)) (moment : ℕ) (calls : List Call) : Type 0 where
-  pub folded : AreFolded (fixed_at settings bucket moment) no_slots calls
+pub record AreExact (settings : SettingsView) (users : List UserView) (bucket : Option (List ℕ)) (moment : ℕ) (calls : List Call) : Type 0 where
+  pub folded : AreFolded (fixed_at settings users bucket moment) no_slots calls
   pub full : AreRepliedOrFull calls
   pub found : frames_together settings.frame settings.stripe calls ≤ settings.frames → AreReplied calls
 
 -- ---- a run
 
 -- the calls whose replies were written whole are so replied, however the run ended
-abbrev pub IsExactEnd : (settings : SettingsView) (bucket : Option (List ℕ)) (moment : ℕ) (old new : EndsState) (realm : Option RealmView) (end : OnceEnd) → Leaves settings bucket old new realm end → Type 0
-IsExactEnd settings bucket moment old new realm Unmade leaves = Unit {0}
-IsExactEnd settings bucket moment old new realm (Unbegun fault) leaves = Unit {0}
-IsExactEnd settings bucket moment old new realm (Ended served) leaves =
-    AreExact settings bucket moment (calls_in settings leaves.door.seen leaves.ready leaves.door leaves.middle new (Ok served) leaves.serves)
-IsExactEnd settings bucket moment old new realm (Stopped fault) leaves =
-    AreExact settings bucket moment (calls_in settings leaves.door.seen leaves.ready leaves.door leaves.middle new (Err fault) leaves.serves)
+abbrev pub IsExactEnd : (settings : SettingsView) (users : List UserView) (bucket : Option (List ℕ)) (moment : ℕ) (old new : EndsState) (realm : Option RealmView) (end : OnceEnd) → Leaves settings users bucket old new realm end → Type 0
+IsExactEnd settings users bucket moment old new realm Unmade leaves = Unit {0}
+IsExactEnd settings users bucket moment old new realm (Unbegun fault) leaves = Unit {0}
+IsExactEnd settings users bucket moment old new realm (Ended served) leaves =
+    AreExact settings users bucket moment (calls_in settings leaves.door.seen leaves.ready leaves.door leaves.middle new (Ok served) leaves.serves)
+IsExactEnd settings users bucket moment old new realm (Stopped fault) leaves =
+    AreExact settings users bucket moment (calls_in settings leaves.door.seen leaves.ready leaves.door leaves.middle new (Err fault) leaves.serves)
 
 -- a run at one moment, with the replies of the bucket map
-pub record RunsExactly (settings : SettingsView) (bucket : Option (List ℕ)) (moment : ℕ) (old new : EndsState) (realm : Option RealmView) (status : ℕ) : Type 0 where
-  pub runs : RunsAt settings bucket moment old new realm status
-  pub exact : IsExactEnd settings bucket moment (with_clock old moment []) (with_clock new moment runs.told) realm runs.runs.end runs.runs.leaves
+pub record RunsExactly (settings : SettingsView) (users : List UserView) (bucket : Option (List ℕ)) (moment : ℕ) (old new : EndsState) (realm : Option RealmView) (status : ℕ) : Type 0 where
+  pub runs : RunsAt settings users bucket moment old new realm status
+  pub exact : IsExactEnd settings users bucket moment (with_clock old moment []) (with_clock new moment runs.told) realm runs.runs.end runs.runs.leaves
 
 -- where the words say the moment
 abbrev pub RunsExactlyIf : Option RunWords → EndsState → EndsState → Option RealmView → ℕ → Type 0
 RunsExactlyIf words old new realm status =
-    IfSome words (λ asked. IfSome asked.now (λ moment. RunsExactly asked.settings asked.bucket moment old new realm status))
+    IfSome words (λ asked. IfSome asked.now (λ moment. RunsExactly asked.settings asked.users asked.bucket moment old new realm status))

@@ -1,16 +1,16 @@
 -- What a run of the program comes to: a new realm, with a container or not, and a connection that is served to it.
-use Rattle.std.specs.Prelude.{◌≡◌, ◌≢◌, ◌⊎◌, ℕ, ◌^◌, Bool, List, [], ◌∷◌, length, true, false, All, IfSome, Option, None, Some, Result, Ok, Err}
+use Rattle.std.specs.Prelude.{◌≡◌, ◌≢◌, ◌⊎◌, ℕ, ◌^◌, Bool, List, [], ◌∷◌, length, true, false, All, IfSome, Option, None, Some, unwrap_or, slice_get, Result, Ok, Err}
 use Rattle.std.specs.Io.KnownBytes.{Appends}
 use Rattle.gw_io.specs.Ends.{EndsState}
 use Rattle.gw_io.specs.Memory.{moment_at}
 use Rattle.gw_io.specs.Outside.{Rose}
 use Rattle.turn_cell.specs.declared.machine.DoorFault.{DoorFault}
 use Rattle.turn_cell.specs.declared.machine.DoorFault.TheVariants as Door
+use Rattle.swift_auth.specs.Users.{UserView, standard_user, account_of}
 use Rattle.realm_model.specs.Doors.{DoorView, actor_at}
 use Rattle.realm_model.specs.Settings.{SettingsView, IsSettings}
 use Rattle.realm_model.specs.declared.event.Event.{Event}
 use Rattle.realm_core.specs.Realms.{RealmView}
-use Rattle.swift_auth.specs.Users.{standard_user, account_of}
 use Rattle.container_preset.specs.Presets.{preset, Stops}
 use Rattle.gateway.specs.Calls.{site_of}
 use Rattle.gateway.specs.Serving.{ServesConnection}
@@ -37,16 +37,20 @@ door_at used history = record { pass = 1; count = 0; used = used; seen = history
 abbrev pub first_door : DoorView
 first_door = door_at false []
 
--- the events that make the container, all at one moment
-abbrev pub making : SettingsView → List ℕ → ℕ → List Event
-making settings bucket moment = preset settings (actor_at first_door) bucket (account_of standard_user) 1 moment
+-- the account of the first of the users, of whom there is one at least
+abbrev pub owner_in : List UserView → List ℕ
+owner_in users = account_of (unwrap_or (slice_get users 0) standard_user)
+
+-- the events that make the container under that account, all at one moment
+abbrev pub making : SettingsView → List UserView → List ℕ → ℕ → List Event
+making settings users bucket moment = preset settings (actor_at first_door) bucket (owner_in users) 1 moment
 
 -- before the connection the container was made that the words name, at one moment that the clock told; or none is named, and
 -- nothing was
-abbrev pub Prepares : SettingsView → Option (List ℕ) → List ℕ → DoorView → Type 0
-Prepares settings None moments d = (moments ≡ []) × (d ≡ first_door)
-Prepares settings (Some bucket) moments d =
-    (moment : ℕ) × (moments ≡ moment ∷ []) × (d ≡ door_at true (making settings bucket moment))
+abbrev pub Prepares : SettingsView → List UserView → Option (List ℕ) → List ℕ → DoorView → Type 0
+Prepares settings users None moments d = (moments ≡ []) × (d ≡ first_door)
+Prepares settings users (Some bucket) moments d =
+    (moment : ℕ) × (moments ≡ moment ∷ []) × (d ≡ door_at true (making settings users bucket moment))
 
 -- ---- statuses
 
@@ -88,7 +92,7 @@ pub record TellsOnly (old new : EndsState) (moments : List ℕ) : Type 0 where
   pub other : new ≡ record old { told = new.told }
 
 -- the container was not made whole
-pub record LeavesUnbegun (settings : SettingsView) (bucket : List ℕ) (old new : EndsState) (realm : Option RealmView) (fault : DoorFault) : Type 0 where
+pub record LeavesUnbegun (settings : SettingsView) (users : List UserView) (bucket : List ℕ) (old new : EndsState) (realm : Option RealmView) (fault : DoorFault) : Type 0 where
   pub moment : ℕ
   pub tells : TellsOnly old new (moment ∷ [])
   pub door : DoorView
@@ -98,11 +102,11 @@ pub record LeavesUnbegun (settings : SettingsView) (bucket : List ℕ) (old new 
 
 -- the container was made that the words name, if they name one, and then the connection came to that, which the history of
 -- the realm that is left bears out
-pub record LeavesServed (settings : SettingsView) (bucket : Option (List ℕ)) (old new : EndsState) (realm : Option RealmView) (result : Result Served ServeFault) : Type 0 where
+pub record LeavesServed (settings : SettingsView) (users : List UserView) (bucket : Option (List ℕ)) (old new : EndsState) (realm : Option RealmView) (result : Result Served ServeFault) : Type 0 where
   pub bounds : IsSettings settings
   pub moments : List ℕ
   pub ready : DoorView
-  pub prepares : Prepares settings bucket moments ready
+  pub prepares : Prepares settings users bucket moments ready
   pub middle : EndsState
   pub tells : TellsOnly old middle moments
   pub door : DoorView
@@ -110,17 +114,17 @@ pub record LeavesServed (settings : SettingsView) (bucket : Option (List ℕ)) (
   pub serves : ServesConnection (Unit {0}) (Unit {0}) (site_of settings 1) door.seen ready door middle new result
 
 -- the container was not made that the words name
-abbrev pub LeavesUnmade : SettingsView → Option (List ℕ) → EndsState → EndsState → Option RealmView → DoorFault → Type 0
-LeavesUnmade settings None old new realm fault = ⊥
-LeavesUnmade settings (Some bucket) old new realm fault = LeavesUnbegun settings bucket old new realm fault
+abbrev pub LeavesUnmade : SettingsView → List UserView → Option (List ℕ) → EndsState → EndsState → Option RealmView → DoorFault → Type 0
+LeavesUnmade settings users None old new realm fault = ⊥
+LeavesUnmade settings users (Some bucket) old new realm fault = LeavesUnbegun settings users bucket old new realm fault
 
 -- memory was wanting before there was a realm; the container was not made; the connection was served to its end; or left at
 -- a fault
-abbrev pub Leaves : SettingsView → Option (List ℕ) → EndsState → EndsState → Option RealmView → OnceEnd → Type 0
-Leaves settings bucket old new realm Unmade = (realm ≡ None) × (new ≡ old)
-Leaves settings bucket old new realm (Unbegun fault) = LeavesUnmade settings bucket old new realm fault
-Leaves settings bucket old new realm (Ended served) = LeavesServed settings bucket old new realm (Ok served)
-Leaves settings bucket old new realm (Stopped fault) = LeavesServed settings bucket old new realm (Err fault)
+abbrev pub Leaves : SettingsView → List UserView → Option (List ℕ) → EndsState → EndsState → Option RealmView → OnceEnd → Type 0
+Leaves settings users bucket old new realm Unmade = (realm ≡ None) × (new ≡ old)
+Leaves settings users bucket old new realm (Unbegun fault) = LeavesUnmade settings users bucket old new realm fault
+Leaves settings users bucket old new realm (Ended served) = LeavesServed settings users bucket old new realm (Ok served)
+Leaves settings users bucket old new realm (Stopped fault) = LeavesServed settings users bucket old new realm (Err fault)
 
 -- no reply broke off since a stripe was gone
 abbrev pub IsInTime : OnceEnd → Type 0
@@ -138,10 +142,10 @@ pub record HasRunCause (old new : EndsState) (status : ℕ) : Type 0 where
   pub write_kept : status ≢ 3 → new.write_faults ≡ old.write_faults
 
 -- a run whose moments the clock tells
-pub record RunsByClock (settings : SettingsView) (bucket : Option (List ℕ)) (old new : EndsState) (realm : Option RealmView) (status : ℕ) : Type 0 where
+pub record RunsByClock (settings : SettingsView) (users : List UserView) (bucket : Option (List ℕ)) (old new : EndsState) (realm : Option RealmView) (status : ℕ) : Type 0 where
   pub end : OnceEnd
   pub in_time : IsInTime end
-  pub leaves : Leaves settings bucket old new realm end
+  pub leaves : Leaves settings users bucket old new realm end
   pub ended : status ≡ status_by end
   pub cause : HasRunCause old new status
 
@@ -150,19 +154,19 @@ abbrev pub with_clock : EndsState → ℕ → List ℕ → EndsState
 with_clock ends moment told = record ends { told = Some told; plan = Some (moment_at moment 0) }
 
 -- A run at one moment is one with a clock that tells it each time; the clock that was handed in has no part in it.
-pub record RunsAt (settings : SettingsView) (bucket : Option (List ℕ)) (moment : ℕ) (old new : EndsState) (realm : Option RealmView) (status : ℕ) : Type 0 where
+pub record RunsAt (settings : SettingsView) (users : List UserView) (bucket : Option (List ℕ)) (moment : ℕ) (old new : EndsState) (realm : Option RealmView) (status : ℕ) : Type 0 where
   pub told : List ℕ
   pub each : All (λ m. m ≡ moment) told
-  pub runs : RunsByClock settings bucket (with_clock old moment []) (with_clock new moment told) realm status
+  pub runs : RunsByClock settings users bucket (with_clock old moment []) (with_clock new moment told) realm status
   pub plan : new.plan ≡ old.plan
 
-abbrev pub RunsBy : Option ℕ → SettingsView → Option (List ℕ) → EndsState → EndsState → Option RealmView → ℕ → Type 0
-RunsBy None settings bucket old new realm status = RunsByClock settings bucket old new realm status
-RunsBy (Some moment) settings bucket old new realm status = RunsAt settings bucket moment old new realm status
+abbrev pub RunsBy : Option ℕ → SettingsView → List UserView → Option (List ℕ) → EndsState → EndsState → Option RealmView → ℕ → Type 0
+RunsBy None settings users bucket old new realm status = RunsByClock settings users bucket old new realm status
+RunsBy (Some moment) settings users bucket old new realm status = RunsAt settings users bucket moment old new realm status
 
 -- what a run comes to whose words ask that
 abbrev pub RunsOnce : RunWords → EndsState → EndsState → Option RealmView → ℕ → Type 0
-RunsOnce once old new realm status = RunsBy once.now once.settings once.bucket old new realm status
+RunsOnce once old new realm status = RunsBy once.now once.settings once.users once.bucket old new realm status
 
 -- What a run with such words comes to, which ask to serve one connection, or to run a script, or neither, and then nothing
 -- happens. Those that ask for neither are refused; but memory may be wanting to read the text of the users of a script.

@@ -1,6 +1,5 @@
 // A run of the program that serves one connection or plays a script, over any input, output and clock.
 ghost use Rattle.std.specs.Prelude.{◌≡◌, ◌^◌, IfSome, IsSome, None, Some, [], length, map, string_bytes, IfOk, IfErr, OnOk, OnErr};
-ghost use Rattle.swift_auth.specs.Users.{standard_user, account_of};
 ghost use Rattle.realm_core.specs.Realms.{new_realm};
 ghost use Rattle.realm_model.specs.Settings.{IsSettings};
 ghost use Rattle.container_preset.specs.Presets.{IsFresh};
@@ -23,7 +22,7 @@ use realm_door::Door;
 use realm_model::{Actor, Settings};
 use rgw_types::Text;
 use rgw_words::{RunWords, WordsFault, read_once, read_script};
-use std::alloc::{AllocError, Global};
+use std::alloc::Global;
 use swift_auth::Users;
 use turn_cell::DoorFault;
 
@@ -107,11 +106,11 @@ fn serve_once<S: Source, K: Sink, C: Clock>(
         now,
         users,
     } = once;
-    // The one user of a connection is the standard one.
-    drop(users);
     match now {
-        None => serve_by_clock(alloc, &settings, &bucket, input, output, clock, realm),
-        Some(moment) => serve_at(alloc, &settings, &bucket, moment, input, output, realm),
+        None => serve_by_clock(alloc, &settings, &users, &bucket, input, output, clock, realm),
+        Some(moment) => {
+            serve_at(alloc, &settings, &users, &bucket, moment, input, output, realm)
+        }
     }
 }
 
@@ -119,6 +118,7 @@ fn serve_once<S: Source, K: Sink, C: Clock>(
 fn serve_at<S: Source, K: Sink>(
     alloc: Global,
     settings: &Settings,
+    users: &Users,
     bucket: &Option<BucketName>,
     moment: u64,
     input: &mut S,
@@ -127,18 +127,21 @@ fn serve_at<S: Source, K: Sink>(
 ) -> Status
     requires new { realm.old ≡ None }
     requires bounds { IsSettings settings.now }
-    ensures { RunsAt settings.now bucket.now moment
+    ensures { RunsAt settings.now users.now bucket.now moment
         (record { left = S.left input.old; taken = K.taken output.old; told = None; plan = None; read_faults = S.faults input.old; write_faults = K.faults output.old })
         (record { left = S.left input.new; taken = K.taken output.new; told = None; plan = None; read_faults = S.faults input.new; write_faults = K.faults output.new }) realm.new result.number }
 {
     let mut clock = StepClock::new(moment, 0);
-    serve_by_clock(alloc, settings, bucket, input, output, &mut clock, realm)
+    serve_by_clock(
+        alloc, settings, users, bucket, input, output, &mut clock, realm,
+    )
 }
 
 /// Serves the connection, each event at the moment that the clock tells.
 fn serve_by_clock<S: Source, K: Sink, C: Clock>(
     alloc: Global,
     settings: &Settings,
+    users: &Users,
     bucket: &Option<BucketName>,
     input: &mut S,
     output: &mut K,
@@ -147,11 +150,11 @@ fn serve_by_clock<S: Source, K: Sink, C: Clock>(
 ) -> Status
     requires new { realm.old ≡ None }
     requires bounds { IsSettings settings.now }
-    ensures { RunsByClock settings.now bucket.now
+    ensures { RunsByClock settings.now users.now bucket.now
         (⟦<(S, K, C) as Ends>⟧.ends (input.old, output.old, clock.old))
         (⟦<(S, K, C) as Ends>⟧.ends (input.new, output.new, clock.new)) realm.new result.number }
 {
-    let end = serve_realm(alloc, settings, bucket, input, output, clock, realm);
+    let end = serve_realm(alloc, settings, users, bucket, input, output, clock, realm);
     status_of(end)
 }
 
@@ -159,6 +162,7 @@ fn serve_by_clock<S: Source, K: Sink, C: Clock>(
 fn serve_realm<S: Source, K: Sink, C: Clock>(
     alloc: Global,
     settings: &Settings,
+    users: &Users,
     bucket: &Option<BucketName>,
     input: &mut S,
     output: &mut K,
@@ -167,7 +171,7 @@ fn serve_realm<S: Source, K: Sink, C: Clock>(
 ) -> OnceEnd
     requires new { realm.old ≡ None }
     requires bounds { IsSettings settings.now }
-    ensures leaves { Leaves settings.now bucket.now
+    ensures leaves { Leaves settings.now users.now bucket.now
         (⟦<(S, K, C) as Ends>⟧.ends (input.old, output.old, clock.old))
         (⟦<(S, K, C) as Ends>⟧.ends (input.new, output.new, clock.new)) realm.new result }
     ensures cause { HasRunCause
@@ -175,14 +179,11 @@ fn serve_realm<S: Source, K: Sink, C: Clock>(
         (⟦<(S, K, C) as Ends>⟧.ends (input.new, output.new, clock.new)) (status_by result) }
     ensures in_time { IsInTime result }
 {
-    let Ok(owner) = standard_owner(alloc) else {
-        return OnceEnd::Unmade;
-    };
     let Ok(mut made) = Realm::new(alloc, settings) else {
         return OnceEnd::Unmade;
     };
     let end = serve_in(
-        alloc, settings, bucket, &owner, &mut made, input, output, clock,
+        alloc, settings, users, bucket, &mut made, input, output, clock,
     );
     *realm = Some(made);
     end
@@ -192,17 +193,16 @@ fn serve_realm<S: Source, K: Sink, C: Clock>(
 fn serve_in<S: Source, K: Sink, C: Clock>(
     alloc: Global,
     settings: &Settings,
+    users: &Users,
     bucket: &Option<BucketName>,
-    owner: &Text,
     realm: &mut Realm,
     input: &mut S,
     output: &mut K,
     clock: &mut C,
 ) -> OnceEnd
     requires bounds { IsSettings settings.now }
-    requires owner { owner.now ≡ account_of standard_user }
     requires new { realm.old ≡ new_realm settings.now }
-    ensures leaves { Leaves settings.now bucket.now
+    ensures leaves { Leaves settings.now users.now bucket.now
         (⟦<(S, K, C) as Ends>⟧.ends (input.old, output.old, clock.old))
         (⟦<(S, K, C) as Ends>⟧.ends (input.new, output.new, clock.new)) (Some realm.new) result }
     ensures cause { HasRunCause
@@ -212,11 +212,12 @@ fn serve_in<S: Source, K: Sink, C: Clock>(
 {
     let mut actor = Actor::new(1);
     let mut door = SoloDoor::new(realm, &mut actor);
+    let owner = users.first().account();
     if let Err(fault) = prepare(alloc, settings, bucket, owner, &mut door, clock) {
         return OnceEnd::Unbegun(fault);
     }
     settings.has_zone_one();
-    let outcome = serve_connection(alloc, settings, &mut door, 1, input, output, clock);
+    let outcome = serve_connection(alloc, settings, users, &mut door, 1, input, output, clock);
     end_of(outcome)
 }
 
@@ -257,16 +258,6 @@ fn end_of(outcome: Result<Served, ServeFault>) -> OnceEnd
     match outcome {
         Ok(served) => OnceEnd::Ended(served),
         Err(fault) => OnceEnd::Stopped(fault),
-    }
-}
-
-/// The account of the one user.
-fn standard_owner(alloc: Global) -> Result<Text, AllocError>
-    ensures { IfOk result (λ owner. owner ≡ account_of standard_user) }
-{
-    match Users::standard(alloc) {
-        Ok(users) => users.first().account().clone(),
-        Err(_) => Err(AllocError),
     }
 }
 

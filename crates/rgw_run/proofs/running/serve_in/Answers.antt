@@ -6,17 +6,17 @@ use Rattle.rgw_run.proofs.running.serve_in.Goals as goal
 
 pub returns-in-Err-clause-leaves : goal.returns-in-Err-clause-leaves
 returns-in-Err-clause-leaves g c =
-    unbegun_so c.args.settings.now _
+    unbegun_so c.args.settings.now c.args.users.now _
     (λ i. door_of ((c.new-door.ensures.realm.0 ∙ c.requires.new) i) ((c.new-door.ensures.actor.0 ∙ c.new-actor.ensures) i))
     c.args.bucket.now _ c.in-Err.fault _ _ _ c.in-Err.ensures.stopped (search rules) (search rules) (c.in-Err.ensures.worn tt)
 
 pub returns-clause-leaves : goal.returns-clause-leaves
 returns-clause-leaves g c =
     let before = c.in_default.ensures in
-    let p = prepares_so c.args.settings.now _
+    let p = prepares_so c.args.settings.now c.args.users.now _
     (λ i. door_of ((c.new-door.ensures.realm.0 ∙ c.requires.new) i) ((c.new-door.ensures.actor.0 ∙ c.new-actor.ensures) i))
     c.args.bucket.now c.args.owner.now _ _ _ c.requires.owner before.ready in
-    leaves_so c.args.settings.now c.args.bucket.now _ _ _ _ _ c.end_of.ensures (record {
+    leaves_so c.args.settings.now c.args.users.now c.args.bucket.now _ _ _ _ _ c.end_of.ensures (record {
       bounds = c.requires.bounds;
       moments = p.0;
       ready = _;
