@@ -20,11 +20,12 @@ pub data TaskEnd : Type 0 where
 abbrev pub body_failed : TaskEnd
 body_failed = on_object BodyFailed
 
--- the row of the container refused the request
+-- the row of the container refused the request: it is not there, or another account's, or denies it, or is being changed
 abbrev pub is_by_row : TaskEnd → Bool
 is_by_row (on_object (Done (Refuses Unauthorized))) = true
 is_by_row (on_object (Done (Refuses (Denied rule)))) = true
 is_by_row (on_object (Done (Refuses NoContainer))) = true
 is_by_row (on_container (container.Done (container_reply.Refused (ByRow refusal)))) = true
 is_by_row (on_container (container.Done (container_reply.Refused NotYours))) = true
+is_by_row (on_container (container.Busy id)) = true
 is_by_row end = false
