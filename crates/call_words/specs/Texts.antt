@@ -15,8 +15,7 @@ use Rattle.swift_reply.specs.declared.reply.SwiftRefusal.{SwiftRefusal}
 use Rattle.swift_reply.specs.declared.reply.SwiftRefusal.TheVariants as Why
 use Rattle.swift_reply.specs.declared.reply.SwiftReply.{SwiftReply}
 use Rattle.swift_reply.specs.declared.reply.SwiftReply.TheVariants as Swift
-use Rattle.swift_reply.specs.Replies.{reply_head, reply_text}
-use Rattle.swift_reply.specs.Counts.{counts_of}
+use Rattle.swift_reply.specs.Replies.{counts_of, reply_head, reply_text}
 use Rattle.swift_auth.specs.Policies.{is_of}
 use Rattle.swift_requests.specs.declared.asked.Asked.{Asked}
 use Rattle.swift_requests.specs.declared.asked.Asked.TheVariants.{Put, Unfed}
