@@ -274,7 +274,7 @@ cut_request largest users bytes false cut = inr cut
 
 module _ (says : ℕ → Head → Bool) (largest : ℕ) (users : List UserView) where
   -- what follows the kth request, by whether its reply closes the connection
-  abbrev Follows : ℕ → List UserView → List ℕ → List Taken → CallsEnd → Bool → Type 0
+  abbrev Follows : ℕ → List ℕ → List Taken → CallsEnd → Bool → Type 0
   Follows k rest ms e closed = MatchBool closed ((ms ≡ []) × (e ≡ at_close)) (IsStreamFrom largest users (suc k) rest ms e)
 
   -- no list of requests with an end is the stream

@@ -207,7 +207,7 @@ one_reading says largest users k bytes (m ∷ ms) (n ∷ ns) e f (rest, takes, a
     ((λ i. first.0 i ∷ others.0 i), others.1)
 
 -- where the place alone says it
-left_as : (left : ℕ → Bool) (largest k : ℕ) (bytes : List ℕ) (ms : List Taken) (e : CallsEnd) → AreLeft left largest users k ms e → AreLeftAs (λ k head. left k) largest users k bytes ms e
+left_as : (left : ℕ → Bool) (largest : ℕ) (users : List UserView) (k : ℕ) (bytes : List ℕ) (ms : List Taken) (e : CallsEnd) → AreLeft left largest users k ms e → AreLeftAs (λ k head. left k) largest users k bytes ms e
 left_as left largest users k bytes [] e u = λ head after begins. u
 left_as left largest users k bytes (m ∷ ms) e u = (u.0, λ rest takes stays. left_as left largest users (suc k) rest ms e u.1)
 
