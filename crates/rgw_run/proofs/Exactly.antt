@@ -32,7 +32,7 @@ use Rattle.call_service.specs.Serving.{Site, Side, side}
 use Rattle.door_moments.specs.Acts.{Asks as AsksClock}
 use Rattle.call_service.specs.declared.fault.ServeFault.{ServeFault}
 use Rattle.call_service.specs.declared.fault.ServeFault.TheVariants as faults
-use Rattle.gateway.specs.Calls.{standard_asker, site_of, AreSettled}
+use Rattle.gateway.specs.Calls.{Place, place_of, site_in, site_of, AreSettled}
 use Rattle.gateway.specs.Moments.{AreTold}
 use Rattle.gateway.specs.Requests.{IsIdle, LeavesAsked, LeavesRequest}
 use Rattle.gateway.proofs.Turning.{AsksSome, stopped_asks, put_asks}
@@ -99,8 +99,8 @@ module _ (settings : SettingsView) (users : List UserView) (good : IsSettings se
       let none : NoneBy (actor_of_pass 1 count) only.later = none_of_other 1 count last only.later (λ is. omega (arith, is, high)) only.by_last in
       let s = same_after_others settings front only.later (actor_of_pass 1 count) none in
       let back : IsSame settings (front ++ only.later) front (actor_of_pass 1 count) = record { events = sym s.events; doings = sym s.doings } in back in
-      let right = stay settings 1 standard_asker 1 (front ++ only.later) front next calls last same
-      (subst (λ l. AreRight settings 1 standard_asker 1 l next calls last) split settled.right) in
+      let right = stay settings 1 1 (front ++ only.later) front next calls last same
+      (subst (λ l. AreRight settings 1 1 l next calls last) split settled.right) in
       let at = calls_at 1 moment e.seen only.later before c.events calls moments rest seen told c.made are in
       let clocks = clocks_at settings 1 before c.events next moment prepared.low at prepared.unused in
       let of_maps = fold settings good 1 standard_asker 1 (λ count. counted_moment moment) before c.events next calls last [] legal few prepared.unused right c.made tt prepared.opened clocks in
@@ -135,12 +135,11 @@ module _ (site : Site) (form : ReplyForm) where
   some_grew x y (more, asks) = asks_grew more x.door y.door x.ends.told y.ends.told asks
 
   asked_grew : (asked : Asked) (plan : BodyUse) (found : List Event) (z y : Side) (fault : ServeFault) → LeavesAsked (Unit {0}) (Unit {0}) site form asked plan found z y fault → Grew z.ends.told y.ends.told
-  asked_grew Asks.BadHost plan found z y fault left = idle_grew z y left.1
-  asked_grew (Asks.Refused why) plan found z y fault left = idle_grew z y left.1
-  asked_grew (Asks.Put c) plan found z y fault (d, begun, left) =
-      some_grew (side d z.intake z.ends) y (put_asks (Unit {0}) (Unit {0}) site form found (is_awaited plan) c (side d z.intake z.ends) y fault left)
-  asked_grew (Asks.Unfed u) plan found z y fault (d, begun, left) =
-      some_grew (side d z.intake z.ends) y (stopped_asks (Unit {0}) (Unit {0}) site form found (Asks.Unfed u) plan (side d z.intake z.ends) y fault left)
+  asked_grew (Asks.Put asker c) plan found z y fault (d, begun, left) =
+      some_grew (side d z.intake z.ends) y (put_asks (Unit {0}) (Unit {0}) site form found (is_awaited plan) asker c (side d z.intake z.ends) y fault left)
+  asked_grew (Asks.Unfed asker u) plan found z y fault (d, begun, left) =
+      some_grew (side d z.intake z.ends) y (stopped_asks (Unit {0}) (Unit {0}) site form found (Asks.Unfed asker u) plan (side d z.intake z.ends) y fault left)
+  asked_grew asked plan found z y fault left = idle_grew z y left.1
 
   request_grew : (asked : Asked) (plan : BodyUse) (found : List Event) (z y : Side) (fault : ServeFault) → LeavesRequest (Unit {0}) (Unit {0}) site form asked plan found z y fault → Grew z.ends.told y.ends.told
   unfolding Grew
@@ -153,11 +152,11 @@ head_grew x y faults.OutOfMemory left = ([], left.2.untold)
 head_grew x y faults.WriteFault left = ([], left.2.untold)
 head_grew x y fault left = absurd left
 
-next_grew : (site : Site) (k : ℕ) (found : List Event) (x y : Side) (fault : ServeFault) → LeavesNext (Unit {0}) (Unit {0}) site k found x y fault → Grew x.ends.told y.ends.told
-next_grew site k found x y fault (inl left) = head_grew x y fault left
-next_grew site k found x y fault (inr (head, z, reads, left)) =
+next_grew : (place : Place) (k : ℕ) (found : List Event) (x y : Side) (fault : ServeFault) → LeavesNext (Unit {0}) (Unit {0}) place k found x y fault → Grew x.ends.told y.ends.told
+next_grew place k found x y fault (inl left) = head_grew x y fault left
+next_grew place k found x y fault (inr (head, z, reads, left)) =
     subst (λ told. Grew told y.ends.told) reads.told
-    (request_grew site (form_before site.settings.largest k head) (asked_of site.settings.largest head) (use_of site.settings.largest head) found z y fault left)
+    (request_grew (site_in place) (form_before place.settings.largest place.users k head) (asked_of place.settings.largest place.users head) (use_of place.settings.largest place.users head) found z y fault left)
 
 -- ---- where the connection begins
 
@@ -200,31 +199,31 @@ module _ (settings : SettingsView) (users : List UserView) (good : IsSettings se
       (subst (λ (d : DoorView). AreTold (Unit {0}) e.seen d.pass calls moments rest) r.is told) are
 
   stopped_exact : (found : List Event) (e : DoorView) (intake intake' : IntakeState) (old_ends new_ends : EndsState) (fault : ServeFault) → old_ends.told ≡ middle → new_ends.told ≡ Some told
-      → (l : StopsFrom (Unit {0}) (Unit {0}) (site_of settings 1) 1 found (side ready intake old_ends) (side e intake' new_ends) fault) → AreExact settings users bucket moment l.calls
+      → (l : StopsFrom (Unit {0}) (Unit {0}) (place_of settings 1 users) 1 found (side ready intake old_ends) (side e intake' new_ends) fault) → AreExact settings users bucket moment l.calls
   unfolding Grew
   stopped_exact found e intake intake' old_ends new_ends fault at_middle at_end l =
-      let grew = next_grew (site_of settings 1) (place_after 1 l.calls) found l.between (side e intake' new_ends) fault l.left in
+      let grew = next_grew (place_of settings 1 users) (place_after 1 l.calls) found l.between (side e intake' new_ends) fault l.left in
       let all : Appends middle (Some told) (l.moments ++ grew.0) = subst (λ o. Appends o (Some told) (l.moments ++ grew.0)) at_middle
       (subst (λ o. Appends old_ends.told o (l.moments ++ grew.0)) at_end (Appends-trans old_ends.told l.between.ends.told new_ends.told l.moments grew.0 l.asked_clock grew.1)) in
       let are = moments_are (l.moments ++ grew.0) all in
       calls_exact e l.calls (next_count l.between.door) l.moments [] (l.settled tt) l.told are.0 (both_are moment l.moments grew.0 are.1).0
 
   replied_exact : (e : DoorView) (old_ends new_ends : EndsState) (calls : List Call) (end : CallsEnd) → old_ends.told ≡ middle → new_ends.told ≡ Some told
-      → RepliesTo (Unit {0}) (Unit {0}) (site_of settings 1) 1 [] ready e old_ends new_ends calls end → AreExact settings users bucket moment calls
+      → RepliesTo (Unit {0}) (Unit {0}) (place_of settings 1 users) 1 [] ready e old_ends new_ends calls end → AreExact settings users bucket moment calls
   replied_exact e old_ends new_ends calls end at_middle at_end r =
       let all = subst (λ o. Appends o (Some told) r.moments) at_middle (subst (λ o. Appends old_ends.told o r.moments) at_end r.asked_clock) in
       let are = moments_are r.moments all in
       calls_exact e calls r.last r.moments r.later (r.settled tt) r.told are.0 are.1
 
   pub connection_exact : (found : List Event) (e : DoorView) (old_ends new_ends : EndsState) (result : Result Served ServeFault) → old_ends.told ≡ middle → new_ends.told ≡ Some told
-      → (s : ServesConnection (Unit {0}) (Unit {0}) (site_of settings 1) found ready e old_ends new_ends result)
-      → AreExact settings users bucket moment (calls_in settings found ready e old_ends new_ends result s)
+      → (s : ServesConnection (Unit {0}) (Unit {0}) (place_of settings 1 users) found ready e old_ends new_ends result)
+      → AreExact settings users bucket moment (calls_in settings users found ready e old_ends new_ends result s)
   connection_exact found e old_ends new_ends (Ok served) at_middle at_end s =
       replied_exact e old_ends new_ends s.served.calls s.served.stream_end at_middle at_end s.served.replied
   connection_exact found e old_ends new_ends (Err fault) at_middle at_end s = by_fault fault (s.left fault refl).0 (s.left fault refl).1
     where
-      by_fault : (fault : ServeFault) (intake : IntakeState) (l : LeavesAt (Unit {0}) (Unit {0}) (site_of settings 1) 1 found (side ready (fresh settings.largest) old_ends) (side e intake new_ends) fault)
-          → AreExact settings users bucket moment (calls_before settings found (side ready (fresh settings.largest) old_ends) (side e intake new_ends) fault l)
+      by_fault : (fault : ServeFault) (intake : IntakeState) (l : LeavesAt (Unit {0}) (Unit {0}) (place_of settings 1 users) 1 found (side ready (fresh settings.largest) old_ends) (side e intake new_ends) fault)
+          → AreExact settings users bucket moment (calls_before settings users found (side ready (fresh settings.largest) old_ends) (side e intake new_ends) fault l)
       by_fault faults.ReadFault intake l = replied_exact e old_ends new_ends l.calls l.stream_end at_middle at_end l.replied
       by_fault faults.OutOfMemory intake l = stopped_exact found e (fresh settings.largest) intake old_ends new_ends faults.OutOfMemory at_middle at_end l
       by_fault faults.WriteFault intake l = stopped_exact found e (fresh settings.largest) intake old_ends new_ends faults.WriteFault at_middle at_end l

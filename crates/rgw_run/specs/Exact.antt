@@ -14,7 +14,7 @@ use Rattle.http_intake.specs.Intake.{fresh}
 use Rattle.call_service.specs.Serving.{Side, side}
 use Rattle.call_service.specs.declared.fault.ServeFault.{ServeFault}
 use Rattle.call_service.specs.declared.fault.ServeFault.TheVariants as faults
-use Rattle.gateway.specs.Calls.{standard_asker, site_of}
+use Rattle.gateway.specs.Calls.{place_of}
 use Rattle.gateway.specs.Serving.{LeavesAt, ServesConnection}
 use Rattle.gateway.specs.declared.serve.Served.{Served}
 use Rattle.once_law.specs.Maps.{Rows, no_slots}
@@ -28,19 +28,19 @@ use Rattle.rgw_run.specs.Runs.{owner_in, with_clock, Leaves, RunsAt}
 -- ---- the calls
 
 -- the calls that were replied whole before a fault
-abbrev pub calls_before : (settings : SettingsView) (found : List Event) (x y : Side) (fault : ServeFault) → LeavesAt (Unit {0}) (Unit {0}) (site_of settings 1) 1 found x y fault → List Call
-calls_before settings found x y faults.ReadFault left = left.calls
-calls_before settings found x y faults.OutOfMemory left = left.calls
-calls_before settings found x y faults.WriteFault left = left.calls
-calls_before settings found x y faults.Worn left = left.calls
-calls_before settings found x y (faults.Late read_at clock) left = left.calls
+abbrev pub calls_before : (settings : SettingsView) (users : List UserView) (found : List Event) (x y : Side) (fault : ServeFault) → LeavesAt (Unit {0}) (Unit {0}) (place_of settings 1 users) 1 found x y fault → List Call
+calls_before settings users found x y faults.ReadFault left = left.calls
+calls_before settings users found x y faults.OutOfMemory left = left.calls
+calls_before settings users found x y faults.WriteFault left = left.calls
+calls_before settings users found x y faults.Worn left = left.calls
+calls_before settings users found x y (faults.Late read_at clock) left = left.calls
 
 -- the calls of a connection whose replies were written whole
-abbrev pub calls_in : (settings : SettingsView) (found : List Event) (d e : DoorView) (old new : EndsState) (result : Result Served ServeFault) → ServesConnection (Unit {0}) (Unit {0}) (site_of settings 1) found d e old new result → List Call
-calls_in settings found d e old new (Ok served) serves = serves.served.calls
-calls_in settings found d e old new (Err fault) serves =
+abbrev pub calls_in : (settings : SettingsView) (users : List UserView) (found : List Event) (d e : DoorView) (old new : EndsState) (result : Result Served ServeFault) → ServesConnection (Unit {0}) (Unit {0}) (place_of settings 1 users) found d e old new result → List Call
+calls_in settings users found d e old new (Ok served) serves = serves.served.calls
+calls_in settings users found d e old new (Err fault) serves =
     let left = serves.left fault refl in
-    calls_before settings found (side d (fresh settings.largest) old) (side e left.0 new) fault left.1
+    calls_before settings users found (side d (fresh settings.largest) old) (side e left.0 new) fault left.1
 
 -- ---- the bucket map
 
@@ -75,9 +75,9 @@ abbrev pub IsExactEnd : (settings : SettingsView) (users : List UserView) (bucke
 IsExactEnd settings users bucket moment old new realm Unmade leaves = Unit {0}
 IsExactEnd settings users bucket moment old new realm (Unbegun fault) leaves = Unit {0}
 IsExactEnd settings users bucket moment old new realm (Ended served) leaves =
-    AreExact settings users bucket moment (calls_in settings leaves.door.seen leaves.ready leaves.door leaves.middle new (Ok served) leaves.serves)
+    AreExact settings users bucket moment (calls_in settings users leaves.door.seen leaves.ready leaves.door leaves.middle new (Ok served) leaves.serves)
 IsExactEnd settings users bucket moment old new realm (Stopped fault) leaves =
-    AreExact settings users bucket moment (calls_in settings leaves.door.seen leaves.ready leaves.door leaves.middle new (Err fault) leaves.serves)
+    AreExact settings users bucket moment (calls_in settings users leaves.door.seen leaves.ready leaves.door leaves.middle new (Err fault) leaves.serves)
 
 -- a run at one moment, with the replies of the bucket map
 pub record RunsExactly (settings : SettingsView) (users : List UserView) (bucket : Option (List ℕ)) (moment : ℕ) (old new : EndsState) (realm : Option RealmView) (status : ℕ) : Type 0 where

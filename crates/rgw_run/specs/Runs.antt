@@ -12,7 +12,7 @@ use Rattle.realm_model.specs.Settings.{SettingsView, IsSettings}
 use Rattle.realm_model.specs.declared.event.Event.{Event}
 use Rattle.realm_core.specs.Realms.{RealmView}
 use Rattle.container_preset.specs.Presets.{preset, Stops}
-use Rattle.gateway.specs.Calls.{site_of}
+use Rattle.gateway.specs.Calls.{place_of}
 use Rattle.gateway.specs.Serving.{ServesConnection}
 use Rattle.gateway.specs.declared.serve.ConnEnd.{ConnEnd}
 use Rattle.gateway.specs.declared.serve.ConnEnd.TheVariants.{Clean, Closed, Cut, Refused}
@@ -111,7 +111,7 @@ pub record LeavesServed (settings : SettingsView) (users : List UserView) (bucke
   pub tells : TellsOnly old middle moments
   pub door : DoorView
   pub left : realm ≡ Some (realm_of settings door.seen)
-  pub serves : ServesConnection (Unit {0}) (Unit {0}) (site_of settings 1) door.seen ready door middle new result
+  pub serves : ServesConnection (Unit {0}) (Unit {0}) (place_of settings 1 users) door.seen ready door middle new result
 
 -- the container was not made that the words name
 abbrev pub LeavesUnmade : SettingsView → List UserView → Option (List ℕ) → EndsState → EndsState → Option RealmView → DoorFault → Type 0

@@ -30,8 +30,6 @@ pub(crate) fn run_server<R: Wait + Threads + Sync, C: Clock, N: Net, T: Pause + 
         now,
         users,
     } = run;
-    // The one user of connections is the standard one.
-    drop(users);
     let Serving {
         port,
         workers,
