@@ -1,35 +1,41 @@
 -- What the history of the realm says of the calls of a connection.
-use Rattle.std.specs.Prelude.{◌≡◌, ℕ, ◌+◌, ◌<◌, ◌≤◌, List, ◌++◌, Some}
+use Rattle.std.specs.Prelude.{◌≡◌, ℕ, ◌+◌, ◌<◌, ◌≤◌, List, ◌++◌}
 use Rattle.realm_model.specs.Doors.{DoorView}
 use Rattle.realm_model.specs.Histories.{Legal, account_of}
 use Rattle.realm_model.specs.Owns.{own_events}
 use Rattle.realm_model.specs.Settings.{SettingsView}
 use Rattle.realm_model.specs.declared.event.Event.{Event}
 use Rattle.realm_door.specs.Steps.{next_count, actor_of_pass, IsCounted, IsUnused, IsSame}
-use Rattle.swift_auth.specs.Users.{UserView, standard_user, account_of as user_account}
+use Rattle.swift_auth.specs.Users.{UserView}
 use Rattle.swift_requests.specs.declared.asked.Asked.{Asked}
-use Rattle.task_words.specs.declared.asker.Asker.{Asker}
 use Rattle.task_words.specs.Outcomes.{Body}
 use Rattle.call_words.specs.Calls.{Call, IsOfNext, IsRight, AreRight, IsSoFar, actor_after}
 use Rattle.call_service.specs.Serving.{Site}
 use Rattle.call_words.specs.Made.{AreBy, AreMadeFor, AreMade}
 
--- ---- who asks
+-- ---- where
 
--- the one user, under the own account
-abbrev pub standard_asker : Asker
-standard_asker = record { account = user_account standard_user; user = Some standard_user }
+-- where a connection is served: the realm's settings, the zone, and the users that are known
+pub record Place : Type 0 where
+  pub settings : SettingsView
+  pub zone : ℕ
+  pub users : List UserView
 
--- where a connection is served
+abbrev pub place_of : SettingsView → ℕ → List UserView → Place
+place_of settings zone users = record { settings = settings; zone = zone; users = users }
+
+-- where each of its requests is served
+abbrev pub site_in : Place → Site
+site_in place = record { settings = place.settings; zone = place.zone }
+
 abbrev pub site_of : SettingsView → ℕ → Site
-site_of settings zone = record { settings = settings; zone = zone; asker = standard_asker }
+site_of settings zone = record { settings = settings; zone = zone }
 
--- requests are served in a zone of the realm, whose settings the door has, and asked by the one user
-pub record IsSite (settings of_door : SettingsView) (zone : ℕ) (user : UserView) : Type 0 where
+-- requests are served in a zone of the realm, whose settings the door has
+pub record IsSite (settings of_door : SettingsView) (zone : ℕ) : Type 0 where
   pub low : 1 ≤ zone
   pub high : zone ≤ settings.zones
   pub same : of_door ≡ settings
-  pub user_is : user ≡ standard_user
 
 -- ---- actors
 
@@ -40,8 +46,8 @@ pub record MayBegin (settings : SettingsView) (d : DoorView) : Type 0 where
   pub unused : IsUnused d
 
 -- a connection may go on: it stands at its site, the buffer for pieces of bodies has room, and the next actor can begin
-pub record MayGoOn (tells : Type 0) (settings of_door : SettingsView) (zone : ℕ) (user : UserView) (d : DoorView) (buffer : ℕ) : Type 0 where
-  pub site : IsSite settings of_door zone user
+pub record MayGoOn (tells : Type 0) (settings of_door : SettingsView) (zone : ℕ) (d : DoorView) (buffer : ℕ) : Type 0 where
+  pub site : IsSite settings of_door zone
   pub room : 0 < buffer
   pub may : tells → MayBegin settings d
 
@@ -60,7 +66,7 @@ pub record Advances (settings : SettingsView) (d e : DoorView) : Type 0 where
 -- in the history the pass's actor of this count does what such a request does so far, of whose body so much came
 abbrev pub DoesSoFar : Site → Asked → Body → ℕ → ℕ → List Event → Type 0
 DoesSoFar site asked body pass count history =
-    IsSoFar site.settings.stripe site.zone site.asker asked body
+    IsSoFar site.settings site.zone asked body
     (account_of site.settings history (actor_of_pass pass count)) (own_events history (actor_of_pass pass count))
 
 -- ---- one call
@@ -75,7 +81,7 @@ pub record IsMadeBy (d e : DoorView) (call : Call) : Type 0 where
 -- the history grew by the call's alone.
 pub record IsSettled (alone : Type 0) (site : Site) (d e : DoorView) (call : Call) : Type 0 where
   pub of_next : IsOfNext (next_count d) call.ground
-  pub right : IsRight site.settings site.zone site.asker d.pass e.seen call
+  pub right : IsRight site.settings site.zone d.pass e.seen call
   pub last : next_count e ≡ actor_after (next_count d) call.ground
   pub advances : Advances site.settings d e
   pub only : alone → IsMadeBy d e call
@@ -93,7 +99,7 @@ pub record AreMadeBy (d e : DoorView) (calls : List Call) (last : ℕ) : Type 0 
 -- The replies to calls are right in the history, in which their tasks have the next actors of the pass, one after another; the
 -- actor behind them may have begun. Where nobody else makes events, the history grew by theirs alone.
 pub record AreSettled (alone : Type 0) (site : Site) (d e : DoorView) (calls : List Call) (last : ℕ) : Type 0 where
-  pub right : AreRight site.settings site.zone site.asker d.pass e.seen (next_count d) calls last
+  pub right : AreRight site.settings site.zone d.pass e.seen (next_count d) calls last
   pub begun : next_count e ≤ last + 1
   pub advances : Advances site.settings d e
   pub only : alone → AreMadeBy d e calls last

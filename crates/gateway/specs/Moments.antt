@@ -10,8 +10,8 @@ use Rattle.door_moments.specs.Acts.{own_moments, Tells}
 -- more where the body's end decided.
 abbrev pub AreToldFor : Type 0 → List Event → ℕ → Ground → List ℕ → Type 0
 AreToldFor tells seen pass alone moments = moments ≡ []
-AreToldFor tells seen pass (task actor outcome) moments =
-    tells → Tells (is_by_end outcome) moments (own_moments seen (actor_of_pass pass actor))
+AreToldFor tells seen pass (task actor end) moments =
+    tells → Tells (is_by_end end) moments (own_moments seen (actor_of_pass pass actor))
 
 -- what was told for calls, one after another, and then later
 abbrev pub AreTold : Type 0 → List Event → ℕ → List Call → List ℕ → List ℕ → Type 0

@@ -11,11 +11,12 @@ use Rattle.realm_model.specs.Owns.{own_events}
 use Rattle.realm_model.specs.declared.event.Event.{Event}
 use Rattle.realm_door.specs.Steps.{begun, next_count, actor_of_pass}
 use Rattle.swift_requests.specs.declared.asked.Asked.{Asked}
-use Rattle.swift_requests.specs.declared.asked.Asked.TheVariants.{BadHost, Refused, Put, Unfed}
+use Rattle.swift_requests.specs.declared.asked.Asked.TheVariants.{Put, Unfed}
 use Rattle.swift_requests.specs.declared.body.BodyUse.{BodyUse}
 use Rattle.swift_requests.specs.Bodies.{is_unread, is_awaited}
 use Rattle.http_chunks.specs.declared.body.BodyEnd.{BodyEnd}
 use Rattle.http_chunks.specs.declared.body.BodyEnd.TheVariants as Body
+use Rattle.task_words.specs.declared.asker.Asker.{Asker}
 use Rattle.task_words.specs.declared.command.PutCommand.{PutCommand}
 use Rattle.task_words.specs.Outcomes.{Body as AskedBody}
 use Rattle.call_words.specs.Calls.{Ground, alone as by_itself, Call, IsLeftByRow, text_by, whole_text}
@@ -79,33 +80,33 @@ abbrev pub LeavesBody : BodyUse → IntakeState → Option (List ℕ) → Option
 LeavesBody plan old before after faults.ReadFault = FallsIn plan old before after
 LeavesBody plan old before after fault = ⊥
 
--- ---- refusals before any name is looked at
+-- ---- replies by the head alone
 
--- the body had that fate, and the text of the refusal was written in the form for it
-abbrev pub RefusesAt : ReplyForm → Asked → BodyUse → Fate → IntakeState → IntakeState → Option (List ℕ) → Option (List ℕ) → (List ℕ → Type 0) → Type 0
-RefusesAt form asked plan fate old new left left' grown =
+-- the body had that fate, and the text of the reply was written in the form for it
+abbrev pub RepliesAt : ReplyForm → Asked → BodyUse → Fate → IntakeState → IntakeState → Option (List ℕ) → Option (List ℕ) → (List ℕ → Type 0) → Type 0
+RepliesAt form asked plan fate old new left left' grown =
     ((body : List ℕ) × TakesBody plan fate old new left left' body) × grown (text_by (form_at form fate) asked fate by_itself [])
 
--- the refusal was written behind the body, or behind what was read of one that broke off; or the input ended inside it
-abbrev pub Refuses : ReplyForm → Asked → BodyUse → IntakeState → IntakeState → Option (List ℕ) → Option (List ℕ) → Option (List ℕ) → Option (List ℕ) → Served → Type 0
-Refuses form asked plan old new left left' taken taken' services.Replied =
-    (fate : Fate) × (is_broken fate ≡ false) × RefusesAt form asked plan fate old new left left' (Appends taken taken')
-Refuses form asked plan old new left left' taken taken' services.Closed =
-    (why : BodyEnd) × RefusesAt form asked plan (broken_off why) old new left left' (Appends taken taken')
-Refuses form asked plan old new left left' taken taken' services.Refused = ⊥
-Refuses form asked plan old new left left' taken taken' services.Cut =
+-- the reply was written behind the body, or behind what was read of one that broke off; or the input ended inside it
+abbrev pub RepliesByHead : ReplyForm → Asked → BodyUse → IntakeState → IntakeState → Option (List ℕ) → Option (List ℕ) → Option (List ℕ) → Option (List ℕ) → Served → Type 0
+RepliesByHead form asked plan old new left left' taken taken' services.Replied =
+    (fate : Fate) × (is_broken fate ≡ false) × RepliesAt form asked plan fate old new left left' (Appends taken taken')
+RepliesByHead form asked plan old new left left' taken taken' services.Closed =
+    (why : BodyEnd) × RepliesAt form asked plan (broken_off why) old new left left' (Appends taken taken')
+RepliesByHead form asked plan old new left left' taken taken' services.Refused = ⊥
+RepliesByHead form asked plan old new left left' taken taken' services.Cut =
     (FallsIn plan old left left' × IsAtEnd left') × Appends taken taken' []
 
 -- the text was not made, or not written whole; or a read failed inside the body
-abbrev pub LeavesRefusal : ReplyForm → Asked → BodyUse → IntakeState → IntakeState → Option (List ℕ) → Option (List ℕ) → Option (List ℕ) → Option (List ℕ) → ServeFault → Type 0
-LeavesRefusal form asked plan old new left left' taken taken' faults.OutOfMemory =
+abbrev pub LeavesReply : ReplyForm → Asked → BodyUse → IntakeState → IntakeState → Option (List ℕ) → Option (List ℕ) → Option (List ℕ) → Option (List ℕ) → ServeFault → Type 0
+LeavesReply form asked plan old new left left' taken taken' faults.OutOfMemory =
     ((fate : Fate) × (body : List ℕ) × TakesBody plan fate old new left left' body) × Appends taken taken' []
-LeavesRefusal form asked plan old new left left' taken taken' faults.ReadFault =
+LeavesReply form asked plan old new left left' taken taken' faults.ReadFault =
     LeavesBody plan old left left' faults.ReadFault × Appends taken taken' []
-LeavesRefusal form asked plan old new left left' taken taken' faults.WriteFault =
-    (fate : Fate) × RefusesAt form asked plan fate old new left left' (AppendsFront taken taken')
-LeavesRefusal form asked plan old new left left' taken taken' faults.Worn = ⊥
-LeavesRefusal form asked plan old new left left' taken taken' (faults.Late read_at clock) = ⊥
+LeavesReply form asked plan old new left left' taken taken' faults.WriteFault =
+    (fate : Fate) × RepliesAt form asked plan fate old new left left' (AppendsFront taken taken')
+LeavesReply form asked plan old new left left' taken taken' faults.Worn = ⊥
+LeavesReply form asked plan old new left left' taken taken' (faults.Late read_at clock) = ⊥
 
 -- ---- good ends
 
@@ -149,7 +150,7 @@ text_before plan = continue_if (is_awaited plan) read_whole
 -- where the client of a PUT waits for a 100, the row of its container was read first, and grants that the body is read
 abbrev pub IsLetIn : Site → Asked → BodyUse → ℕ → ℕ → List Event → Type 0
 IsLetIn site asked plan pass count history =
-    IsLeftByRow site.zone site.asker asked (is_awaited plan) read_whole (own_events history (actor_of_pass pass count))
+    IsLeftByRow site.zone asked (is_awaited plan) read_whole (own_events history (actor_of_pass pass count))
 
 -- the body fell short behind these bytes, and no reply was written
 pub record FallsShort (tells alone : Type 0) (site : Site) (asked : Asked) (plan : BodyUse) (z y : Side) : Type 0 where
@@ -178,10 +179,10 @@ pub record IsIdle (z y : Side) : Type 0 where
   pub door : y.door ≡ z.door
   pub untold : Appends z.ends.told y.ends.told []
 
--- a refusal before any name is looked at was left
-abbrev pub LeavesRefused : ReplyForm → Asked → BodyUse → Side → Side → ServeFault → Type 0
-LeavesRefused form asked plan z y fault =
-    LeavesRefusal form asked plan z.intake y.intake z.ends.left y.ends.left z.ends.taken y.ends.taken fault × IsIdle z y
+-- a reply by the head alone was left
+abbrev pub LeavesByHead : ReplyForm → Asked → BodyUse → Side → Side → ServeFault → Type 0
+LeavesByHead form asked plan z y fault =
+    LeavesReply form asked plan z.intake y.intake z.ends.left y.ends.left z.ends.taken y.ends.taken fault × IsIdle z y
 
 -- the next actor began, and its task was left so
 abbrev pub IsLeftFrom : Type 0 → Side → (Side → Type 0) → Type 0
@@ -192,18 +193,17 @@ LeavesTask tells alone site form asked plan found z y fault =
     IsLeftFrom tells z (λ x. IsStopped tells alone site form asked plan found x y fault)
 
 -- that of a PUT, whose client waits for a 100 or not
-abbrev pub LeavesPut : Type 0 → Type 0 → Site → ReplyForm → PutCommand → BodyUse → List Event → Side → Side → ServeFault → Type 0
-LeavesPut tells alone site form c plan found z y fault =
-    IsLeftFrom tells z (λ x. IsPutStopped (is_awaited plan) tells alone site form c found x y fault)
+abbrev pub LeavesPut : Type 0 → Type 0 → Site → ReplyForm → Asker → PutCommand → BodyUse → List Event → Side → Side → ServeFault → Type 0
+LeavesPut tells alone site form asker c plan found z y fault =
+    IsLeftFrom tells z (λ x. IsPutStopped (is_awaited plan) tells alone site form asker c found x y fault)
 
 abbrev pub LeavesAsked : Type 0 → Type 0 → Site → ReplyForm → Asked → BodyUse → List Event → Side → Side → ServeFault → Type 0
-LeavesAsked tells alone site form BadHost plan found z y fault = LeavesRefused form BadHost plan z y fault
-LeavesAsked tells alone site form (Refused why) plan found z y fault = LeavesRefused form (Refused why) plan z y fault
-LeavesAsked tells alone site form (Put c) plan found z y fault = LeavesPut tells alone site form c plan found z y fault
-LeavesAsked tells alone site form (Unfed u) plan found z y fault = LeavesTask tells alone site form (Unfed u) plan found z y fault
+LeavesAsked tells alone site form (Put asker c) plan found z y fault = LeavesPut tells alone site form asker c plan found z y fault
+LeavesAsked tells alone site form (Unfed asker u) plan found z y fault = LeavesTask tells alone site form (Unfed asker u) plan found z y fault
+LeavesAsked tells alone site form asked plan found z y fault = LeavesByHead form asked plan z y fault
 
--- what a fault other than a failed read leaves behind a head: memory was wanting before anything was done, or the refusal or
--- the task was left
+-- what a fault other than a failed read leaves behind a head: memory was wanting before anything was done, or the reply by the
+-- head alone or the task was left
 abbrev pub LeavesRequest : Type 0 → Type 0 → Site → ReplyForm → Asked → BodyUse → List Event → Side → Side → ServeFault → Type 0
 LeavesRequest tells alone site form asked plan found z y fault =
     ((fault ≡ faults.OutOfMemory) × (y ≡ z)) ⊎ LeavesAsked tells alone site form asked plan found z y fault

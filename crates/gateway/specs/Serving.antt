@@ -19,7 +19,7 @@ use Rattle.call_words.specs.Calls.{Call}
 use Rattle.call_words.specs.Requests.{requests_of, AreAsked}
 use Rattle.call_words.specs.Streams.{use_of, CallsEnd, at_clean, at_close, at_cut, at_bad, Taken, IsStreamFrom, IsFrontFrom}
 use Rattle.call_service.specs.Bodies.{FallsBehind}
-use Rattle.call_service.specs.Serving.{Site, Side, side, AppendsFront, body_of, HasServeCause}
+use Rattle.call_service.specs.Serving.{Side, side, AppendsFront, body_of, HasServeCause}
 use Rattle.door_moments.specs.Acts.{own_moments}
 use Rattle.call_service.specs.declared.fault.ServeFault.{ServeFault}
 use Rattle.call_service.specs.declared.fault.ServeFault.TheVariants as faults
@@ -27,7 +27,7 @@ use Rattle.gateway.specs.declared.serve.ConnEnd.{ConnEnd}
 use Rattle.gateway.specs.declared.serve.Served.{Served}
 use Rattle.gateway.specs.Moments.{AreTold}
 use Rattle.gateway.specs.Texts.{form_before, texts_from, place_after, closing, end_text, end_replies, connection_end}
-use Rattle.gateway.specs.Calls.{DoesSoFar, Advances, AreSettled}
+use Rattle.gateway.specs.Calls.{Place, site_in, DoesSoFar, Advances, AreSettled}
 use Rattle.gateway.specs.Requests.{IsBehindHead, IsIdle, IsLetIn, LeavesRequest}
 
 -- ---- ends
@@ -61,41 +61,41 @@ IsTidy tells e pass last later (at_bad word bodiless) = IsDone tells e last late
 
 -- the input ended inside the body of this request, or a read failed there: the actor behind the calls does what it asks so far,
 -- and a row that it read first let a body in that is waited for
-pub record EndsInside (tells : Type 0) (site : Site) (e : DoorView) (pass last : ℕ) (rest : List ℕ) (left : Option (List ℕ)) : Type 0 where
+pub record EndsInside (tells : Type 0) (place : Place) (e : DoorView) (pass last : ℕ) (rest : List ℕ) (left : Option (List ℕ)) : Type 0 where
   pub head : Head
   pub after : List ℕ
   pub begins : BeginsWith rest head after
-  pub is_read : is_unread (use_of site.settings.largest head) ≡ false
+  pub is_read : is_unread (use_of place.settings.largest place.users head) ≡ false
   pub intake : IntakeState
   pub before : Option (List ℕ)
-  pub behind : IsBehindHead site.settings.largest intake head
+  pub behind : IsBehindHead place.settings.largest intake head
   pub given : List ℕ
   pub falls : FallsBehind intake before left given
   pub is_after : after ≡ intake.buffer ++ (falls.has_given.more ++ falls.falls.more)
-  pub so_far : tells → DoesSoFar site (asked_of site.settings.largest head) (body_of given) pass last e.seen
-  pub let_in : tells → IsLetIn site (asked_of site.settings.largest head) (use_of site.settings.largest head) pass last e.seen
+  pub so_far : tells → DoesSoFar (site_in place) (asked_of place.settings.largest place.users head) (body_of given) pass last e.seen
+  pub let_in : tells → IsLetIn (site_in place) (asked_of place.settings.largest place.users head) (use_of place.settings.largest place.users head) pass last e.seen
 
 -- or inside a head, and no actor did anything for it
-abbrev pub EndsAmid : Type 0 → Site → DoorView → ℕ → ℕ → List ℕ → Option (List ℕ) → Type 0
-EndsAmid tells site e pass last rest left =
-    (IsCutHead rest × (tells → own_events e.seen (actor_of_pass pass last) ≡ [])) ⊎ EndsInside tells site e pass last rest left
+abbrev pub EndsAmid : Type 0 → Place → DoorView → ℕ → ℕ → List ℕ → Option (List ℕ) → Type 0
+EndsAmid tells place e pass last rest left =
+    (IsCutHead rest × (tells → own_events e.seen (actor_of_pass pass last) ≡ [])) ⊎ EndsInside tells place e pass last rest left
 
 -- what is left behind the requests that were replied, the first of which is the kth of its connection, where the last one is not
 -- there whole
-abbrev pub BreaksOff : Type 0 → Site → ℕ → List ℕ → List Taken → DoorView → ℕ → ℕ → Option (List ℕ) → CallsEnd → Type 0
-BreaksOff tells site k bytes requests e pass last left (at_cut continued) =
-    (rest : List ℕ) × IsFrontFrom site.settings.largest k bytes requests rest × EndsAmid tells site e pass last rest left
-BreaksOff tells site k bytes requests e pass last left end = Unit {0}
+abbrev pub BreaksOff : Type 0 → Place → ℕ → List ℕ → List Taken → DoorView → ℕ → ℕ → Option (List ℕ) → CallsEnd → Type 0
+BreaksOff tells place k bytes requests e pass last left (at_cut continued) =
+    (rest : List ℕ) × IsFrontFrom place.settings.largest place.users k bytes requests rest × EndsAmid tells place e pass last rest left
+BreaksOff tells place k bytes requests e pass last left end = Unit {0}
 
 -- ---- served to an end
 
 -- What waited and what was read are the requests of these calls and that end; what was written are the texts of their replies;
 -- each moment was told for an event, or for the end of a body; and the history bears the replies out.
-pub record RepliesTo (tells alone : Type 0) (site : Site) (k : ℕ) (buffer : List ℕ) (d e : DoorView) (old new : EndsState) (calls : List Call) (stream_end : CallsEnd) : Type 0 where
+pub record RepliesTo (tells alone : Type 0) (place : Place) (k : ℕ) (buffer : List ℕ) (d e : DoorView) (old new : EndsState) (calls : List Call) (stream_end : CallsEnd) : Type 0 where
   pub read : List ℕ
   pub consumed : Consumes old.left new.left read
-  pub asked : AreAsked site.settings.largest calls
-  pub stream : IsStreamFrom site.settings.largest k (buffer ++ read) (requests_of calls) stream_end
+  pub asked : AreAsked place.settings.largest place.users calls
+  pub stream : IsStreamFrom place.settings.largest place.users k (buffer ++ read) (requests_of calls) stream_end
   pub written : Appends old.taken new.taken (texts_from k calls ++ end_text stream_end)
   pub last : ℕ
   pub moments : List ℕ
@@ -103,14 +103,14 @@ pub record RepliesTo (tells alone : Type 0) (site : Site) (k : ℕ) (buffer : Li
   pub asked_clock : Appends old.told new.told moments
   pub told : AreTold tells e.seen d.pass calls moments later
   pub tidy : IsTidy tells e d.pass last later stream_end
-  pub amid : BreaksOff tells site k (buffer ++ read) (requests_of calls) e d.pass last new.left stream_end
-  pub settled : tells → AreSettled alone site d e calls last
+  pub amid : BreaksOff tells place k (buffer ++ read) (requests_of calls) e d.pass last new.left stream_end
+  pub settled : tells → AreSettled alone (site_in place) d e calls last
 
 -- the requests were served to their end
-pub record ServesFrom (tells alone : Type 0) (site : Site) (k : ℕ) (buffer : List ℕ) (d e : DoorView) (old new : EndsState) (replies : ℕ) (ended_so : ConnEnd) : Type 0 where
+pub record ServesFrom (tells alone : Type 0) (place : Place) (k : ℕ) (buffer : List ℕ) (d e : DoorView) (old new : EndsState) (replies : ℕ) (ended_so : ConnEnd) : Type 0 where
   pub calls : List Call
   pub stream_end : CallsEnd
-  pub replied : RepliesTo tells alone site k buffer d e old new calls stream_end
+  pub replied : RepliesTo tells alone place k buffer d e old new calls stream_end
   pub read_out : ReadsOut stream_end new.left
   pub counted : replies ≡ length calls + end_replies stream_end
   pub ended : ended_so ≡ connection_end calls stream_end
@@ -118,10 +118,10 @@ pub record ServesFrom (tells alone : Type 0) (site : Site) (k : ℕ) (buffer : L
 -- ---- left at a fault
 
 -- A read failed: all is as if the input ended there.
-pub record FailsReading (tells alone : Type 0) (site : Site) (k : ℕ) (buffer : List ℕ) (d e : DoorView) (old new : EndsState) : Type 0 where
+pub record FailsReading (tells alone : Type 0) (place : Place) (k : ℕ) (buffer : List ℕ) (d e : DoorView) (old new : EndsState) : Type 0 where
   pub calls : List Call
   pub stream_end : CallsEnd
-  pub replied : RepliesTo tells alone site k buffer d e old new calls stream_end
+  pub replied : RepliesTo tells alone place k buffer d e old new calls stream_end
   pub waits : IsOpen stream_end
 
 -- the next head was read, and nothing behind it
@@ -147,50 +147,50 @@ LeavesHead x y faults.Worn = ⊥
 LeavesHead x y (faults.Late read_at clock) = ⊥
 
 -- at most one request was begun, the kth of its connection
-abbrev pub LeavesNext : Type 0 → Type 0 → Site → ℕ → List Event → Side → Side → ServeFault → Type 0
-LeavesNext tells alone site k found x y fault =
+abbrev pub LeavesNext : Type 0 → Type 0 → Place → ℕ → List Event → Side → Side → ServeFault → Type 0
+LeavesNext tells alone place k found x y fault =
     LeavesHead x y fault
-    ⊎ ((head : Head) × (z : Side) × ReadsHead site.settings.largest x z head
-    × LeavesRequest tells alone site (form_before site.settings.largest k head) (asked_of site.settings.largest head) (use_of site.settings.largest head) found z y fault)
+    ⊎ ((head : Head) × (z : Side) × ReadsHead place.settings.largest x z head
+    × LeavesRequest tells alone (site_in place) (form_before place.settings.largest place.users k head) (asked_of place.settings.largest place.users head) (use_of place.settings.largest place.users head) found z y fault)
 
 -- Some requests were replied whole, and behind them at most one was begun. The history bears the replies out, also where it
 -- grew since.
-pub record StopsFrom (tells alone : Type 0) (site : Site) (k : ℕ) (found : List Event) (x y : Side) (fault : ServeFault) : Type 0 where
+pub record StopsFrom (tells alone : Type 0) (place : Place) (k : ℕ) (found : List Event) (x y : Side) (fault : ServeFault) : Type 0 where
   pub calls : List Call
   pub between : Side
   pub read : List ℕ
   pub consumed : Consumes x.ends.left between.ends.left read
-  pub asked : AreAsked site.settings.largest calls
-  pub front : IsFrontFrom site.settings.largest k (x.intake.buffer ++ read) (requests_of calls) between.intake.buffer
+  pub asked : AreAsked place.settings.largest place.users calls
+  pub front : IsFrontFrom place.settings.largest place.users k (x.intake.buffer ++ read) (requests_of calls) between.intake.buffer
   pub written : Appends x.ends.taken between.ends.taken (texts_from k calls)
   pub moments : List ℕ
   pub asked_clock : Appends x.ends.told between.ends.told moments
   pub told : AreTold tells y.door.seen x.door.pass calls moments []
-  pub reached : tells → Advances site.settings x.door between.door
-  pub settled : tells → AreSettled alone site x.door y.door calls (next_count between.door)
-  pub left : LeavesNext tells alone site (place_after k calls) found between y fault
+  pub reached : tells → Advances place.settings x.door between.door
+  pub settled : tells → AreSettled alone (site_in place) x.door y.door calls (next_count between.door)
+  pub left : LeavesNext tells alone place (place_after k calls) found between y fault
 
 -- what a fault leaves
-abbrev pub LeavesAt : Type 0 → Type 0 → Site → ℕ → List Event → Side → Side → ServeFault → Type 0
-LeavesAt tells alone site k found x y faults.ReadFault = FailsReading tells alone site k x.intake.buffer x.door y.door x.ends y.ends
-LeavesAt tells alone site k found x y faults.OutOfMemory = StopsFrom tells alone site k found x y faults.OutOfMemory
-LeavesAt tells alone site k found x y faults.WriteFault = StopsFrom tells alone site k found x y faults.WriteFault
-LeavesAt tells alone site k found x y faults.Worn = StopsFrom tells alone site k found x y faults.Worn
-LeavesAt tells alone site k found x y (faults.Late read_at clock) = StopsFrom tells alone site k found x y (faults.Late read_at clock)
+abbrev pub LeavesAt : Type 0 → Type 0 → Place → ℕ → List Event → Side → Side → ServeFault → Type 0
+LeavesAt tells alone place k found x y faults.ReadFault = FailsReading tells alone place k x.intake.buffer x.door y.door x.ends y.ends
+LeavesAt tells alone place k found x y faults.OutOfMemory = StopsFrom tells alone place k found x y faults.OutOfMemory
+LeavesAt tells alone place k found x y faults.WriteFault = StopsFrom tells alone place k found x y faults.WriteFault
+LeavesAt tells alone place k found x y faults.Worn = StopsFrom tells alone place k found x y faults.Worn
+LeavesAt tells alone place k found x y (faults.Late read_at clock) = StopsFrom tells alone place k found x y (faults.Late read_at clock)
 
 -- ---- a whole connection
 
 -- a connection of which no byte waited was served to its end
-abbrev pub IsServed : Type 0 → Type 0 → Site → DoorView → DoorView → EndsState → EndsState → Served → Type 0
-IsServed tells alone site d e old new served = ServesFrom tells alone site 1 [] d e old new served.requests served.end
+abbrev pub IsServed : Type 0 → Type 0 → Place → DoorView → DoorView → EndsState → EndsState → Served → Type 0
+IsServed tells alone place d e old new served = ServesFrom tells alone place 1 [] d e old new served.requests served.end
 
 -- or left at a fault
-abbrev pub IsLeft : Type 0 → Type 0 → Site → List Event → DoorView → DoorView → EndsState → EndsState → ServeFault → Type 0
-IsLeft tells alone site found d e old new fault =
-    (intake : IntakeState) × LeavesAt tells alone site 1 found (side d (fresh site.settings.largest) old) (side e intake new) fault
+abbrev pub IsLeft : Type 0 → Type 0 → Place → List Event → DoorView → DoorView → EndsState → EndsState → ServeFault → Type 0
+IsLeft tells alone place found d e old new fault =
+    (intake : IntakeState) × LeavesAt tells alone place 1 found (side d (fresh place.settings.largest) old) (side e intake new) fault
 
 -- what serving a connection comes to, where the door's last step found this history
-pub record ServesConnection (tells alone : Type 0) (site : Site) (found : List Event) (d e : DoorView) (old new : EndsState) (result : Result Served ServeFault) : Type 0 where
-  pub served : IfOk result (IsServed tells alone site d e old new)
-  pub left : (fault : ServeFault) → result ≡ Err fault → IsLeft tells alone site found d e old new fault
+pub record ServesConnection (tells alone : Type 0) (place : Place) (found : List Event) (d e : DoorView) (old new : EndsState) (result : Result Served ServeFault) : Type 0 where
+  pub served : IfOk result (IsServed tells alone place d e old new)
+  pub left : (fault : ServeFault) → result ≡ Err fault → IsLeft tells alone place found d e old new fault
   pub cause : HasServeCause old new result

@@ -4,12 +4,14 @@ use Rattle.http_model.specs.declared.reply.ReplyForm.{ReplyForm}
 use Rattle.http_model.specs.declared.head.Head.{Head}
 use Rattle.http_model.specs.Forms.{is_bodiless}
 use Rattle.http_model.specs.Replies.{bad_request_text}
+use Rattle.swift_auth.specs.Users.{UserView}
 use Rattle.swift_reply.specs.declared.reply.SwiftRefusal.TheVariants.{NotBuilt, TooLarge}
 use Rattle.swift_requests.specs.Bodies.{is_unread, closes}
 use Rattle.swift_requests.specs.declared.asked.Asked.{Asked}
 use Rattle.swift_requests.specs.declared.asked.Asked.TheVariants.{Refused}
 use Rattle.task_words.specs.declared.outcome.Outcome.TheVariants.{BodyFailed}
 use Rattle.call_words.specs.Bodies.{read_whole}
+use Rattle.call_words.specs.Ends.{on_object}
 use Rattle.call_words.specs.Calls.{Ground, task, Call, whole_text}
 use Rattle.call_words.specs.Streams.{use_of, form_of, CallsEnd, at_clean, at_close, at_cut, at_bad}
 use Rattle.call_words.specs.Texts.{continue_if}
@@ -19,9 +21,9 @@ use Rattle.gateway.specs.declared.serve.ConnEnd.TheVariants as conn
 -- ---- forms
 
 -- the form of the reply to the kth request of a connection, where its body is read to its end, or not at all
-abbrev pub form_before : ℕ → ℕ → Head → ReplyForm
-form_before largest k head =
-    record { bodiless = is_bodiless head.method; close = closes k head (is_unread (use_of largest head)) }
+abbrev pub form_before : ℕ → List UserView → ℕ → Head → ReplyForm
+form_before largest users k head =
+    record { bodiless = is_bodiless head.method; close = closes k head (is_unread (use_of largest users head)) }
 
 -- ---- texts
 
@@ -63,7 +65,7 @@ is_refusing asked = false
 
 -- so it does where the reply says that the body broke off
 abbrev pub is_failing : Ground → Bool
-is_failing (task actor BodyFailed) = true
+is_failing (task actor (on_object BodyFailed)) = true
 is_failing other = false
 
 -- how a connection ends behind a reply that closes it

@@ -13,9 +13,10 @@ use Rattle.swift_requests.specs.Asks.{asked_of}
 use Rattle.call_words.specs.Calls.{Call}
 use Rattle.call_words.specs.Requests.{taken_of}
 use Rattle.call_words.specs.Streams.{form_of, CallsEnd, at_cut, at_bad, TakesCall}
-use Rattle.call_service.specs.Serving.{Site, Side, Around, AppendsFront, HasServeCause}
+use Rattle.call_service.specs.Serving.{Side, Around, AppendsFront, HasServeCause}
 use Rattle.call_service.specs.declared.fault.ServeFault.{ServeFault}
 use Rattle.call_service.specs.declared.fault.ServeFault.TheVariants as faults
+use Rattle.gateway.specs.Calls.{Place, site_in}
 use Rattle.gateway.specs.declared.turn.Turn.{Turn}
 use Rattle.gateway.specs.declared.turn.Turn.TheVariants.{Further, Over}
 use Rattle.gateway.specs.Requests.{IsReady, IsAnswered}
@@ -23,23 +24,23 @@ use Rattle.gateway.specs.Texts.{closing, end_text, end_replies, connection_end}
 use Rattle.gateway.specs.Serving.{ServesFrom, LeavesAt}
 
 -- one request was taken from the bytes and replied
-pub record TakesReply (tells alone : Type 0) (site : Site) (k : ℕ) (buffer left : List ℕ) (d e : DoorView) (old new : EndsState) (call : Call) : Type 0 where
+pub record TakesReply (tells alone : Type 0) (place : Place) (k : ℕ) (buffer left : List ℕ) (d e : DoorView) (old new : EndsState) (call : Call) : Type 0 where
   pub read : List ℕ
   pub consumed : Consumes old.left new.left read
-  pub asked : call.asked ≡ asked_of site.settings.largest call.request.head
-  pub takes : TakesCall site.settings.largest (buffer ++ read) (taken_of call) left
-  pub answered : IsAnswered tells alone site (form_of k call.request.head call.fate) d e old.taken new.taken old.told new.told call
+  pub asked : call.asked ≡ asked_of place.settings.largest place.users call.request.head
+  pub takes : TakesCall place.settings.largest place.users (buffer ++ read) (taken_of call) left
+  pub answered : IsAnswered tells alone (site_in place) (form_of k call.request.head call.fate) d e old.taken new.taken old.told new.told call
 
 -- and the connection goes on
-pub record GoesOn (tells alone : Type 0) (site : Site) (k : ℕ) (buffer left : List ℕ) (d e : DoorView) (old new : EndsState) : Type 0 where
+pub record GoesOn (tells alone : Type 0) (place : Place) (k : ℕ) (buffer left : List ℕ) (d e : DoorView) (old new : EndsState) : Type 0 where
   pub call : Call
-  pub replied : TakesReply tells alone site k buffer left d e old new call
+  pub replied : TakesReply tells alone place k buffer left d e old new call
   pub stays_open : (form_of k call.request.head call.fate).close ≡ false
 
-abbrev pub ComesTo : Type 0 → Type 0 → Site → ℕ → List Event → Side → Side → Result Turn ServeFault → Type 0
-ComesTo tells alone site k found x y (Ok Further) = GoesOn tells alone site k x.intake.buffer y.intake.buffer x.door y.door x.ends y.ends × IsReady site.settings.largest y.intake
-ComesTo tells alone site k found x y (Ok (Over replies end)) = ServesFrom tells alone site k x.intake.buffer x.door y.door x.ends y.ends replies end
-ComesTo tells alone site k found x y (Err fault) = LeavesAt tells alone site k found x y fault
+abbrev pub ComesTo : Type 0 → Type 0 → Place → ℕ → List Event → Side → Side → Result Turn ServeFault → Type 0
+ComesTo tells alone place k found x y (Ok Further) = GoesOn tells alone place k x.intake.buffer y.intake.buffer x.door y.door x.ends y.ends × IsReady place.settings.largest y.intake
+ComesTo tells alone place k found x y (Ok (Over replies end)) = ServesFrom tells alone place k x.intake.buffer x.door y.door x.ends y.ends replies end
+ComesTo tells alone place k found x y (Err fault) = LeavesAt tells alone place k found x y fault
 
 -- the door's settings and home, how long the buffer for pieces is, and the borrows that the connection is made of stay
 pub record KeepsPlace (old new : Around) : Type 0 where
@@ -53,8 +54,8 @@ abbrev pub WritesFew : Turn → Type 0
 WritesFew Further = ⊤
 WritesFew (Over replies end) = replies ≤ 1
 
-pub record TakesTurn (tells alone : Type 0) (site : Site) (k : ℕ) (found : List Event) (x y : Side) (result : Result Turn ServeFault) : Type 0 where
-  pub turn : ComesTo tells alone site k found x y result
+pub record TakesTurn (tells alone : Type 0) (place : Place) (k : ℕ) (found : List Event) (x y : Side) (result : Result Turn ServeFault) : Type 0 where
+  pub turn : ComesTo tells alone place k found x y result
   pub few : IfOk result WritesFew
   pub cause : HasServeCause x.ends y.ends result
 

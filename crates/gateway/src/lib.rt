@@ -1,10 +1,9 @@
-//! One connection of the gateway: requests on objects and containers in, replies out, through a door of the
-//! realm.
+//! One connection of the gateway: requests on objects, containers and accounts in, replies out, through a door
+//! of the realm.
 #![tactic(auto)]
 
-mod asker;
+mod by_head;
 mod laws;
-mod refusal;
 mod request;
 mod serve;
 mod turn;

@@ -5,7 +5,7 @@ ghost use Rattle.swift_requests.specs.Bodies.{is_unread};
 ghost use Rattle.call_words.specs.Streams.{use_of};
 ghost use Rattle.http_model.specs.Forms.{is_bodiless};
 ghost use Rattle.call_service.specs.Serving.{Side, StaysAround};
-ghost use Rattle.gateway.specs.Calls.{MayGoOn, site_of};
+ghost use Rattle.gateway.specs.Calls.{MayGoOn, site_of, place_of};
 ghost use Rattle.gateway.specs.Requests.{IsBehindHead, Serves, Stops};
 ghost use Rattle.gateway.specs.Serving.{ReadsHead};
 ghost use Rattle.call_words.specs.Calls.{Ground};
@@ -13,8 +13,7 @@ ghost use Rattle.gateway.specs.Texts.{is_failing, closing_end};
 ghost use Rattle.gateway.specs.Turns.{ComesTo, WritesFew};
 
 use crate::ConnEnd;
-use crate::asker::asker_of;
-use crate::refusal::serve_refused;
+use crate::by_head::serve_by_head;
 use crate::turn::Turn;
 use call_service::{Connected, Connection, ServeFault, Served};
 use gw_io::{Clock, Sink, Source};
@@ -24,7 +23,7 @@ use realm_door::Door;
 use realm_model::Settings;
 use request_service::serve_command;
 use std::alloc::Global;
-use swift_auth::User;
+use swift_auth::Users;
 use swift_reply::SwiftRefusal;
 use swift_requests::{Asked, BodyUse, body_use, closes, read_asked};
 
@@ -43,46 +42,42 @@ fn serve_asked<'c, D: Door, C: Clock, S: Source, K: Sink>(
     alloc: Global,
     settings: &Settings,
     zone: u8,
-    user: &User,
+    users: &Users,
     head: &Head,
     asked: Asked,
     plan: BodyUse,
     form: ReplyForm,
     connection: &mut Connection<'c, D, C, S, K>,
 ) -> Result<Served, ServeFault>
-    requires goes { MayGoOn D.tells settings.now (⟦<Connection<'c, D, C, S, K> as Connected>⟧.around connection.old).settings zone user.now (⟦<Connection<'c, D, C, S, K> as Connected>⟧.side connection.old).door (⟦<Connection<'c, D, C, S, K> as Connected>⟧.around connection.old).buffer }
+    requires goes { MayGoOn D.tells settings.now (⟦<Connection<'c, D, C, S, K> as Connected>⟧.around connection.old).settings zone (⟦<Connection<'c, D, C, S, K> as Connected>⟧.side connection.old).door (⟦<Connection<'c, D, C, S, K> as Connected>⟧.around connection.old).buffer }
     requires behind { IsBehindHead settings.now.largest (⟦<Connection<'c, D, C, S, K> as Connected>⟧.side connection.old).intake head.now }
     requires most { settings.now.largest ≤ 5368709120 }
-    requires asks { asked ≡ asked_of settings.now.largest head.now }
-    requires used { plan ≡ use_of settings.now.largest head.now }
+    requires asks { asked ≡ asked_of settings.now.largest users.now head.now }
+    requires used { plan ≡ use_of settings.now.largest users.now head.now }
     requires form { form.bodiless ≡ is_bodiless head.now.method }
-    requires shut { is_unread (use_of settings.now.largest head.now) ≡ true → form.close ≡ true }
-    ensures served { IfOk result (Serves D.tells D.alone (site_of settings.now zone) head.now asked (use_of settings.now.largest head.now) form (⟦<Connection<'c, D, C, S, K> as Connected>⟧.side connection.old) (⟦<Connection<'c, D, C, S, K> as Connected>⟧.side connection.new)) }
-    ensures left { IfErr result (Stops D.tells D.alone (site_of settings.now zone) form asked (use_of settings.now.largest head.now) (⟦<Connection<'c, D, C, S, K> as Connected>⟧.found connection.new) (⟦<Connection<'c, D, C, S, K> as Connected>⟧.side connection.old) (⟦<Connection<'c, D, C, S, K> as Connected>⟧.side connection.new)) }
+    requires shut { is_unread (use_of settings.now.largest users.now head.now) ≡ true → form.close ≡ true }
+    ensures served { IfOk result (Serves D.tells D.alone (site_of settings.now zone) head.now asked (use_of settings.now.largest users.now head.now) form (⟦<Connection<'c, D, C, S, K> as Connected>⟧.side connection.old) (⟦<Connection<'c, D, C, S, K> as Connected>⟧.side connection.new)) }
+    ensures left { IfErr result (Stops D.tells D.alone (site_of settings.now zone) form asked (use_of settings.now.largest users.now head.now) (⟦<Connection<'c, D, C, S, K> as Connected>⟧.found connection.new) (⟦<Connection<'c, D, C, S, K> as Connected>⟧.side connection.old) (⟦<Connection<'c, D, C, S, K> as Connected>⟧.side connection.new)) }
     ensures around { StaysAround (⟦<Connection<'c, D, C, S, K> as Connected>⟧.around connection.old) (⟦<Connection<'c, D, C, S, K> as Connected>⟧.around connection.new) result }
 {
     let read = !plan.is_unread();
     match asked {
-        Asked::Put(put) => {
-            let Ok(asker) = asker_of(user) else {
-                drop(put);
-                return Err(ServeFault::OutOfMemory);
-            };
+        Asked::Put { asker, command } => {
             let waits = plan.is_awaited();
             connection.door.begin();
-            serve_put(alloc, settings, zone, asker, put, form, waits, connection)
+            serve_put(
+                alloc, settings, zone, asker, command, form, waits, connection,
+            )
         }
-        Asked::Unfed(command) => {
-            let Ok(asker) = asker_of(user) else {
-                drop(command);
-                return Err(ServeFault::OutOfMemory);
-            };
+        Asked::Unfed { asker, command } => {
             connection.door.begin();
-            serve_command(alloc, zone, asker, command, form, read, connection)
+            serve_command(
+                alloc, settings, zone, asker, command, form, read, connection,
+            )
         }
-        refused => {
-            let served = serve_refused(
-                &refused,
+        by_head => {
+            let served = serve_by_head(
+                &by_head,
                 plan,
                 form,
                 connection.intake,
@@ -91,7 +86,7 @@ fn serve_asked<'c, D: Door, C: Clock, S: Source, K: Sink>(
                 connection.buffer,
                 connection.out,
             );
-            drop(refused);
+            drop(by_head);
             served
         }
     }
@@ -103,20 +98,20 @@ pub(crate) fn serve_request<'c, D: Door, C: Clock, S: Source, K: Sink>(
     k: u64,
     settings: &Settings,
     zone: u8,
-    user: &User,
+    users: &Users,
     head: &Head,
     connection: &mut Connection<'c, D, C, S, K>,
 ) -> Result<Turn, ServeFault>
-    requires goes { MayGoOn D.tells settings.now (⟦<Connection<'c, D, C, S, K> as Connected>⟧.around connection.old).settings zone user.now (⟦<Connection<'c, D, C, S, K> as Connected>⟧.side connection.old).door (⟦<Connection<'c, D, C, S, K> as Connected>⟧.around connection.old).buffer }
+    requires goes { MayGoOn D.tells settings.now (⟦<Connection<'c, D, C, S, K> as Connected>⟧.around connection.old).settings zone (⟦<Connection<'c, D, C, S, K> as Connected>⟧.side connection.old).door (⟦<Connection<'c, D, C, S, K> as Connected>⟧.around connection.old).buffer }
     requires behind { IsBehindHead settings.now.largest (⟦<Connection<'c, D, C, S, K> as Connected>⟧.side connection.old).intake head.now }
 
     // Whatever was read before the head: with it, this is a turn.
     ensures turn { (x : Side) → ReadsHead settings.now.largest x (⟦<Connection<'c, D, C, S, K> as Connected>⟧.side connection.old) head.now
-        → ComesTo D.tells D.alone (site_of settings.now zone) k (⟦<Connection<'c, D, C, S, K> as Connected>⟧.found connection.new) x (⟦<Connection<'c, D, C, S, K> as Connected>⟧.side connection.new) result }
+        → ComesTo D.tells D.alone (place_of settings.now zone users.now) k (⟦<Connection<'c, D, C, S, K> as Connected>⟧.found connection.new) x (⟦<Connection<'c, D, C, S, K> as Connected>⟧.side connection.new) result }
     ensures few { IfOk result WritesFew }
     ensures around { StaysAround (⟦<Connection<'c, D, C, S, K> as Connected>⟧.around connection.old) (⟦<Connection<'c, D, C, S, K> as Connected>⟧.around connection.new) result }
 {
-    let asked = match read_asked(alloc, settings.largest, head) {
+    let asked = match read_asked(alloc, users, settings.largest, head) {
         Ok(asked) => asked,
         Err(_) => return Err(ServeFault::OutOfMemory),
     };
@@ -126,7 +121,7 @@ pub(crate) fn serve_request<'c, D: Door, C: Clock, S: Source, K: Sink>(
     let form = ReplyForm { bodiless, close };
     let end = closing_end(&asked);
     match serve_asked(
-        alloc, settings, zone, user, head, asked, plan, form, connection,
+        alloc, settings, zone, users, head, asked, plan, form, connection,
     ) {
         Err(fault) => Err(fault),
         Ok(Served::Cut) => Ok(Turn::Over(0, ConnEnd::Cut)),

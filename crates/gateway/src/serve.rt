@@ -1,11 +1,10 @@
 ghost use Rattle.std.specs.Prelude.{◌≡◌, ◌≤◌, length};
 ghost use Rattle.http_intake.specs.Intake.{fresh};
-ghost use Rattle.gateway.specs.Calls.{MayBegin, MayGoOn, site_of};
+ghost use Rattle.gateway.specs.Calls.{MayBegin, MayGoOn, place_of};
 ghost use Rattle.gateway.specs.Serving.{ServesConnection};
 ghost use Rattle.gateway.specs.Turns.{KeepsPlace};
 
 use crate::ServeFault;
-use crate::asker::standard_user;
 use crate::turn::{Turn, take_turn};
 use call_service::{Connected, Connection};
 use gw_io::{Clock, Ends, Sink, Source};
@@ -13,7 +12,7 @@ use http_intake::Intake;
 use realm_door::Door;
 use realm_model::Settings;
 use std::alloc::Global;
-use swift_auth::User;
+use swift_auth::Users;
 
 /// How a connection ended.
 #[derive(Clone, Copy, Debug, PartialEq, Eq)]
@@ -40,11 +39,13 @@ pub struct Served {
 const PIECE: usize = 65_536;
 
 /// Serves the requests of one connection in order, each reply before the next request is read, at most
-/// 100000 of them. Each request on an object is served by a task as the next actor of the door's pass. The
-/// clock is asked once for each event, and once where the end of a body decides.
+/// 100000 of them. Who asks is said by the token of a request, which is that of one of these users, or of
+/// nobody. Each request on an object, a container or an account is served by a task as the next actor of the
+/// door's pass. The clock is asked once for each event, and once where the end of a body decides.
 pub fn serve_connection<D: Door, S: Source, K: Sink, C: Clock>(
     alloc: Global,
     settings: &Settings,
+    users: &Users,
     door: &mut D,
     zone: u8,
     source: &mut S,
@@ -55,17 +56,13 @@ pub fn serve_connection<D: Door, S: Source, K: Sink, C: Clock>(
     requires high { zone ≤ settings.now.zones }
     requires same { D.settings door.old ≡ settings.now }
     requires may { D.tells → MayBegin settings.now (D.told door.old) }
-    ensures served { ServesConnection D.tells D.alone (site_of settings.now zone) (D.found door.new)
+    ensures served { ServesConnection D.tells D.alone (place_of settings.now zone users.now) (D.found door.new)
         (D.told door.old) (D.told door.new)
         (⟦<(S, K, C) as Ends>⟧.ends (source.old, sink.old, clock.old))
         (⟦<(S, K, C) as Ends>⟧.ends (source.new, sink.new, clock.new)) result }
     ensures settings { D.settings door.new ≡ D.settings door.old }
     ensures home { D.home door.new ≡ D.home door.old }
 {
-    let user = match standard_user(alloc) {
-        Ok(user) => user,
-        Err(fault) => return Err(fault),
-    };
     let mut intake = match Intake::new(alloc, settings.largest) {
         Ok(intake) => intake,
         Err(_) => return Err(ServeFault::OutOfMemory),
@@ -78,7 +75,7 @@ pub fn serve_connection<D: Door, S: Source, K: Sink, C: Clock>(
         alloc,
         settings,
         zone,
-        &user,
+        users,
         door,
         clock,
         &mut intake,
@@ -93,7 +90,7 @@ fn serve_parts<D: Door, C: Clock, S: Source, K: Sink>(
     alloc: Global,
     settings: &Settings,
     zone: u8,
-    user: &User,
+    users: &Users,
     door: &mut D,
     clock: &mut C,
     intake: &mut Intake,
@@ -101,9 +98,9 @@ fn serve_parts<D: Door, C: Clock, S: Source, K: Sink>(
     sink: &mut K,
     buffer: &mut [u8],
 ) -> Result<Served, ServeFault>
-    requires goes { MayGoOn D.tells settings.now (D.settings door.old) zone user.now (D.told door.old) (length buffer.old) }
+    requires goes { MayGoOn D.tells settings.now (D.settings door.old) zone (D.told door.old) (length buffer.old) }
     requires unread { intake.old ≡ fresh settings.now.largest }
-    ensures served { ServesConnection D.tells D.alone (site_of settings.now zone) (D.found door.new)
+    ensures served { ServesConnection D.tells D.alone (place_of settings.now zone users.now) (D.found door.new)
         (D.told door.old) (D.told door.new)
         (⟦<(S, K, C) as Ends>⟧.ends (source.old, sink.old, clock.old))
         (⟦<(S, K, C) as Ends>⟧.ends (source.new, sink.new, clock.new)) result }
@@ -112,7 +109,7 @@ fn serve_parts<D: Door, C: Clock, S: Source, K: Sink>(
 {
     let mut out = Vec::new(alloc);
     let mut connection = Connection::new(door, clock, intake, source, sink, buffer, &mut out);
-    serve_requests(alloc, settings, zone, user, &mut connection)
+    serve_requests(alloc, settings, zone, users, &mut connection)
 }
 
 /// Serves the requests of a connection of which nothing was read.
@@ -120,19 +117,19 @@ fn serve_requests<'c, D: Door, C: Clock, S: Source, K: Sink>(
     alloc: Global,
     settings: &Settings,
     zone: u8,
-    user: &User,
+    users: &Users,
     connection: &mut Connection<'c, D, C, S, K>,
 ) -> Result<Served, ServeFault>
-    requires goes { MayGoOn D.tells settings.now (⟦<Connection<'c, D, C, S, K> as Connected>⟧.around connection.old).settings zone user.now (⟦<Connection<'c, D, C, S, K> as Connected>⟧.side connection.old).door (⟦<Connection<'c, D, C, S, K> as Connected>⟧.around connection.old).buffer }
+    requires goes { MayGoOn D.tells settings.now (⟦<Connection<'c, D, C, S, K> as Connected>⟧.around connection.old).settings zone (⟦<Connection<'c, D, C, S, K> as Connected>⟧.side connection.old).door (⟦<Connection<'c, D, C, S, K> as Connected>⟧.around connection.old).buffer }
     requires unread { (⟦<Connection<'c, D, C, S, K> as Connected>⟧.side connection.old).intake ≡ fresh settings.now.largest }
-    ensures served { ServesConnection D.tells D.alone (site_of settings.now zone) (⟦<Connection<'c, D, C, S, K> as Connected>⟧.found connection.new)
+    ensures served { ServesConnection D.tells D.alone (place_of settings.now zone users.now) (⟦<Connection<'c, D, C, S, K> as Connected>⟧.found connection.new)
         (⟦<Connection<'c, D, C, S, K> as Connected>⟧.side connection.old).door (⟦<Connection<'c, D, C, S, K> as Connected>⟧.side connection.new).door (⟦<Connection<'c, D, C, S, K> as Connected>⟧.side connection.old).ends (⟦<Connection<'c, D, C, S, K> as Connected>⟧.side connection.new).ends result }
     ensures stays { KeepsPlace (⟦<Connection<'c, D, C, S, K> as Connected>⟧.around connection.old) (⟦<Connection<'c, D, C, S, K> as Connected>⟧.around connection.new) }
 {
     let mut done: u64 = 0;
     'requests: loop {
         let k = done + 1;
-        match take_turn(alloc, k, settings, zone, user, connection) {
+        match take_turn(alloc, k, settings, zone, users, connection) {
             Ok(Turn::Further) => done = k,
             Ok(Turn::Over(replies, end)) => {
                 let requests = done + replies;

@@ -5,11 +5,11 @@ ghost use Rattle.std.specs.Io.KnownBytes.{Appends};
 ghost use Rattle.http_model.specs.Replies.{bad_request_text};
 ghost use Rattle.gateway.specs.declared.serve.ConnEnd.TheVariants as ends;
 ghost use Rattle.gateway.specs.Texts.{closing};
-ghost use Rattle.gateway.specs.Calls.{MayGoOn, site_of};
+ghost use Rattle.gateway.specs.Calls.{MayGoOn, place_of};
 ghost use Rattle.gateway.specs.Requests.{IsReady};
 ghost use Rattle.gateway.specs.Turns.{KeepsPlace, TakesTurn, EndsHeads, EndsSo, LeavesSo};
 
-use crate::refusal::send_bad_request;
+use crate::by_head::send_bad_request;
 use crate::request::serve_request;
 use crate::{ConnEnd, ServeFault};
 use call_service::{Connected, Connection};
@@ -19,7 +19,7 @@ use http_model::BadRequest;
 use realm_door::Door;
 use realm_model::Settings;
 use std::alloc::Global;
-use swift_auth::User;
+use swift_auth::Users;
 
 /// What a turn of a connection comes to.
 #[derive(Clone, Copy, Debug, PartialEq, Eq)]
@@ -74,16 +74,16 @@ pub(crate) fn take_turn<'c, D: Door, C: Clock, S: Source, K: Sink>(
     k: u64,
     settings: &Settings,
     zone: u8,
-    user: &User,
+    users: &Users,
     connection: &mut Connection<'c, D, C, S, K>,
 ) -> Result<Turn, ServeFault>
-    requires goes { MayGoOn D.tells settings.now (⟦<Connection<'c, D, C, S, K> as Connected>⟧.around connection.old).settings zone user.now (⟦<Connection<'c, D, C, S, K> as Connected>⟧.side connection.old).door (⟦<Connection<'c, D, C, S, K> as Connected>⟧.around connection.old).buffer }
+    requires goes { MayGoOn D.tells settings.now (⟦<Connection<'c, D, C, S, K> as Connected>⟧.around connection.old).settings zone (⟦<Connection<'c, D, C, S, K> as Connected>⟧.side connection.old).door (⟦<Connection<'c, D, C, S, K> as Connected>⟧.around connection.old).buffer }
     requires ready { IsReady settings.now.largest (⟦<Connection<'c, D, C, S, K> as Connected>⟧.side connection.old).intake }
-    ensures turn { TakesTurn D.tells D.alone (site_of settings.now zone) k (⟦<Connection<'c, D, C, S, K> as Connected>⟧.found connection.new) (⟦<Connection<'c, D, C, S, K> as Connected>⟧.side connection.old) (⟦<Connection<'c, D, C, S, K> as Connected>⟧.side connection.new) result }
+    ensures turn { TakesTurn D.tells D.alone (place_of settings.now zone users.now) k (⟦<Connection<'c, D, C, S, K> as Connected>⟧.found connection.new) (⟦<Connection<'c, D, C, S, K> as Connected>⟧.side connection.old) (⟦<Connection<'c, D, C, S, K> as Connected>⟧.side connection.new) result }
     ensures stays { KeepsPlace (⟦<Connection<'c, D, C, S, K> as Connected>⟧.around connection.old) (⟦<Connection<'c, D, C, S, K> as Connected>⟧.around connection.new) }
 {
     match connection.intake.next(alloc, connection.source) {
-        Ok(Some(head)) => serve_request(alloc, k, settings, zone, user, &head, connection),
+        Ok(Some(head)) => serve_request(alloc, k, settings, zone, users, &head, connection),
         Ok(None) => Ok(Turn::Over(0, ConnEnd::Clean)),
         Err(fault) => end_heads(connection.sink, connection.out, fault),
     }

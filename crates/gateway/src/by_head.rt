@@ -1,15 +1,16 @@
-//! Replies that rest on the request alone.
+//! Replies that rest on the head of a request alone: refusals before any name is looked at, and what a login is
+//! answered.
 ghost use Rattle.std.specs.Prelude.{◌≡◌, ◌<◌, ◌++◌, None, false, IfOk, OnOk, IfErr, length, [], true};
 ghost use Rattle.std.specs.Io.KnownBytes.{Appends};
 ghost use Rattle.http_model.specs.Replies.{bad_request_text};
 ghost use Rattle.swift_requests.specs.Bodies.{is_unread, is_awaited};
 ghost use Rattle.call_words.specs.Bodies.{read_whole, is_broken};
-ghost use Rattle.call_words.specs.Calls.{alone, text_by, IsRefused};
+ghost use Rattle.call_words.specs.Calls.{alone, text_by, IsByHead};
 ghost use Rattle.call_service.specs.Bodies.{ReadsAtFault};
 ghost use Rattle.call_service.specs.Serving.{WritesAtFault, LeavesText};
 ghost use Rattle.call_service.specs.declared.fault.ServeFault.TheVariants as faults;
 ghost use Rattle.gateway.specs.Texts.{closing};
-ghost use Rattle.gateway.specs.Requests.{UsesBody, LeavesBody, Refuses, LeavesRefusal, is_cut, fate_by};
+ghost use Rattle.gateway.specs.Requests.{UsesBody, LeavesBody, RepliesByHead, LeavesReply, is_cut, fate_by};
 
 use call_service::{ServeFault, Served, closing, drop_body, send};
 use gw_io::{Sink, Source};
@@ -17,35 +18,40 @@ use http_chunks::BodyEnd;
 use http_intake::Intake;
 use http_model::{BadRequest, ReplyForm};
 use std::alloc::AllocError;
-use swift_reply::{push_bad_request, push_refusal};
+use swift_reply::{push_bad_request, push_let_in, push_refusal};
 use swift_requests::{Asked, BodyUse};
 
-/// Adds the text of a refusal before any name is looked at.
-fn push_refused(out: &mut Vec<u8>, asked: &Asked, form: ReplyForm) -> Result<(), AllocError>
-    requires { IsRefused asked.now }
+/// Adds the text of a reply to what is answered by its head alone.
+fn push_by_head(out: &mut Vec<u8>, asked: &Asked, form: ReplyForm) -> Result<(), AllocError>
+    requires { IsByHead asked.now }
     ensures { OnOk result (out.new.items ≡ out.old.items ++ text_by form asked.now read_whole alone []) }
 {
     match asked {
         Asked::BadHost => push_bad_request(out, BadRequest::Host, form),
         Asked::Refused(refusal) => push_refusal(out, refusal, form),
-        Asked::Put(_) | Asked::Unfed(_) => unreachable!(),
+        Asked::Login {
+            host,
+            account,
+            token,
+        } => push_let_in(out, host, account, token, form),
+        Asked::Put { .. } | Asked::Unfed { .. } => unreachable!(),
     }
 }
 
 /// Writes that text. The buffer is used for it.
-fn send_refused<K: Sink>(
+fn send_by_head<K: Sink>(
     sink: &mut K,
     out: &mut Vec<u8>,
     asked: &Asked,
     form: ReplyForm,
 ) -> Result<(), ServeFault>
-    requires { IsRefused asked.now }
+    requires { IsByHead asked.now }
     ensures ok { OnOk result (Appends (K.taken sink.old) (K.taken sink.new) (text_by form asked.now read_whole alone [])) }
     ensures err { IfErr result (LeavesText (K.taken sink.old) (K.taken sink.new) (text_by form asked.now read_whole alone [])) }
     ensures cause { WritesAtFault (K.faults sink.old) (K.faults sink.new) result }
 {
     out.clear();
-    push_refused(out, asked, form)?;
+    push_by_head(out, asked, form)?;
     send(sink, out.as_slice())
 }
 
@@ -103,9 +109,9 @@ fn is_broken(end: Option<BodyEnd>) -> bool
     matches!(end, Some(BodyEnd::BadChunk | BodyEnd::TooLarge))
 }
 
-/// Replies to a request that is refused before any name is looked at, behind its body, or behind what was read
-/// of one whose chunks go wrong.
-pub(crate) fn serve_refused<S: Source, K: Sink>(
+/// Replies to a request that is answered by its head alone, behind its body, or behind what was read of one
+/// whose chunks go wrong.
+pub(crate) fn serve_by_head<S: Source, K: Sink>(
     asked: &Asked,
     plan: BodyUse,
     form: ReplyForm,
@@ -115,14 +121,14 @@ pub(crate) fn serve_refused<S: Source, K: Sink>(
     buffer: &mut [u8],
     out: &mut Vec<u8>,
 ) -> Result<Served, ServeFault>
-    requires refused { IsRefused asked.now }
+    requires by_head { IsByHead asked.now }
     requires room { 0 < length buffer.old }
     requires sound { intake.old.failed ≡ None }
     requires quiet { is_awaited plan ≡ false }
     requires shut { is_unread plan ≡ true → form.close ≡ true }
-    ensures served { IfOk result (Refuses form asked.now plan intake.old intake.new
+    ensures served { IfOk result (RepliesByHead form asked.now plan intake.old intake.new
         (S.left source.old) (S.left source.new) (K.taken sink.old) (K.taken sink.new)) }
-    ensures left { IfErr result (LeavesRefusal form asked.now plan intake.old intake.new
+    ensures left { IfErr result (LeavesReply form asked.now plan intake.old intake.new
         (S.left source.old) (S.left source.new) (K.taken sink.old) (K.taken sink.new)) }
     ensures reads { ReadsAtFault (S.faults source.old) (S.faults source.new) result }
     ensures writes { WritesAtFault (K.faults sink.old) (K.faults sink.new) result }
@@ -133,9 +139,9 @@ pub(crate) fn serve_refused<S: Source, K: Sink>(
         return Ok(Served::Cut);
     }
     if is_broken(end) {
-        send_refused(sink, out, asked, closing(form))?;
+        send_by_head(sink, out, asked, closing(form))?;
         return Ok(Served::Closed);
     }
-    send_refused(sink, out, asked, form)?;
+    send_by_head(sink, out, asked, form)?;
     Ok(Served::Replied)
 }
