@@ -1,6 +1,9 @@
 pub mod Texts
 pub mod PairLemmas
+pub mod Fronts
 pub mod Numbers
 pub mod Refusals
+pub mod Passing
 pub mod OnLiterals
 pub mod ListLaws
+pub mod Rights
