@@ -6,4 +6,6 @@ pub mod Refusals
 pub mod Passing
 pub mod OnLiterals
 pub mod ListLaws
+pub mod Cases
 pub mod Rights
+pub mod Puts

@@ -3,10 +3,11 @@ ghost use Rattle.std.specs.Prelude.{◌≡◌, ◌&&◌, IfOk, true, map};
 ghost use Rattle.std.specs.Char.{to_ascii_lowercase};
 ghost use Rattle.http_model.specs.Framings.{value_of};
 ghost use Rattle.swift_requests.specs.Fields.{is_text_field};
-ghost use Rattle.swift_requests.specs.Metadata.{are_texts, is_within};
+ghost use Rattle.swift_requests.specs.Metadata.{are_texts};
 ghost use Rattle.swift_requests.specs.Changes.{has_front, name_behind, changes_of, set_count, are_within_limits, has_change_texts, container_changes};
 
 use crate::form::{is_text, is_text_field};
+use crate::metadata::{MOST_PAIRS, is_within};
 use http_model::{Field, Head, field_value};
 use http1::text::eq_ignore_case;
 use rgw_types::{Bytes, Pairs, Text};
@@ -20,15 +21,6 @@ const META_PREFIX: &str = "x-container-meta-";
 
 /// What the name of a field that removes metadata begins with, in any case.
 const REMOVAL_PREFIX: &str = "x-remove-container-meta-";
-
-/// The most pairs that are set.
-const MOST_PAIRS: usize = 90;
-
-/// The most bytes of a pair's name.
-const NAME_LIMIT: usize = 128;
-
-/// The most bytes of a pair's value.
-const VALUE_LIMIT: usize = 256;
 
 /// The metadata that a request sets and removes, by rising name, with their values as they were sent; an empty
 /// value removes.
@@ -124,12 +116,6 @@ fn name_behind(alloc: Global, field: &Field, prefix: &str) -> Result<Text, Alloc
 {
     let name = field.name.as_str().to_ascii_lowercase(alloc)?;
     Text::from_str(alloc, name.strip_prefix(prefix).unwrap())
-}
-
-fn is_within(name: &Text, value: &Bytes) -> bool
-    ensures { result ≡ is_within (name.now, value.now) }
-{
-    !name.is_empty() && name.len() <= NAME_LIMIT && value.len() <= VALUE_LIMIT
 }
 
 /// Whether what is to be text is UTF-8: the metadata, the read list and the write list.
