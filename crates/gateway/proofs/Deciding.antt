@@ -1,11 +1,15 @@
 -- A task that ended with a reply made an event.
-use Rattle.std.proofs.Common.{◌≡◌, ℕ, List, Option, Some, None}
+use Rattle.std.proofs.Common.{◌≡◌, ℕ, List, [], Option, Some, None}
 use Rattle.realm_model.specs.Accounts.{blank}
 use Rattle.realm_model.specs.Owns.{OwnEvent}
+use Rattle.realm_model.specs.Settings.{SettingsView}
 use Rattle.swift_auth.specs.declared.policy.Deed.{Deed}
 use Rattle.swift_requests.specs.declared.asked.Asked.{Asked}
-use Rattle.swift_requests.specs.declared.asked.Asked.TheVariants.{BadHost, Refused, Put, Unfed}
-use Rattle.swift_requests.specs.declared.asked.UnfedCommand.TheVariants.{Get, Listing}
+use Rattle.swift_requests.specs.declared.asked.Asked.TheVariants.{Put, Unfed}
+use Rattle.swift_requests.specs.declared.asked.UnfedCommand.{UnfedCommand}
+use Rattle.swift_requests.specs.declared.asked.UnfedCommand.TheVariants.{Get, Listing, Container, Account as OfAccount}
+use Rattle.task_account.specs.declared.request.AccountRequest.{AccountRequest}
+use Rattle.task_container.specs.declared.request.ContainerRequest.{ContainerRequest}
 use Rattle.task_words.specs.declared.asker.Asker.{Asker}
 use Rattle.task_words.specs.declared.command.GetCommand.{GetCommand}
 use Rattle.task_words.specs.declared.command.PutCommand.{PutCommand}
@@ -20,7 +24,8 @@ use Rattle.task_list.specs.declared.request.ListRequest.{ListRequest}
 use Rattle.task_list.specs.Listed.{IsListReply, IsListOutcome}
 use Rattle.task_words.specs.Outcomes.{LookedUp, ByMap, Body, IsGetReply, IsGetOutcome, IsPutReply, IsPutOutcome}
 use Rattle.call_words.specs.Bodies.{Fate}
-use Rattle.call_words.specs.Calls.{body_at, IsGrantedAlone, IsGetEnd, IsListEnd, IsBorneOut}
+use Rattle.call_words.specs.Ends.{TaskEnd, on_object, on_container, on_account}
+use Rattle.call_words.specs.Calls.{body_at, IsGrantedAlone, IsGetEnd, IsListEnd, container_request, account_request, IsContainerEndOver, IsAccountEndOver, IsUnfedBorneOut, IsBorneOut}
 
 none_some : {X : Type 0} (x : X) → None ≡ Some x → ⊥
 none_some x e = absurd (cc)
@@ -113,10 +118,31 @@ list_end r fate LateTag events x = list_outcome r LateTag events x.0
 list_end r fate (LateRead read_at clock) events x = list_outcome r (LateRead read_at clock) events x.0
 list_end r fate (NoSpace free needed) events x = list_outcome r (NoSpace free needed) events x.0
 
+-- ---- containers and accounts
+
+container_end : (r : ContainerRequest) (settings : SettingsView) (fate : Fate) (end : TaskEnd) → IsContainerEndOver r settings fate end blank [] → ⊥
+container_end r settings fate (on_object BodyFailed) x = let none = x.reads.alone in absurd (cc)
+container_end r settings fate (on_object outcome) x = x
+container_end r settings fate (on_container outcome) x = let ends = x.0.ended in absurd (cc)
+container_end r settings fate (on_account outcome) x = x
+
+account_end : (r : AccountRequest) (fate : Fate) (end : TaskEnd) → IsAccountEndOver r fate end blank [] → ⊥
+account_end r fate (on_object BodyFailed) x = let none = x.1.alone in absurd (cc)
+account_end r fate (on_object outcome) x = x
+account_end r fate (on_container outcome) x = x
+account_end r fate (on_account outcome) x = let ends = x.0.ends in absurd (cc)
+
+-- ---- what was asked
+
+unfed_end : (settings : SettingsView) (zone : ℕ) (asker : Asker) (u : UnfedCommand) (fate : Fate) (end : TaskEnd) (shown : List ℕ) → IsUnfedBorneOut settings zone asker u fate end shown blank [] → ⊥
+unfed_end settings zone asker (Get c) fate (on_object outcome) shown x = get_end zone asker c fate outcome [] x.0
+unfed_end settings zone asker (Listing c l) fate (on_object outcome) shown x = list_end (record { zone = zone; asker = asker; command = c }) fate outcome [] x.0
+unfed_end settings zone asker (Container c) fate end shown x = container_end (container_request zone asker c) settings fate end x.0
+unfed_end settings zone asker (OfAccount c l) fate end shown x = account_end (account_request zone asker c) fate end x.0
+unfed_end settings zone asker u fate end shown x = x
+
 -- nothing is borne out by an actor without events
-pub not_blank : (stripe zone : ℕ) (asker : Asker) (asked : Asked) (fate : Fate) (body shown : List ℕ) (outcome : Outcome) (events : List OwnEvent) → IsBorneOut stripe zone asker asked fate body outcome shown blank events → ⊥
-not_blank stripe zone asker BadHost fate body shown outcome events x = x
-not_blank stripe zone asker (Refused why) fate body shown outcome events x = x
-not_blank stripe zone asker (Put c) fate body shown outcome events x = put_outcome zone asker c (body_at fate body) outcome events x.0
-not_blank stripe zone asker (Unfed (Get c)) fate body shown outcome events x = get_end zone asker c fate outcome events x.0
-not_blank stripe zone asker (Unfed (Listing c l)) fate body shown outcome events x = list_end (record { zone = zone; asker = asker; command = c }) fate outcome events x.0
+pub not_blank : (settings : SettingsView) (zone : ℕ) (asked : Asked) (fate : Fate) (body shown : List ℕ) (end : TaskEnd) → IsBorneOut settings zone asked fate body end shown blank [] → ⊥
+not_blank settings zone (Put asker c) fate body shown (on_object outcome) x = put_outcome zone asker c (body_at fate body) outcome [] x.0
+not_blank settings zone (Unfed asker u) fate body shown end x = unfed_end settings zone asker u fate end shown x.0
+not_blank settings zone asked fate body shown end x = x

@@ -16,13 +16,13 @@ use Rattle.swift_reply.specs.declared.reply.SwiftRefusal.{SwiftRefusal}
 use Rattle.swift_reply.specs.declared.reply.SwiftRefusal.TheVariants as why
 use Rattle.swift_requests.specs.Bodies.{body_use, unwanted, is_unread, is_awaited, closes}
 use Rattle.swift_requests.specs.declared.asked.Asked.{Asked}
-use Rattle.swift_requests.specs.declared.asked.Asked.TheVariants.{BadHost, Refused, Put, Unfed}
+use Rattle.swift_requests.specs.declared.asked.Asked.TheVariants.{Refused, Put, Unfed}
 use Rattle.swift_requests.specs.declared.body.BodyUse.{BodyUse}
 use Rattle.swift_requests.specs.declared.body.BodyUse.TheVariants.{Fed, Awaited, Dropped, Unread}
-use Rattle.task_words.specs.declared.outcome.Outcome.{Outcome}
-use Rattle.task_words.specs.declared.outcome.Outcome.TheVariants.{Done, BodyFailed, Busy, MovedOften, RacedOften, LateTag, LateRead, NoSpace}
+use Rattle.task_words.specs.declared.outcome.Outcome.TheVariants.{BodyFailed}
 use Rattle.call_words.specs.Bodies.{Fate, read_whole, broken_off, unread, is_left, is_broken, IsWrong, Suits, IsBehind}
-use Rattle.call_words.specs.Calls.{alone as by_itself, task, text_by, is_waiting, IsRefused}
+use Rattle.call_words.specs.Ends.{TaskEnd, on_object, body_failed}
+use Rattle.call_words.specs.Calls.{alone as by_itself, task, text_by, is_waiting, IsByHead}
 use Rattle.call_words.specs.Texts.{continue_if}
 use Rattle.call_service.specs.Serving.{form_at}
 use Rattle.gateway.specs.Texts.{is_failing}
@@ -85,12 +85,11 @@ shut_closes form unread is = refl
 pub shut_same : (form : ReplyForm) → form.close ≡ true → form ≡ record form { close = true }
 shut_same form is = λ i. record { bodiless = form.bodiless; close = is i }
 
--- the text of a refusal before any name is looked at does not say what became of the body
-pub refused_text : (form : ReplyForm) (asked : Asked) (fate other : Fate) → IsRefused asked → text_by form asked fate by_itself [] ≡ text_by form asked other by_itself []
-refused_text form BadHost fate other is = refl
-refused_text form (Refused why) fate other is = refl
-refused_text form (Put c) fate other is = absurd is
-refused_text form (Unfed u) fate other is = absurd is
+-- the text of a reply by the head alone does not say what became of the body
+pub head_text : (form : ReplyForm) (asked : Asked) (fate other : Fate) → IsByHead asked → text_by form asked fate by_itself [] ≡ text_by form asked other by_itself []
+head_text form (Put asker c) fate other is = absurd is
+head_text form (Unfed asker u) fate other is = absurd is
+head_text form asked fate other is = refl
 
 -- where a body that is not waited for is left and not broken, the form closes
 pub left_shut : (plan : BodyUse) (fate : Fate) (close : Bool) → is_awaited plan ≡ false → Suits plan fate → is_broken fate ≡ false → (is_unread plan ≡ true → close ≡ true) → is_left fate ≡ true → close ≡ true
@@ -140,41 +139,18 @@ unwanted_quiet largest head = other_quiet _
 refused_quiet : (largest : ℕ) (head : Head) (w : SwiftRefusal) → false ≡ is_awaited (body_use largest head (Refused w))
 refused_quiet largest head why.NotBuilt = refl
 refused_quiet largest head why.TooLarge = refl
-refused_quiet largest head (why.Invalid what) = unwanted_quiet largest head
-refused_quiet largest head why.Unauthorized = unwanted_quiet largest head
-refused_quiet largest head (why.Denied rule) = unwanted_quiet largest head
-refused_quiet largest head why.NoPath = unwanted_quiet largest head
-refused_quiet largest head why.NoContainer = unwanted_quiet largest head
-refused_quiet largest head why.NoObject = unwanted_quiet largest head
-refused_quiet largest head (why.NoMethod kind) = unwanted_quiet largest head
-refused_quiet largest head why.NotYours = unwanted_quiet largest head
-refused_quiet largest head (why.NotEmpty name) = unwanted_quiet largest head
-refused_quiet largest head (why.Unsettled name) = unwanted_quiet largest head
-refused_quiet largest head why.NoLength = unwanted_quiet largest head
-refused_quiet largest head why.NotMet = unwanted_quiet largest head
-refused_quiet largest head why.TargetTooLong = unwanted_quiet largest head
-refused_quiet largest head (why.NoRange size) = unwanted_quiet largest head
-refused_quiet largest head why.OtherEtag = unwanted_quiet largest head
-refused_quiet largest head (why.Busy id) = unwanted_quiet largest head
-refused_quiet largest head why.MovedOften = unwanted_quiet largest head
-refused_quiet largest head why.RacedOften = unwanted_quiet largest head
-refused_quiet largest head why.LateTag = unwanted_quiet largest head
-refused_quiet largest head why.LateRead = unwanted_quiet largest head
-refused_quiet largest head (why.NoSpace free needed) = unwanted_quiet largest head
+refused_quiet largest head other = unwanted_quiet largest head
 
 -- a 100 is waited for just where the body is
 pub waits_so : (largest : ℕ) (head : Head) (asked : Asked) → is_waiting asked head ≡ is_awaited (body_use largest head asked)
-waits_so largest head BadHost = unwanted_quiet largest head
 waits_so largest head (Refused w) = refused_quiet largest head w
-waits_so largest head (Put c) = put_waits (waits head)
-waits_so largest head (Unfed u) = unwanted_quiet largest head
+waits_so largest head (Put asker c) = put_waits (waits head)
+waits_so largest head other = unwanted_quiet largest head
 
--- a refusal is no answer to such a client
-pub refused_waits : (head : Head) (asked : Asked) → IsRefused asked → is_waiting asked head ≡ false
-refused_waits head BadHost is = refl
-refused_waits head (Refused w) is = refl
-refused_waits head (Put c) is = absurd is
-refused_waits head (Unfed u) is = absurd is
+-- a reply by the head alone is no answer to such a client
+pub head_waits : (head : Head) (asked : Asked) → IsByHead asked → is_waiting asked head ≡ false
+head_waits head (Put asker c) is = absurd is
+head_waits head other is = refl
 
 -- no 100 is written for a body that is left
 pub unread_quiet : (waiting : Bool) → [] ≡ continue_if waiting unread
@@ -183,15 +159,9 @@ unread_quiet false = refl
 
 -- ---- ends
 
-pub not_failing : (actor : ℕ) (outcome : Outcome) → (outcome ≡ BodyFailed → ⊥) → is_failing (task actor outcome) ≡ false
-not_failing actor BodyFailed not = absurd (not refl)
-not_failing actor (Done reply) not = refl
-not_failing actor (Busy id) not = refl
-not_failing actor MovedOften not = refl
-not_failing actor RacedOften not = refl
-not_failing actor LateTag not = refl
-not_failing actor (LateRead read_at clock) not = refl
-not_failing actor (NoSpace free needed) not = refl
+pub not_failing : (actor : ℕ) (end : TaskEnd) → end ≢ body_failed → is_failing (task actor end) ≡ false
+not_failing actor (on_object BodyFailed) not = absurd (not refl)
+not_failing actor other not = refl
 
 -- ---- bytes
 

@@ -15,7 +15,6 @@ use Rattle.realm_model.proofs.Others.{phase-others, account-others}
 use Rattle.realm_door.specs.Steps.{actor_of_pass, next_count, begun, IsUnused, IsSame, Grows}
 use Rattle.realm_door.proofs.Others.{own-append, same_both}
 use Rattle.realm_door.proofs.Steps.{counted_begun, counted_grown}
-use Rattle.swift_auth.specs.Users.{UserView}
 use Rattle.call_service.specs.Serving.{IsNew, MayServe}
 use Rattle.door_moments.specs.Acts.{own_moments}
 use Rattle.gateway.specs.Calls.{MayBegin, MayGoOn, Advances}
@@ -164,9 +163,9 @@ module _ (settings : SettingsView) where
 -- ---- a request of the next actor
 
 -- it may be served over a door that has the realm's settings
-pub may_serve : (tells : Type 0) (settings of_door now : SettingsView) (zone : ℕ) (d e : DoorView) (user : UserView) (intake : IntakeState) (buffer : ℕ)
-    → MayGoOn tells settings of_door zone user d buffer → intake.failed ≡ None → (tells → e ≡ begun d) → now ≡ settings → MayServe tells now zone e intake buffer
-may_serve tells settings of_door now zone d e user intake buffer goes whole begins same = record {
+pub may_serve : (tells : Type 0) (settings of_door now : SettingsView) (zone : ℕ) (d e : DoorView) (intake : IntakeState) (buffer : ℕ)
+    → MayGoOn tells settings of_door zone d buffer → intake.failed ≡ None → (tells → e ≡ begun d) → now ≡ settings → MayServe tells now zone e intake buffer
+may_serve tells settings of_door now zone d e intake buffer goes whole begins same = record {
   room = goes.room;
   low = goes.site.low;
   high = subst (λ (s : SettingsView). zone ≤ s.zones) (sym same) goes.site.high;

@@ -1,7 +1,6 @@
 -- What a head asks, and what becomes of the bytes behind it.
-use Rattle.std.proofs.Common.{◌≡◌, ℕ, ◌+◌, ◌≤◌, Bool, true, false, not, cond, ◌&&◌, nat_lt, List, length, Option, Some, None, refl, sym, ap, ◌∙◌, subst, codes, arith}
+use Rattle.std.proofs.Common.{◌≡◌, ℕ, ◌+◌, ◌≤◌, Bool, true, false, not, cond, nat_lt, List, length, Option, Some, None, refl, sym, ap, ◌∙◌, subst, codes, arith}
 use Rattle.std.specs.Prelude.{bytes_eq}
-use Rattle.std.proofs.lemmas.Bool.{and_parts}
 use Rattle.std.proofs.lemmas.Bool.Decides.{nat_tests}
 use Rattle.std.proofs.lemmas.Slice.Eq.{bytes_eq-Decides}
 use Rattle.http_intake.specs.Intake.{IntakeState, is_in_chunks}
@@ -16,78 +15,122 @@ use Rattle.swift_words.specs.declared.target.Target.{Target}
 use Rattle.swift_words.specs.declared.target.Target.TheVariants as targets
 use Rattle.swift_words.specs.declared.query.Query.{Query}
 use Rattle.swift_words.specs.Targets.{target_fault, target_of, asked_by as query_of}
-use Rattle.swift_requests.specs.Asks.{target_limit, is_taken, is_own, is_above, put_refusal, get_refusal, list_refusal, asked_unless, asked_at, asked_by, asked_of}
+use Rattle.swift_auth.specs.Users.{UserView, account_of}
+use Rattle.swift_reply.specs.declared.reply.TargetKind.TheVariants as kind
+use Rattle.swift_requests.specs.Askers.{asker_of}
+use Rattle.swift_requests.specs.Asks.{target_limit, asked_unless, login_asked, account_asked_by, look_asked, container_asked_by, is_taken, object_asked_by, asked_at, asked_by, asked_of}
+use Rattle.swift_requests.specs.Fields.{is_above}
+use Rattle.swift_requests.specs.Logins.{login_of, host_of}
+use Rattle.swift_requests.specs.Methods.{is_look, is_delete, has_container_method, has_object_method}
+use Rattle.swift_requests.specs.Refusals.{put_refusal, get_refusal, own_refusal, change_refusal}
 use Rattle.swift_requests.proofs.Refusals.{put_passed}
+use Rattle.task_words.specs.declared.asker.Asker.{Asker}
 use Rattle.swift_requests.specs.Bodies.{body_use, is_unread}
 use Rattle.swift_requests.specs.declared.asked.Asked.{Asked}
-use Rattle.swift_requests.specs.declared.asked.Asked.TheVariants.{BadHost, Refused, Put, Unfed}
+use Rattle.swift_requests.specs.declared.asked.Asked.TheVariants.{BadHost, Refused, Login, Put, Unfed}
 use Rattle.swift_requests.specs.declared.asked.UnfedCommand.{UnfedCommand}
-use Rattle.swift_requests.specs.declared.asked.UnfedCommand.TheVariants.{Get, Listing}
+use Rattle.swift_requests.specs.declared.asked.UnfedCommand.TheVariants.{Get}
 use Rattle.swift_requests.specs.declared.body.BodyUse.{BodyUse}
 use Rattle.swift_requests.specs.declared.body.BodyUse.TheVariants.{Fed, Awaited, Dropped, Unread}
-use Rattle.list_words.specs.declared.command.ListCommand.{ListCommand}
-use Rattle.swift_reply.specs.declared.reply.ListingForm.{ListingForm}
 use Rattle.task_words.specs.declared.command.PutCommand.{PutCommand}
 use Rattle.task_words.specs.declared.command.GetCommand.{GetCommand}
-use Rattle.call_words.specs.Calls.{IsRefused}
+use Rattle.call_words.specs.Calls.{IsByHead}
 use Rattle.call_words.specs.Streams.{use_of}
 use Rattle.call_service.specs.Bodies.{most_due, most_due_by, dropped_if}
 use Rattle.gateway.specs.Requests.{IsBehindHead}
 use Rattle.gateway.specs.Texts.{is_refusing}
 
--- ---- what is asked of an object
+-- ---- what is no PUT of an object
 
-host_put : (host : Bool) (x : Asked) (c : PutCommand) → cond (not host) BadHost x ≡ Put c → x ≡ Put c
-host_put true x c e = e
-host_put false x c e = absurd (cc)
+abbrev IsNoPut : Asked → Type 0
+IsNoPut (Put asker c) = ⊥
+IsNoPut asked = Unit {0}
 
-short_put : (long : Bool) (w : SwiftRefusal) (x : Asked) (c : PutCommand) → cond long (Refused w) x ≡ Put c → x ≡ Put c
-short_put true w x c e = absurd (cc)
-short_put false w x c e = e
+no_put : (x : Asked) → IsNoPut x → (asker : Asker) (c : PutCommand) → x ≡ Put asker c → ⊥
+no_put x is asker c e = subst IsNoPut e is
 
--- a request for an object that is served, and that no field refuses
-object_put : (served put : Bool) (r g : Option SwiftRefusal) (p c : PutCommand) (q : GetCommand)
-    → cond served (cond put (asked_unless r (Put p)) (asked_unless g (Unfed (Get q)))) (Refused why.NotBuilt) ≡ Put c
-    → (served ≡ true) × (put ≡ true) × (r ≡ None)
-object_put true true None g p c q e = (refl, refl, refl)
-object_put true true (Some w) g p c q e = absurd (cc)
-object_put true false r None p c q e = absurd (cc)
-object_put true false r (Some w) p c q e = absurd (cc)
-object_put false put r g p c q e = absurd (cc)
+either : (b : Bool) (x y : Asked) → IsNoPut x → IsNoPut y → IsNoPut (cond b x y)
+either true x y first second = first
+either false x y first second = second
 
--- a request for a container that is served, and that no field refuses
-container_put : (served : Bool) (r : Option SwiftRefusal) (m : ListCommand) (f : ListingForm) (c : PutCommand)
-    → cond served (asked_unless r (Unfed (Listing m f))) (Refused why.NotBuilt) ≡ Put c → ⊥
-container_put true None m f c e = cc
-container_put true (Some w) m f c e = cc
-container_put false r m f c e = cc
+unless : (r : Option SwiftRefusal) (x : Asked) → IsNoPut x → IsNoPut (asked_unless r x)
+unless None x is = is
+unless (Some w) x is = tt
+
+module _ (largest : ℕ) (head : Head) (query : Query) where
+  by_login : (user : Option UserView) → IsNoPut (login_asked largest head user)
+  by_login None = tt
+  by_login (Some user) = either (is_above largest head.framing) (Refused why.TooLarge) (Login (host_of head) (account_of user) user.token) tt tt
+
+  by_account : (asker : Option Asker) → IsNoPut (account_asked_by largest head query asker)
+  by_account None = tt
+  by_account (Some asker) = unless (own_refusal largest head asker) _ tt
+
+  by_look : (name : List ℕ) (asker : Asker) → IsNoPut (look_asked largest head query name asker)
+  by_look name asker = either (is_above largest head.framing) _ _ tt (either (is_get head) _ _ tt tt)
+
+  by_container : (name : List ℕ) (asker : Option Asker) → IsNoPut (container_asked_by largest head query name asker)
+  by_container name None = tt
+  by_container name (Some asker) =
+      either (is_look head) _ _ (by_look name asker)
+      (either (is_delete head) _ _ (unless (own_refusal largest head asker) _ tt) (unless (change_refusal largest head asker) _ tt))
+
+-- ---- a PUT of an object
+
+-- where this test passed, and what it refuses else
+passed : (b : Bool) (w : SwiftRefusal) (x : Asked) (asker : Asker) (c : PutCommand) → cond (not b) (Refused w) x ≡ Put asker c → x ≡ Put asker c
+passed true w x asker c e = e
+passed false w x asker c e = absurd (cc)
+
+host_put : (host : Bool) (x : Asked) (asker : Asker) (c : PutCommand) → cond (not host) BadHost x ≡ Put asker c → x ≡ Put asker c
+host_put true x asker c e = e
+host_put false x asker c e = absurd (cc)
+
+short_put : (long : Bool) (w : SwiftRefusal) (x : Asked) (asker : Asker) (c : PutCommand) → cond long (Refused w) x ≡ Put asker c → x ≡ Put asker c
+short_put true w x asker c e = absurd (cc)
+short_put false w x asker c e = e
+
+-- a request for an object that no field refuses
+object_put : (put : Bool) (r g : Option SwiftRefusal) (own asker : Asker) (p c : PutCommand) (q : GetCommand)
+    → cond put (asked_unless r (Put own p)) (asked_unless g (Unfed own (Get q))) ≡ Put asker c → (put ≡ true) × (r ≡ None)
+object_put true None g own asker p c q e = (refl, refl)
+object_put true (Some w) g own asker p c q e = absurd (cc)
+object_put false r None own asker p c q e = absurd (cc)
+object_put false r (Some w) own asker p c q e = absurd (cc)
 
 -- the head of a PUT that is served
 pub record AsksPut (largest : ℕ) (head : Head) : Type 0 where
-  pub taken : is_taken head ≡ true
   pub is_one : is_put head ≡ true
   pub passed : put_refusal largest head ≡ None
 
-module _ (largest : ℕ) (head : Head) where
-  at_put : (query : Query) (target : Target) (c : PutCommand) → asked_at largest head query target ≡ Put c → AsksPut largest head
-  at_put query targets.Unknown c e = absurd (cc)
-  at_put query targets.Auth c e = absurd (cc)
-  at_put query (targets.Account account) c e = absurd (cc)
-  at_put query (targets.Container account container) c e =
-      absurd (container_put (is_own account && is_get head) (list_refusal largest head) _ _ c e)
-  at_put query (targets.Thing account container name) c e =
-      let found = object_put (is_own account && is_taken head) (is_put head) (put_refusal largest head) (get_refusal largest head) _ c _ e in
-      record { taken = (and_parts (is_own account) (is_taken head) found.0).1; is_one = found.1; passed = found.2 }
+module _ (largest : ℕ) (users : List UserView) (head : Head) (asker : Asker) (c : PutCommand) where
+  by_asker : (container name : List ℕ) (own : Option Asker) → object_asked_by largest head container name own ≡ Put asker c → AsksPut largest head
+  by_asker container name None e = absurd (cc)
+  by_asker container name (Some own) e =
+      let found = object_put (is_put head) (put_refusal largest head) (get_refusal largest head) own asker _ c _ e in
+      record { is_one = found.0; passed = found.1 }
 
-  by_put : (fault : Option WordFault) (c : PutCommand) → asked_by largest head fault ≡ Put c → AsksPut largest head
-  by_put (Some fault) c e = absurd (cc)
-  by_put None c e = at_put (query_of head.target) (target_of head.target) c e
+  at_put : (query : Query) (target : Target) → asked_at largest users head query target ≡ Put asker c → AsksPut largest head
+  at_put query targets.Unknown e = absurd (cc)
+  at_put query targets.Auth e =
+      absurd (no_put _ (either (is_get head) _ _ (by_login largest head query (login_of users head)) tt) asker c e)
+  at_put query (targets.Account account) e =
+      absurd (no_put _ (either (is_look head) _ _ (by_account largest head query (asker_of users head account)) tt) asker c e)
+  at_put query (targets.Container account name) e =
+      absurd (no_put _ (either (has_container_method head) _ _ (by_container largest head query name (asker_of users head account)) tt) asker c e)
+  at_put query (targets.Thing account container name) e =
+      by_asker container name (asker_of users head account)
+      (passed (is_taken head) why.NotBuilt _ asker c (passed (has_object_method head) (why.NoMethod kind.Object) _ asker c e))
 
-  asks_put : (c : PutCommand) → asked_of largest head ≡ Put c → AsksPut largest head
+  by_put : (fault : Option WordFault) → asked_by largest users head fault ≡ Put asker c → AsksPut largest head
+  by_put (Some fault) e = absurd (cc)
+  by_put None e = at_put (query_of head.target) (target_of head.target) e
+
+  asks_put : asked_of largest users head ≡ Put asker c → AsksPut largest head
   unfolding asked_of
-  asks_put c e =
-      let in_length = host_put (has_host head) _ c e in
-      by_put (target_fault head.target) c (short_put (nat_lt target_limit (length head.target)) why.TargetTooLong _ c in_length)
+  asks_put e =
+      let in_length = host_put (has_host head) _ asker c e in
+      by_put (target_fault head.target) (short_put (nat_lt target_limit (length head.target)) why.TargetTooLong _ asker c in_length)
 
 -- ---- methods
 
@@ -110,10 +153,10 @@ due_by largest Chunked intake size chunked room below =
     let due : most_due intake ≡ intake.body_left + intake.room = ap (λ b. most_due_by b intake) chunked in omega (arith, due, size, room)
 
 -- the body of a PUT has no more bytes than the largest object
-pub put_body : (largest : ℕ) (head : Head) (intake : IntakeState) (c : PutCommand) → asked_of largest head ≡ Put c → IsBehindHead largest intake head
+pub put_body : (largest : ℕ) (users : List UserView) (head : Head) (intake : IntakeState) (asker : Asker) (c : PutCommand) → asked_of largest users head ≡ Put asker c → IsBehindHead largest intake head
     → (most_due intake ≤ largest) × (is_bodiless head.method ≡ false)
-put_body largest head intake c e behind =
-    let asks = asks_put largest head c e in
+put_body largest users head intake asker c e behind =
+    let asks = asks_put largest users head asker c e in
     let tests = put_passed largest head asks.passed in
     (due_by largest head.framing intake behind.body_left behind.chunked behind.room tests.4, put_has_body head asks.is_one)
 
@@ -128,55 +171,33 @@ of_put : (b : Bool) → IsOfPut (cond b Awaited Fed)
 of_put true = tt
 of_put false = tt
 
-pub put_use : (largest : ℕ) (head : Head) (c : PutCommand) → asked_of largest head ≡ Put c → IsOfPut (use_of largest head)
-put_use largest head c e = subst (λ (a : Asked). IsOfPut (body_use largest head a)) (sym e) (of_put (waits head))
+pub put_use : (largest : ℕ) (users : List UserView) (head : Head) (asker : Asker) (c : PutCommand) → asked_of largest users head ≡ Put asker c → IsOfPut (use_of largest users head)
+put_use largest users head asker c e = subst (λ (a : Asked). IsOfPut (body_use largest head a)) (sym e) (of_put (waits head))
 
 dropped_so : (b : Bool) → dropped_if (not (is_unread (cond b Dropped Unread))) ≡ cond b Dropped Unread
 dropped_so true = refl
 dropped_so false = refl
 
 -- a body that is not wanted is dropped, where it is read
-pub unfed_use : (largest : ℕ) (head : Head) (u : UnfedCommand) → asked_of largest head ≡ Unfed u → dropped_if (not (is_unread (use_of largest head))) ≡ use_of largest head
-unfed_use largest head u e = subst (λ (a : Asked). dropped_if (not (is_unread (body_use largest head a))) ≡ body_use largest head a) (sym e) (dropped_so _)
+pub unfed_use : (largest : ℕ) (users : List UserView) (head : Head) (asker : Asker) (u : UnfedCommand) → asked_of largest users head ≡ Unfed asker u
+    → dropped_if (not (is_unread (use_of largest users head))) ≡ use_of largest users head
+unfed_use largest users head asker u e = subst (λ (a : Asked). dropped_if (not (is_unread (body_use largest head a))) ≡ body_use largest head a) (sym e) (dropped_so _)
 
 -- nothing is read behind a request that ends the connection refused
 refusing_unread : (largest : ℕ) (head : Head) (w : SwiftRefusal) → is_refusing (Refused w) ≡ true → is_unread (body_use largest head (Refused w)) ≡ true
-refusing_unread largest head (why.Invalid what) is = absurd (cc)
-refusing_unread largest head why.Unauthorized is = absurd (cc)
-refusing_unread largest head (why.Denied rule) is = absurd (cc)
-refusing_unread largest head why.NoPath is = absurd (cc)
-refusing_unread largest head why.NoContainer is = absurd (cc)
-refusing_unread largest head why.NoObject is = absurd (cc)
-refusing_unread largest head (why.NoMethod kind) is = absurd (cc)
-refusing_unread largest head why.NotYours is = absurd (cc)
-refusing_unread largest head (why.NotEmpty name) is = absurd (cc)
-refusing_unread largest head (why.Unsettled name) is = absurd (cc)
-refusing_unread largest head why.NoLength is = absurd (cc)
-refusing_unread largest head why.NotMet is = absurd (cc)
 refusing_unread largest head why.TooLarge is = refl
-refusing_unread largest head why.TargetTooLong is = absurd (cc)
-refusing_unread largest head (why.NoRange size) is = absurd (cc)
-refusing_unread largest head why.OtherEtag is = absurd (cc)
 refusing_unread largest head why.NotBuilt is = refl
-refusing_unread largest head (why.Busy id) is = absurd (cc)
-refusing_unread largest head why.MovedOften is = absurd (cc)
-refusing_unread largest head why.RacedOften is = absurd (cc)
-refusing_unread largest head why.LateTag is = absurd (cc)
-refusing_unread largest head why.LateRead is = absurd (cc)
-refusing_unread largest head (why.NoSpace free needed) is = absurd (cc)
+refusing_unread largest head other is = absurd (cc)
 
 pub read_not_refusing : (largest : ℕ) (head : Head) (asked : Asked) → is_unread (body_use largest head asked) ≡ false → is_refusing asked ≡ false
-read_not_refusing largest head BadHost read = refl
-read_not_refusing largest head (Put c) read = refl
-read_not_refusing largest head (Unfed u) read = refl
 read_not_refusing largest head (Refused w) read = by (is_refusing (Refused w)) refl
   where
     by : (b : Bool) → is_refusing (Refused w) ≡ b → is_refusing (Refused w) ≡ false
     by false is = is
     by true is = let clash : true ≡ false = sym (refusing_unread largest head w is) ∙ read in absurd (cc)
+read_not_refusing largest head other read = refl
 
-pub is_refused : (asked : Asked) → ((c : PutCommand) → asked ≡ Put c → ⊥) → ((u : UnfedCommand) → asked ≡ Unfed u → ⊥) → IsRefused asked
-is_refused BadHost not_put not_unfed = tt
-is_refused (Refused w) not_put not_unfed = tt
-is_refused (Put c) not_put not_unfed = absurd (not_put c refl)
-is_refused (Unfed u) not_put not_unfed = absurd (not_unfed u refl)
+pub is_by_head : (asked : Asked) → ((asker : Asker) (c : PutCommand) → asked ≡ Put asker c → ⊥) → ((asker : Asker) (u : UnfedCommand) → asked ≡ Unfed asker u → ⊥) → IsByHead asked
+is_by_head (Put asker c) not_put not_unfed = absurd (not_put asker c refl)
+is_by_head (Unfed asker u) not_put not_unfed = absurd (not_unfed asker u refl)
+is_by_head other not_put not_unfed = tt

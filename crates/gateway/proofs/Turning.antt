@@ -14,10 +14,11 @@ use Rattle.http_model.proofs.StreamLaws.{more_head}
 use Rattle.realm_model.specs.Doors.{DoorView}
 use Rattle.realm_model.specs.declared.event.Event.{Event}
 use Rattle.realm_door.specs.Steps.{next_count, begun}
+use Rattle.swift_auth.specs.Users.{UserView}
 use Rattle.swift_requests.specs.Asks.{asked_of}
 use Rattle.swift_requests.specs.Bodies.{is_unread, is_awaited}
 use Rattle.swift_requests.specs.declared.asked.Asked.{Asked}
-use Rattle.swift_requests.specs.declared.asked.Asked.TheVariants.{BadHost, Refused, Put, Unfed}
+use Rattle.swift_requests.specs.declared.asked.Asked.TheVariants.{Put, Unfed}
 use Rattle.swift_requests.specs.declared.body.BodyUse.{BodyUse}
 use Rattle.call_words.specs.Bodies.{Fate, read_whole, broken_off, unread}
 use Rattle.call_words.specs.Calls.{Ground, Call, whole_text, actor_after}
@@ -28,13 +29,14 @@ use Rattle.call_service.specs.Serving.{Site, Side, side, form_at, body_of, IsLef
 use Rattle.door_moments.specs.Acts.{Acts, Asks}
 use Rattle.call_service.specs.Waiting.{IsBehindContinue, IsStoppedWaiting, IsPutStopped}
 use Rattle.door_moments.proofs.Asking.{both_ask}
+use Rattle.task_words.specs.declared.asker.Asker.{Asker}
 use Rattle.task_words.specs.declared.command.PutCommand.{PutCommand}
 use Rattle.swift_requests.specs.declared.body.BodyUse.TheVariants as uses
 use Rattle.call_service.specs.declared.fault.ServeFault.{ServeFault}
 use Rattle.call_service.specs.declared.fault.ServeFault.TheVariants as faults
 use Rattle.gateway.specs.declared.serve.ConnEnd.TheVariants as conn
 use Rattle.gateway.specs.Texts.{form_before, closing_end}
-use Rattle.gateway.specs.Calls.{MayBegin, IsSettled, AreSettled}
+use Rattle.gateway.specs.Calls.{Place, site_in, MayBegin, IsSettled, AreSettled}
 use Rattle.gateway.specs.Requests.{IsReady, TakesBody, IsAnswered, IsLeftBy, IsUnanswered, Replies, text_before, IsLetIn, FallsShort, LeavesAsked, LeavesRequest, Stops}
 use Rattle.gateway.specs.Serving.{RepliesTo, ServesFrom, FailsReading, ReadsHead, StopsFrom, LeavesAt}
 use Rattle.gateway.specs.Turns.{TakesReply, GoesOn}
@@ -91,19 +93,19 @@ module _ (tells alone : Type 0) (site : Site) (form : ReplyForm) (found : List E
   stopped_asks asked plan x y (faults.Late read_at clock) (late, inl before) = (false, before.leaves.asks)
   stopped_asks asked plan x y (faults.Late read_at clock) (late, inr (part, all)) = (part.more, part.asks)
 
-  behind_asks : (c : PutCommand) (x y : Side) (fault : ServeFault) → IsBehindContinue tells alone site c x (λ m. IsStopped tells alone site form (Put c) uses.Fed found m y fault) → AsksSome tells alone site x y
-  behind_asks c x y fault b =
-      let goes = stopped_asks (Put c) uses.Fed b.between y fault b.goes in
+  behind_asks : (asker : Asker) (c : PutCommand) (x y : Side) (fault : ServeFault) → IsBehindContinue tells alone site asker c x (λ m. IsStopped tells alone site form (Put asker c) uses.Fed found m y fault) → AsksSome tells alone site x y
+  behind_asks asker c x y fault b =
+      let goes = stopped_asks (Put asker c) uses.Fed b.between y fault b.goes in
       (goes.0, both_ask tells alone site.settings site.settings goes.0 x.door b.between.door y.door x.ends.told b.between.ends.told y.ends.told refl b.continues.asks goes.1)
 
-  waiting_asks : (c : PutCommand) (x y : Side) (fault : ServeFault) → IsStoppedWaiting tells alone site form c found x y fault → AsksSome tells alone site x y
-  waiting_asks c x y fault (inl stopped) = stopped_asks (Put c) uses.Unread x y fault stopped
-  waiting_asks c x y fault (inr (inl (is, front))) = (false, front.asks)
-  waiting_asks c x y fault (inr (inr b)) = behind_asks c x y fault b
+  waiting_asks : (asker : Asker) (c : PutCommand) (x y : Side) (fault : ServeFault) → IsStoppedWaiting tells alone site form asker c found x y fault → AsksSome tells alone site x y
+  waiting_asks asker c x y fault (inl stopped) = stopped_asks (Put asker c) uses.Unread x y fault stopped
+  waiting_asks asker c x y fault (inr (inl (is, front))) = (false, front.asks)
+  waiting_asks asker c x y fault (inr (inr b)) = behind_asks asker c x y fault b
 
-  pub put_asks : (waits : Bool) (c : PutCommand) (x y : Side) (fault : ServeFault) → IsPutStopped waits tells alone site form c found x y fault → AsksSome tells alone site x y
-  put_asks false c x y fault stopped = stopped_asks (Put c) uses.Fed x y fault stopped
-  put_asks true c x y fault stopped = waiting_asks c x y fault stopped
+  pub put_asks : (waits : Bool) (asker : Asker) (c : PutCommand) (x y : Side) (fault : ServeFault) → IsPutStopped waits tells alone site form asker c found x y fault → AsksSome tells alone site x y
+  put_asks false asker c x y fault stopped = stopped_asks (Put asker c) uses.Fed x y fault stopped
+  put_asks true asker c x y fault stopped = waiting_asks asker c x y fault stopped
 
   task_left : (z y : Side) (b : DoorView) → MayBegin site.settings z.door → (tells → b ≡ begun z.door) → AsksSome tells alone site (side b z.intake z.ends) y → tells → IsLeftBy alone site z.door y.door
   task_left z y b may begins (more, asks) is =
@@ -111,10 +113,9 @@ module _ (tells alone : Type 0) (site : Site) (form : ReplyForm) (found : List E
 
   asked_left : (asked : Asked) (plan : BodyUse) (z y : Side) (fault : ServeFault) → MayBegin site.settings z.door → LeavesAsked tells alone site form asked plan found z y fault → tells
       → IsLeftBy alone site z.door y.door
-  asked_left BadHost plan z y fault may (left, idle) is = same_left alone site z.door y.door may idle.door
-  asked_left (Refused w) plan z y fault may (left, idle) is = same_left alone site z.door y.door may idle.door
-  asked_left (Put c) plan z y fault may (b, begins, x) is = task_left z y b may begins (put_asks (is_awaited plan) c (side b z.intake z.ends) y fault x) is
-  asked_left (Unfed u) plan z y fault may (b, begins, x) is = task_left z y b may begins (stopped_asks (Unfed u) plan (side b z.intake z.ends) y fault x) is
+  asked_left (Put asker c) plan z y fault may (b, begins, x) is = task_left z y b may begins (put_asks (is_awaited plan) asker c (side b z.intake z.ends) y fault x) is
+  asked_left (Unfed asker u) plan z y fault may (b, begins, x) is = task_left z y b may begins (stopped_asks (Unfed asker u) plan (side b z.intake z.ends) y fault x) is
+  asked_left other plan z y fault may (left, idle) is = same_left alone site z.door y.door may idle.door
 
   request_left : (asked : Asked) (plan : BodyUse) (z y : Side) (fault : ServeFault) → MayBegin site.settings z.door → LeavesRequest tells alone site form asked plan found z y fault → tells
       → IsLeftBy alone site z.door y.door
@@ -123,27 +124,27 @@ module _ (tells alone : Type 0) (site : Site) (form : ReplyForm) (found : List E
 
 -- ---- the request, joined
 
-cut_request : (largest : ℕ) (bytes : List ℕ) (continued : Bool) → IsCutBody largest bytes continued → IsCutRequest largest bytes continued
-cut_request largest bytes false x = inr x
-cut_request largest bytes true x = x
+cut_request : (largest : ℕ) (users : List UserView) (bytes : List ℕ) (continued : Bool) → IsCutBody largest users bytes continued → IsCutRequest largest users bytes continued
+cut_request largest users bytes false x = inr x
+cut_request largest users bytes true x = x
 
 abbrev call_of : Head → List ℕ → List ℕ → Asked → Fate → Ground → Call
 call_of head body shown asked fate ground = record { request = record { head = head; body = body }; asked = asked; fate = fate; ground = ground; shown = shown }
 
-module _ (tells alone : Type 0) (site : Site) (k : ℕ) (x z y : Side) (head : Head) (reads : ReadsHead site.settings.largest x z head) where
+module _ (tells alone : Type 0) (place : Place) (k : ℕ) (x z y : Side) (head : Head) (reads : ReadsHead place.settings.largest x z head) where
   abbrev asks : Asked
-  asks = asked_of site.settings.largest head
+  asks = asked_of place.settings.largest place.users head
 
   abbrev Replied : Fate → Type 0
-  Replied fate = Replies tells alone site head asks (use_of site.settings.largest head) (form_before site.settings.largest k head) fate z y
+  Replied fate = Replies tells alone (site_in place) head asks (use_of place.settings.largest place.users head) (form_before place.settings.largest place.users k head) fate z y
 
   abbrev Takes : List ℕ → List ℕ → Fate → List ℕ → Type 0
-  Takes read body fate rest = TakesCall site.settings.largest (x.intake.buffer ++ read) (record { request = record { head = head; body = body }; fate = fate }) rest
+  Takes read body fate rest = TakesCall place.settings.largest place.users (x.intake.buffer ++ read) (record { request = record { head = head; body = body }; fate = fate }) rest
 
-  joined_taken : (fate : Fate) (body : List ℕ) → TakesBody (use_of site.settings.largest head) fate z.intake y.intake z.ends.left y.ends.left body
+  joined_taken : (fate : Fate) (body : List ℕ) → TakesBody (use_of place.settings.largest place.users head) fate z.intake y.intake z.ends.left y.ends.left body
       → (read : List ℕ) × (rest : List ℕ) × Consumes x.ends.left y.ends.left read × Takes read body fate rest × (fate ≡ read_whole → rest ≡ y.intake.buffer)
   joined_taken fate body taken =
-      let t = taken_body site.settings.largest z.intake head reads.behind (use_of site.settings.largest head) fate y.intake z.ends.left y.ends.left body taken in (
+      let t = taken_body place.settings.largest z.intake head reads.behind (use_of place.settings.largest place.users head) fate y.intake z.ends.left y.ends.left body taken in (
         reads.more ++ t.0,
         t.1,
         Consumes-trans x.ends.left z.ends.left y.ends.left reads.more t.0 reads.read t.2,
@@ -158,47 +159,47 @@ module _ (tells alone : Type 0) (site : Site) (k : ℕ) (x z y : Side) (head : H
       )
 
   abbrev Answered : (fate : Fate) → Replied fate → ReplyForm → Type 0
-  Answered fate r form = IsAnswered tells alone site form x.door y.door x.ends.taken y.ends.taken x.ends.told y.ends.told (call_of head r.body r.shown asks fate r.ground)
+  Answered fate r form = IsAnswered tells alone (site_in place) form x.door y.door x.ends.taken y.ends.taken x.ends.told y.ends.told (call_of head r.body r.shown asks fate r.ground)
 
   joined_answer : (fate : Fate) (r : Replied fate) → Answered fate r (form_of k head fate)
   joined_answer fate r =
       let call = call_of head r.body r.shown asks fate r.ground in
-      let form = form_at (form_before site.settings.largest k head) fate in
-      let one = subst (λ (d : DoorView). IsAnswered tells alone site form d y.door z.ends.taken y.ends.taken z.ends.told y.ends.told call) reads.door r.answered in
-      let two = subst (λ (l : Option (List ℕ)). IsAnswered tells alone site form x.door y.door l y.ends.taken z.ends.told y.ends.told call) reads.taken one in
-      let three = subst (λ (l : Option (List ℕ)). IsAnswered tells alone site form x.door y.door x.ends.taken y.ends.taken l y.ends.told call) reads.told two in
-      subst (Answered fate r) (form_suits (is_bodiless head.method) k head (use_of site.settings.largest head) fate r.taken.0) three
+      let form = form_at (form_before place.settings.largest place.users k head) fate in
+      let one = subst (λ (d : DoorView). IsAnswered tells alone (site_in place) form d y.door z.ends.taken y.ends.taken z.ends.told y.ends.told call) reads.door r.answered in
+      let two = subst (λ (l : Option (List ℕ)). IsAnswered tells alone (site_in place) form x.door y.door l y.ends.taken z.ends.told y.ends.told call) reads.taken one in
+      let three = subst (λ (l : Option (List ℕ)). IsAnswered tells alone (site_in place) form x.door y.door x.ends.taken y.ends.taken l y.ends.told call) reads.told two in
+      subst (Answered fate r) (form_suits (is_bodiless head.method) k head (use_of place.settings.largest place.users head) fate r.taken.0) three
 
   joined_reply : (fate : Fate) (r : Replied fate)
-      → (rest : List ℕ) × TakesReply tells alone site k x.intake.buffer rest x.door y.door x.ends y.ends (call_of head r.body r.shown asks fate r.ground) × (fate ≡ read_whole → rest ≡ y.intake.buffer)
+      → (rest : List ℕ) × TakesReply tells alone place k x.intake.buffer rest x.door y.door x.ends y.ends (call_of head r.body r.shown asks fate r.ground) × (fate ≡ read_whole → rest ≡ y.intake.buffer)
   joined_reply fate r =
       let t = joined_taken fate r.body r.taken in
       (t.1, record { read = t.0; consumed = t.2; asked = refl; takes = t.3; answered = joined_answer fate r }, t.4)
 
   -- another request may follow
   whole_on : (r : Replied read_whole) → (form_of k head read_whole).close ≡ false
-      → GoesOn tells alone site k x.intake.buffer y.intake.buffer x.door y.door x.ends y.ends × IsReady site.settings.largest y.intake
+      → GoesOn tells alone place k x.intake.buffer y.intake.buffer x.door y.door x.ends y.ends × IsReady place.settings.largest y.intake
   whole_on r stays =
       let call = call_of head r.body r.shown asks read_whole r.ground in
       let joined = joined_reply read_whole r in
       let has = r.taken.1.has_given in (
         record {
           call = call;
-          replied = subst (λ l. TakesReply tells alone site k x.intake.buffer l x.door y.door x.ends y.ends call) (joined.2 refl) joined.1;
+          replied = subst (λ l. TakesReply tells alone place k x.intake.buffer l x.door y.door x.ends y.ends call) (joined.2 refl) joined.1;
           stays_open = stays;
         },
         (has.failed, r.taken.1.whole, has.largest ∙ reads.behind.largest_is),
       )
 
   pub goes_on : (fate : Fate) (r : Replied fate) → (form_of k head fate).close ≡ false
-      → GoesOn tells alone site k x.intake.buffer y.intake.buffer x.door y.door x.ends y.ends × IsReady site.settings.largest y.intake
+      → GoesOn tells alone place k x.intake.buffer y.intake.buffer x.door y.door x.ends y.ends × IsReady place.settings.largest y.intake
   goes_on read_whole r stays = whole_on r stays
   goes_on (broken_off why) r stays = let clash : broken_off why ≡ read_whole = open_whole k head (broken_off why) stays in absurd (cc)
   goes_on unread r stays = let clash : unread ≡ read_whole = open_whole k head unread stays in absurd (cc)
 
-  closed_replies : (call : Call) (rest : List ℕ) → TakesReply tells alone site k x.intake.buffer rest x.door y.door x.ends y.ends call
+  closed_replies : (call : Call) (rest : List ℕ) → TakesReply tells alone place k x.intake.buffer rest x.door y.door x.ends y.ends call
       → (form_of k call.request.head call.fate).close ≡ true
-      → RepliesTo tells alone site k x.intake.buffer x.door y.door x.ends y.ends (call ∷ []) at_close
+      → RepliesTo tells alone place k x.intake.buffer x.door y.door x.ends y.ends (call ∷ []) at_close
   closed_replies call rest t closed = record {
     read = t.read;
     consumed = t.consumed;
@@ -206,7 +207,7 @@ module _ (tells alone : Type 0) (site : Site) (k : ℕ) (x z y : Side) (head : H
     stream = (
       rest,
       t.takes,
-      subst (λ b. MatchBool b ((◌≡◌ {A = List Taken} [] []) × (at_close ≡ at_close)) (IsStreamFrom site.settings.largest (suc k) rest [] at_close)) (sym closed) (refl, refl),
+      subst (λ b. MatchBool b ((◌≡◌ {A = List Taken} [] []) × (at_close ≡ at_close)) (IsStreamFrom place.settings.largest place.users (suc k) rest [] at_close)) (sym closed) (refl, refl),
     );
     written =
         let text = whole_text (form_of k call.request.head call.fate) call in
@@ -218,12 +219,12 @@ module _ (tells alone : Type 0) (site : Site) (k : ℕ) (x z y : Side) (head : H
     told = (t.answered.moments, [], sym (append-nil t.answered.moments), t.answered.each, refl);
     tidy = (refl, λ is. (t.answered.settled is).last);
     amid = tt;
-    settled = λ is. one_settled alone site x.door y.door call (t.answered.settled is);
+    settled = λ is. one_settled alone (site_in place) x.door y.door call (t.answered.settled is);
   }
 
   -- the connection is closed
   pub closes_behind : (fate : Fate) (r : Replied fate) → (form_of k head fate).close ≡ true
-      → ServesFrom tells alone site k x.intake.buffer x.door y.door x.ends y.ends 1 (closing_end asks r.ground)
+      → ServesFrom tells alone place k x.intake.buffer x.door y.door x.ends y.ends 1 (closing_end asks r.ground)
   closes_behind fate r closed =
       let call = call_of head r.body r.shown asks fate r.ground in
       let joined = joined_reply fate r in
@@ -238,21 +239,21 @@ module _ (tells alone : Type 0) (site : Site) (k : ℕ) (x z y : Side) (head : H
 
   -- a 100 is written before the body
   abbrev waits_for : Bool
-  waits_for = is_awaited (use_of site.settings.largest head)
+  waits_for = is_awaited (use_of place.settings.largest place.users head)
 
   -- the body is not there whole
-  joined_cut : (more : List ℕ) → is_unread (use_of site.settings.largest head) ≡ false → IsBroken z.intake (z.intake.buffer ++ more) Body.Cut
-      → IsEnd site.settings.largest (x.intake.buffer ++ (reads.more ++ more)) (at_cut waits_for)
+  joined_cut : (more : List ℕ) → is_unread (use_of place.settings.largest place.users head) ≡ false → IsBroken z.intake (z.intake.buffer ++ more) Body.Cut
+      → IsEnd place.settings.largest place.users (x.intake.buffer ++ (reads.more ++ more)) (at_cut waits_for)
   joined_cut more is_read broken =
       let begins = more_head (x.intake.buffer ++ reads.more) head z.intake.buffer more reads.begins in
       let all = (x.intake.buffer ++ reads.more) ++ more in
-      subst (λ l. IsEnd site.settings.largest l (at_cut waits_for)) (append_assoc x.intake.buffer reads.more more) (
+      subst (λ l. IsEnd place.settings.largest place.users l (at_cut waits_for)) (append_assoc x.intake.buffer reads.more more) (
         begun_not_blank all begins.0 (z.intake.buffer ++ more) begins.1,
-        cut_request site.settings.largest all waits_for
-            (head, z.intake.buffer ++ more, begins, is_read, refl, no_body site.settings.largest z.intake head reads.behind (z.intake.buffer ++ more) Body.Cut broken),
+        cut_request place.settings.largest place.users all waits_for
+            (head, z.intake.buffer ++ more, begins, is_read, refl, no_body place.settings.largest z.intake head reads.behind (z.intake.buffer ++ more) Body.Cut broken),
       )
 
-  module _ (short : FallsShort tells alone site asks (use_of site.settings.largest head) z y) where
+  module _ (short : FallsShort tells alone (site_in place) asks (use_of place.settings.largest place.users head) z y) where
     abbrev all_of : FallsOf z.intake z.ends.left y.ends.left
     all_of = record {
       more = short.falls.has_given.more ++ short.falls.falls.more;
@@ -261,17 +262,17 @@ module _ (tells alone : Type 0) (site : Site) (k : ℕ) (x z y : Side) (head : H
           (short.falls.has_given.gives.broken short.falls.falls.more Body.Cut short.falls.falls.broken);
     }
 
-    moved_unanswered : (text : List ℕ) (body : Body) → IsUnanswered tells alone site asks body text z.door y.door z.ends.taken y.ends.taken z.ends.told y.ends.told
-        → IsUnanswered tells alone site asks body text x.door y.door x.ends.taken y.ends.taken x.ends.told y.ends.told
+    moved_unanswered : (text : List ℕ) (body : Body) → IsUnanswered tells alone (site_in place) asks body text z.door y.door z.ends.taken y.ends.taken z.ends.told y.ends.told
+        → IsUnanswered tells alone (site_in place) asks body text x.door y.door x.ends.taken y.ends.taken x.ends.told y.ends.told
     moved_unanswered text body u =
-        let one = subst (λ (d : DoorView). IsUnanswered tells alone site asks body text d y.door z.ends.taken y.ends.taken z.ends.told y.ends.told) reads.door u in
-        let two = subst (λ (l : Option (List ℕ)). IsUnanswered tells alone site asks body text x.door y.door l y.ends.taken z.ends.told y.ends.told) reads.taken one in
-        subst (λ (l : Option (List ℕ)). IsUnanswered tells alone site asks body text x.door y.door x.ends.taken y.ends.taken l y.ends.told) reads.told two
+        let one = subst (λ (d : DoorView). IsUnanswered tells alone (site_in place) asks body text d y.door z.ends.taken y.ends.taken z.ends.told y.ends.told) reads.door u in
+        let two = subst (λ (l : Option (List ℕ)). IsUnanswered tells alone (site_in place) asks body text x.door y.door l y.ends.taken z.ends.told y.ends.told) reads.taken one in
+        subst (λ (l : Option (List ℕ)). IsUnanswered tells alone (site_in place) asks body text x.door y.door x.ends.taken y.ends.taken l y.ends.told) reads.told two
 
-    cut_replies : RepliesTo tells alone site k x.intake.buffer x.door y.door x.ends y.ends [] (at_cut waits_for)
+    cut_replies : RepliesTo tells alone place k x.intake.buffer x.door y.door x.ends y.ends [] (at_cut waits_for)
     cut_replies =
         let more = all_of.more in
-        let u = moved_unanswered (text_before (use_of site.settings.largest head)) (body_of short.given) short.unanswered in
+        let u = moved_unanswered (text_before (use_of place.settings.largest place.users head)) (body_of short.given) short.unanswered in
         record {
           read = reads.more ++ more;
           consumed = Consumes-trans x.ends.left z.ends.left y.ends.left reads.more more reads.read all_of.read;
@@ -300,14 +301,14 @@ module _ (tells alone : Type 0) (site : Site) (k : ℕ) (x z y : Side) (head : H
               falls = short.falls;
               is_after = refl;
               so_far = u.so_far;
-              let_in = λ is. subst (λ (d : DoorView). IsLetIn site asks (use_of site.settings.largest head) d.pass (next_count d) y.door.seen) reads.door (short.let_in is);
+              let_in = λ is. subst (λ (d : DoorView). IsLetIn (site_in place) asks (use_of place.settings.largest place.users head) d.pass (next_count d) y.door.seen) reads.door (short.let_in is);
             }),
           );
-          settled = λ is. none_settled alone site x.door y.door (u.left_by is);
+          settled = λ is. none_settled alone (site_in place) x.door y.door (u.left_by is);
         }
 
     -- the input ended inside the body
-    pub cut_behind : IsAtEnd y.ends.left → ServesFrom tells alone site k x.intake.buffer x.door y.door x.ends y.ends 0 conn.Cut
+    pub cut_behind : IsAtEnd y.ends.left → ServesFrom tells alone place k x.intake.buffer x.door y.door x.ends y.ends 0 conn.Cut
     cut_behind at_end = record {
       calls = [];
       stream_end = at_cut waits_for;
@@ -317,7 +318,7 @@ module _ (tells alone : Type 0) (site : Site) (k : ℕ) (x z y : Side) (head : H
       ended = refl;
     }
 
-    fails_behind : FailsReading tells alone site k x.intake.buffer x.door y.door x.ends y.ends
+    fails_behind : FailsReading tells alone place k x.intake.buffer x.door y.door x.ends y.ends
     fails_behind = record {
       calls = [];
       stream_end = at_cut waits_for;
@@ -325,9 +326,9 @@ module _ (tells alone : Type 0) (site : Site) (k : ℕ) (x z y : Side) (head : H
       waits = tt;
     }
 
-  module _ (found : List Event) (may : tells → MayBegin site.settings z.door) where
-    stops_behind : (fault : ServeFault) → LeavesRequest tells alone site (form_before site.settings.largest k head) asks (use_of site.settings.largest head) found z y fault
-        → StopsFrom tells alone site k found x y fault
+  module _ (found : List Event) (may : tells → MayBegin place.settings z.door) where
+    stops_behind : (fault : ServeFault) → LeavesRequest tells alone (site_in place) (form_before place.settings.largest place.users k head) asks (use_of place.settings.largest place.users head) found z y fault
+        → StopsFrom tells alone place k found x y fault
     stops_behind fault left = record {
       calls = [];
       between = x;
@@ -339,17 +340,17 @@ module _ (tells alone : Type 0) (site : Site) (k : ℕ) (x z y : Side) (head : H
       moments = [];
       asked_clock = Appends-nil x.ends.told;
       told = refl;
-      reached = λ is. advances_none site.settings x.door (subst (MayBegin site.settings) reads.door (may is));
+      reached = λ is. advances_none place.settings x.door (subst (MayBegin place.settings) reads.door (may is));
       settled = λ is.
-          none_settled alone site x.door y.door
-          (subst (λ (d : DoorView). IsLeftBy alone site d y.door) reads.door
-          (request_left tells alone site (form_before site.settings.largest k head) found asks (use_of site.settings.largest head) z y fault (may is) left is));
+          none_settled alone (site_in place) x.door y.door
+          (subst (λ (d : DoorView). IsLeftBy alone (site_in place) d y.door) reads.door
+          (request_left tells alone (site_in place) (form_before place.settings.largest place.users k head) found asks (use_of place.settings.largest place.users head) z y fault (may is) left is));
       left = inr (head, z, reads, left);
     }
 
     -- a fault behind the head
-    pub leaves_behind : (fault : ServeFault) → Stops tells alone site (form_before site.settings.largest k head) asks (use_of site.settings.largest head) found z y fault
-        → LeavesAt tells alone site k found x y fault
+    pub leaves_behind : (fault : ServeFault) → Stops tells alone (site_in place) (form_before place.settings.largest place.users k head) asks (use_of place.settings.largest place.users head) found z y fault
+        → LeavesAt tells alone place k found x y fault
     leaves_behind faults.ReadFault x = fails_behind x
     leaves_behind faults.OutOfMemory x = stops_behind faults.OutOfMemory x
     leaves_behind faults.WriteFault x = stops_behind faults.WriteFault x

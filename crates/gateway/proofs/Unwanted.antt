@@ -11,15 +11,15 @@ use Rattle.swift_requests.specs.declared.asked.Asked.{Asked}
 use Rattle.swift_requests.specs.declared.body.BodyUse.{BodyUse}
 use Rattle.swift_requests.specs.declared.body.BodyUse.TheVariants.{Fed, Awaited, Dropped, Unread}
 use Rattle.call_words.specs.Bodies.{Fate, read_whole, broken_off, unread, is_broken, Suits}
-use Rattle.call_words.specs.Calls.{alone as by_itself, text_by, IsRefused}
+use Rattle.call_words.specs.Calls.{alone as by_itself, text_by, IsByHead}
 use Rattle.call_service.specs.Bodies.{DropsBody, LeavesBody as LeavesDropped}
 use Rattle.call_service.proofs.Passing.{falls_here}
 use Rattle.call_service.specs.Serving.{AppendsFront, LeavesText, form_at}
 use Rattle.call_service.specs.declared.fault.ServeFault.{ServeFault}
 use Rattle.call_service.specs.declared.fault.ServeFault.TheVariants as faults
 use Rattle.call_service.specs.declared.served.Served.TheVariants as services
-use Rattle.gateway.specs.Requests.{TakesBody, UsesBody, LeavesBody, RefusesAt, Refuses, LeavesRefusal, is_cut, fate_by}
-use Rattle.gateway.proofs.Fates.{suits_read, suits_broken, shut_same, refused_text}
+use Rattle.gateway.specs.Requests.{TakesBody, UsesBody, LeavesBody, RepliesAt, RepliesByHead, LeavesReply, is_cut, fate_by}
+use Rattle.gateway.proofs.Fates.{suits_read, suits_broken, shut_same, head_text}
 
 pub used : (plan : BodyUse) (old new : IntakeState) (a b : Option (List ℕ)) (end : BodyEnd) → is_unread plan ≡ false → DropsBody old new a b end → UsesBody plan old new a b (Some end)
 used plan old new a b End.Whole read x = (x.0, (suits_read plan read, x.1))
@@ -40,7 +40,7 @@ left plan old a b faults.WriteFault read sound x = x
 left plan old a b faults.Worn read sound x = x
 left plan old a b (faults.Late read_at clock) read sound x = x
 
--- ---- the refusal behind it
+-- ---- the reply behind it
 
 module _ (plan : BodyUse) (old new : IntakeState) (a b : Option (List ℕ)) where
   cut_so : (end : Option BodyEnd) → is_cut end ≡ true → UsesBody plan old new a b end → UsesBody plan old new a b (Some End.Cut)
@@ -64,8 +64,8 @@ module _ (plan : BodyUse) (old new : IntakeState) (a b : Option (List ℕ)) wher
   broken_so (Some End.BadChunk) is broken = (End.BadChunk, refl)
   broken_so (Some End.TooLarge) is broken = (End.TooLarge, refl)
 
-  module _ (form : ReplyForm) (asked : Asked) (refused : IsRefused asked) (quiet : is_awaited plan ≡ false) (shut : is_unread plan ≡ true → form.close ≡ true) (taken taken' : Option (List ℕ)) where
-    pub cut_refuses : (end : Option BodyEnd) → is_cut end ≡ true → UsesBody plan old new a b end → Appends taken taken' [] → Refuses form asked plan old new a b taken taken' services.Cut
+  module _ (form : ReplyForm) (asked : Asked) (by_head : IsByHead asked) (quiet : is_awaited plan ≡ false) (shut : is_unread plan ≡ true → form.close ≡ true) (taken taken' : Option (List ℕ)) where
+    pub cut_refuses : (end : Option BodyEnd) → is_cut end ≡ true → UsesBody plan old new a b end → Appends taken taken' [] → RepliesByHead form asked plan old new a b taken taken' services.Cut
     cut_refuses end is x quiet = (cut_so end is x, quiet)
 
     -- the form of a reply behind a body that did not go wrong is the one that was meant
@@ -83,37 +83,37 @@ module _ (plan : BodyUse) (old new : IntakeState) (a b : Option (List ℕ)) wher
     form_here (Some End.TooLarge) is whole x = absurd (cc)
 
     at_fate : (fate : Fate) (grown : List ℕ → Type 0) (f : ReplyForm) → f ≡ form_at form fate → ((body : List ℕ) × TakesBody plan fate old new a b body) → grown (text_by f asked read_whole by_itself [])
-        → RefusesAt form asked plan fate old new a b grown
+        → RepliesAt form asked plan fate old new a b grown
     at_fate fate grown f is x written =
-        (x, subst grown (ap (λ (g : ReplyForm). text_by g asked read_whole by_itself []) is ∙ refused_text (form_at form fate) asked read_whole fate refused) written)
+        (x, subst grown (ap (λ (g : ReplyForm). text_by g asked read_whole by_itself []) is ∙ head_text (form_at form fate) asked read_whole fate by_head) written)
 
     pub whole_refuses : (end : Option BodyEnd) → is_cut end ≡ false → is_broken (fate_by end) ≡ false → UsesBody plan old new a b end → Appends taken taken' (text_by form asked read_whole by_itself [])
-        → Refuses form asked plan old new a b taken taken' services.Replied
+        → RepliesByHead form asked plan old new a b taken taken' services.Replied
     whole_refuses end is whole x written =
         (fate_by end, whole, at_fate (fate_by end) (Appends taken taken') form (form_here end is whole x) (fate_so end is x) written)
 
     pub broken_refuses : (end : Option BodyEnd) (f : ReplyForm) → f ≡ record form { close = true } → is_cut end ≡ false → is_broken (fate_by end) ≡ true → UsesBody plan old new a b end
-        → Appends taken taken' (text_by f asked read_whole by_itself []) → Refuses form asked plan old new a b taken taken' services.Closed
+        → Appends taken taken' (text_by f asked read_whole by_itself []) → RepliesByHead form asked plan old new a b taken taken' services.Closed
     broken_refuses end f form_is is broken x written =
         let why = broken_so end is broken in
         (why.0, at_fate (broken_off why.0) (Appends taken taken') f form_is (subst (λ t. (body : List ℕ) × TakesBody plan t old new a b body) why.1 (fate_so end is x)) written)
 
     text_left : (fate : Fate) (f : ReplyForm) (fault : ServeFault) → f ≡ form_at form fate → ((body : List ℕ) × TakesBody plan fate old new a b body)
-        → LeavesText taken taken' (text_by f asked read_whole by_itself []) fault → LeavesRefusal form asked plan old new a b taken taken' fault
+        → LeavesText taken taken' (text_by f asked read_whole by_itself []) fault → LeavesReply form asked plan old new a b taken taken' fault
     text_left fate f faults.OutOfMemory is x leaves = ((fate, x.0, x.1), leaves)
     text_left fate f faults.WriteFault is x leaves = (fate, at_fate fate (AppendsFront taken taken') f is x leaves)
     text_left fate f fault is x leaves = absurd leaves
 
     pub whole_left : (end : Option BodyEnd) (fault : ServeFault) → is_cut end ≡ false → is_broken (fate_by end) ≡ false → UsesBody plan old new a b end
-        → LeavesText taken taken' (text_by form asked read_whole by_itself []) fault → LeavesRefusal form asked plan old new a b taken taken' fault
+        → LeavesText taken taken' (text_by form asked read_whole by_itself []) fault → LeavesReply form asked plan old new a b taken taken' fault
     whole_left end fault is whole x leaves = text_left (fate_by end) form fault (form_here end is whole x) (fate_so end is x) leaves
 
     pub broken_left : (end : Option BodyEnd) (f : ReplyForm) (fault : ServeFault) → f ≡ record form { close = true } → is_cut end ≡ false → is_broken (fate_by end) ≡ true → UsesBody plan old new a b end
-        → LeavesText taken taken' (text_by f asked read_whole by_itself []) fault → LeavesRefusal form asked plan old new a b taken taken' fault
+        → LeavesText taken taken' (text_by f asked read_whole by_itself []) fault → LeavesReply form asked plan old new a b taken taken' fault
     broken_left end f fault form_is is broken x leaves =
         let why = broken_so end is broken in
         text_left (broken_off why.0) f fault form_is (subst (λ t. (body : List ℕ) × TakesBody plan t old new a b body) why.1 (fate_so end is x)) leaves
 
-    pub unread_left : (fault : ServeFault) → LeavesBody plan old a b fault → Appends taken taken' [] → LeavesRefusal form asked plan old new a b taken taken' fault
+    pub unread_left : (fault : ServeFault) → LeavesBody plan old a b fault → Appends taken taken' [] → LeavesReply form asked plan old new a b taken taken' fault
     unread_left faults.ReadFault x quiet = (x, quiet)
     unread_left fault x quiet = absurd x

@@ -2,7 +2,7 @@ use Rattle.std.proofs.Common.{rules, ◌≡◌, true, false}
 use Rattle.swift_requests.specs.Bodies.{is_unread}
 use Rattle.std.proofs.lemmas.Result.{err_from_is_err_and}
 use Rattle.gateway.proofs.Unwanted.{used, not_used, left}
-use Rattle.gateway.proofs.refusal.use_body.Goals as goal
+use Rattle.gateway.proofs.by_head.use_body.Goals as goal
 
 pub returns-then-is_unread-clause-used : goal.returns-then-is_unread-clause-used
 returns-then-is_unread-clause-used g c =
