@@ -3,7 +3,7 @@
 #![tactic(auto)]
 
 #[cfg(test)]
-mod accounts;
+mod asked;
 #[cfg(test)]
 mod chunks;
 #[cfg(test)]

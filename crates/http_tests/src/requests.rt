@@ -3,6 +3,7 @@ use http_model::{Head, read_head};
 use object_words::EtagRule;
 use std::alloc::Global;
 use std::test::Fail;
+use swift_auth::Users;
 use swift_requests::{Asked, BodyUse, UnfedCommand, body_use, closes, read_asked};
 use task_words::{GetCommand, PutCommand, Span};
 
@@ -14,14 +15,17 @@ fn head_of(alloc: Global, text: &[u8]) -> Result<Head, Fail> {
 
 fn put_in(asked: &Asked) -> Option<&PutCommand> {
     match asked {
-        Asked::Put(put) => Some(put),
+        Asked::Put { command, .. } => Some(command),
         _other => None,
     }
 }
 
 fn get_in(asked: &Asked) -> Option<&GetCommand> {
     match asked {
-        Asked::Unfed(UnfedCommand::Get(get)) => Some(get),
+        Asked::Unfed {
+            command: UnfedCommand::Get(get),
+            ..
+        } => Some(get),
         _other => None,
     }
 }
@@ -69,7 +73,9 @@ fn a_put_is_read(rt: HostRuntime) -> Result<(), Fail> {
         rt.alloc(),
         b"PUT /swift/v1/AUTH_acme/box/k.txt HTTP/1.1\r\nHost: h\r\nX-Auth-Token: AUTH_tk1\r\nContent-Type: text/plain\r\nETag: \"5d41402abc4b2a76b9719d911017c592\"\r\nIf-Match: *\r\nIf-None-Match: \"r2d2xxxx\", c3piozzzz\r\nContent-Length: 5\r\n\r\n",
     )?;
-    let asked = read_asked(rt.alloc(), LARGEST, &head)?;
+    let users = Users::standard(rt.alloc())?;
+    let asked = read_asked(rt.alloc(), &users, LARGEST, &head)?;
+    drop(users);
     let right = put_in(&asked).is_some_and(|put| is_text_put(put));
     let plan = body_use(LARGEST, &head, &asked);
     drop(asked);
@@ -87,7 +93,9 @@ fn a_get_is_read(rt: HostRuntime) -> Result<(), Fail> {
         rt.alloc(),
         b"GET /swift/v1/AUTH_acme/box/k HTTP/1.1\r\nHost: h\r\nX-Auth-Token: AUTH_tk1\r\nIf-Modified-Since: Sunday, 06-Nov-94 08:49:37 GMT\r\nRange: bytes=500-999\r\nConnection: close\r\n\r\n",
     )?;
-    let asked = read_asked(rt.alloc(), LARGEST, &head)?;
+    let users = Users::standard(rt.alloc())?;
+    let asked = read_asked(rt.alloc(), &users, LARGEST, &head)?;
+    drop(users);
     let right = get_in(&asked).is_some_and(|get| is_span_get(get));
     let plan = body_use(LARGEST, &head, &asked);
     drop(asked);
@@ -105,7 +113,9 @@ fn an_object_with_metadata(rt: HostRuntime) -> Result<(), Fail> {
         rt.alloc(),
         b"PUT /swift/v1/AUTH_acme/c%20d/a/%C3%A9?x=1 HTTP/1.0\r\nX-Auth-Token: AUTH_tk1\r\nX-Object-Meta-Z: 1\r\nx-object-meta-Color: red\r\nX-Object-Meta-z: \xC3\xA9\r\nContent-Length: 0\r\n\r\n",
     )?;
-    let asked = read_asked(rt.alloc(), LARGEST, &head)?;
+    let users = Users::standard(rt.alloc())?;
+    let asked = read_asked(rt.alloc(), &users, LARGEST, &head)?;
+    drop(users);
     let right = put_in(&asked).is_some_and(|put| has_metadata(put));
     drop(asked);
     drop(head);

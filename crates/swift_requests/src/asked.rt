@@ -87,7 +87,7 @@ fn asked_at(
     }
 }
 
-/// What a request asks of these users' gateway, where the largest object has so many bytes. The first of these
+/// What a request asks, and which of these users, where the largest object has so many bytes. The first of these
 /// applies: `BadHost`; then `Refused` by `TargetTooLong` for a target of more than 8192 bytes, `Invalid` for one
 /// that breaks its grammar, `NoPath` for no path of the API; then by these in this order:
 ///
@@ -102,7 +102,7 @@ fn asked_at(
 /// | `TooLarge` | a length above the largest | the same | the same | the same |
 /// | `Denied(Account)` | | a user of another account | PUT, POST, DELETE: the same | |
 ///
-/// and else what is asked. What the row of a container says is looked at by none of these.
+/// and else what is asked. No row of a container is looked at.
 #[tactic(auto, unfolding(crate::specs::Asks::asked_of))]
 pub fn read_asked(
     alloc: Global,

@@ -1,8 +1,4 @@
-// What heads on auth paths, accounts and containers ask, of two users.
-use account_requests::{
-    AccountAsked, AccountCommand, AccountListing, ContainerChanges, ContainerCommand,
-    read_account_asked,
-};
+// What heads ask, of two users, in words.
 use http_model::{Head, read_head};
 use list_words::ListCommand;
 use rgw_types::{Bytes, Pairs, Text};
@@ -10,7 +6,9 @@ use std::alloc::{AllocError, Global};
 use std::test::Fail;
 use swift_auth::Users;
 use swift_reply::{Denial, Invalid, ListingForm, SwiftRefusal, TargetKind};
-use swift_requests::{BodyUse, unwanted};
+use swift_requests::{Asked, BodyUse, UnfedCommand, body_use, read_asked};
+use task_account::{AccountCommand, AccountListing};
+use task_container::{ContainerChanges, ContainerCommand};
 use task_words::Asker;
 
 const LARGEST: u64 = 5_368_709_120;
@@ -57,8 +55,10 @@ fn refusal_word(refusal: &SwiftRefusal) -> &'static str {
         SwiftRefusal::Denied(Denial::Account) => "403 account",
         SwiftRefusal::NoPath => "404",
         SwiftRefusal::NoMethod(kind) => target_word(*kind),
+        SwiftRefusal::NoLength => "411",
         SwiftRefusal::TooLarge => "413",
         SwiftRefusal::TargetTooLong => "414",
+        SwiftRefusal::NotBuilt => "501",
         _other => "another refusal",
     }
 }
@@ -140,55 +140,46 @@ fn host_text(host: &Bytes) -> &str {
     }
 }
 
+/// What is asked that wants no body, in words.
+fn unfed_text(alloc: Global, command: &UnfedCommand) -> Result<String, AllocError> {
+    match command {
+        UnfedCommand::Get(get) => {
+            let verb = if get.body { "get" } else { "look at" };
+            format!(in alloc; "{verb} {} {}", get.container.as_text(), get.name.as_text())
+        }
+        UnfedCommand::Listing(list, form) => {
+            let list = list_command_text(alloc, list)?;
+            format!(in alloc; "{list} {}", form_word(*form))
+        }
+        UnfedCommand::Container(command) => container_text(alloc, command),
+        UnfedCommand::Account(command, form) => {
+            let command = account_text(alloc, command)?;
+            format!(in alloc; "{command} {}", form_word(*form))
+        }
+    }
+}
+
 /// What is asked, in words: who asks, at which account, and for what.
-fn shown(alloc: Global, asked: &AccountAsked) -> Result<String, AllocError> {
+fn shown(alloc: Global, asked: &Asked) -> Result<String, AllocError> {
     match asked {
-        AccountAsked::BadHost => String::from_str(alloc, "400 host"),
-        AccountAsked::Refused(refusal) => String::from_str(alloc, refusal_word(refusal)),
-        AccountAsked::Login {
+        Asked::BadHost => String::from_str(alloc, "400 host"),
+        Asked::Refused(refusal) => String::from_str(alloc, refusal_word(refusal)),
+        Asked::Login {
             host,
             account,
             token,
         } => format!(in alloc; "login {} {account} {token}", host_text(host)),
-        AccountAsked::Account {
-            asker,
-            command,
-            form,
-        } => {
-            let command = account_text(alloc, command)?;
-            format!(in alloc;
-                "{} at {}: {command} {}",
-                name_of(asker),
-                asker.account,
-                form_word(*form)
-            )
-        }
-        AccountAsked::Listing {
-            asker,
-            command,
-            form,
-        } => {
-            let command = list_command_text(alloc, command)?;
-            format!(in alloc;
-                "{} at {}: {command} {}",
-                name_of(asker),
-                asker.account,
-                form_word(*form)
-            )
-        }
-        AccountAsked::Container { asker, command } => {
-            let command = container_text(alloc, command)?;
+        Asked::Put { asker, command } => format!(in alloc;
+            "{} at {}: put {} {}",
+            name_of(asker),
+            asker.account,
+            command.container.as_text(),
+            command.name.as_text()
+        ),
+        Asked::Unfed { asker, command } => {
+            let command = unfed_text(alloc, command)?;
             format!(in alloc; "{} at {}: {command}", name_of(asker), asker.account)
         }
-        AccountAsked::Object {
-            account,
-            container,
-            name,
-        } => format!(in alloc;
-            "object {account} {} {}",
-            container.as_text(),
-            name.as_text()
-        ),
     }
 }
 
@@ -196,7 +187,7 @@ fn shown(alloc: Global, asked: &AccountAsked) -> Result<String, AllocError> {
 fn asked_in(alloc: Global, text: &[u8]) -> Result<String, Fail> {
     let users = Users::read(alloc, TWO)?;
     let head = head_of(alloc, text)?;
-    let asked = read_account_asked(alloc, &users, LARGEST, &head)?;
+    let asked = read_asked(alloc, &users, LARGEST, &head)?;
     drop(head);
     drop(users);
     let words = shown(alloc, &asked)?;
@@ -320,11 +311,6 @@ fn containers_are_looked_at(rt: HostRuntime) -> Result<(), Fail> {
             "Host: h\r\nX-Auth-Token: none\r\n",
             "405 container",
         ),
-        (
-            "GET /swift/v1/AUTH_acme/box/a/b HTTP/1.1",
-            "Host: h\r\nX-Auth-Token: none\r\n",
-            "object acme box a/b",
-        ),
         ("GET /swift/v2/AUTH_acme HTTP/1.1", "Host: h\r\n", "404"),
     ];
     for (line, fields, want) in table {
@@ -405,6 +391,56 @@ fn lists_and_values_are_text(rt: HostRuntime) -> Result<(), Fail> {
     Ok(())
 }
 
+#[test]
+fn objects_are_asked_for(rt: HostRuntime) -> Result<(), Fail> {
+    let table: &[(&str, &str, &str)] = &[
+        (
+            "GET /swift/v1/AUTH_acme/box/a/b HTTP/1.1",
+            "Host: h\r\nX-Auth-Token: AUTH_tk2\r\n",
+            "corp:bob at acme: get box a/b",
+        ),
+        (
+            "HEAD /swift/v1/AUTH_other/box/k HTTP/1.0",
+            "",
+            "nobody at other: look at box k",
+        ),
+        (
+            "PUT /swift/v1/AUTH_acme/box/k HTTP/1.1",
+            "Host: h\r\nContent-Length: 5\r\n",
+            "nobody at acme: put box k",
+        ),
+        (
+            "PUT /swift/v1/AUTH_acme/box/k HTTP/1.1",
+            "Host: h\r\nX-Auth-Token: none\r\n",
+            "401",
+        ),
+        (
+            "PUT /swift/v1/AUTH_acme/box/k HTTP/1.1",
+            "Host: h\r\nX-Auth-Token: AUTH_tk1\r\n",
+            "411",
+        ),
+        (
+            "PUT /swift/v1/AUTH_acme/box/k HTTP/1.1",
+            "Host: h\r\nX-Auth-Token: none\r\nX-Copy-From: box/a\r\n",
+            "501",
+        ),
+        (
+            "DELETE /swift/v1/AUTH_acme/box/k HTTP/1.1",
+            "Host: h\r\nX-Auth-Token: none\r\n",
+            "501",
+        ),
+        (
+            "PATCH /swift/v1/AUTH_acme/box/k HTTP/1.1",
+            "Host: h\r\nX-Auth-Token: none\r\nX-Copy-From: box/a\r\n",
+            "405 object",
+        ),
+    ];
+    for (line, fields, want) in table {
+        assert_eq!(rt; asked_by(rt.alloc(), line, fields)?.as_str(), *want);
+    }
+    Ok(())
+}
+
 /// So many fields that set names, each another.
 fn set_fields(alloc: Global, count: u32) -> Result<String, AllocError> {
     let mut fields = String::from_str(alloc, "Host: h\r\nX-Auth-Token: AUTH_tk1\r\n")?;
@@ -433,8 +469,12 @@ fn ninety_names_may_be_set(rt: HostRuntime) -> Result<(), Fail> {
 
 /// What becomes of the body behind a head.
 fn body_behind(alloc: Global, text: &str) -> Result<BodyUse, Fail> {
+    let users = Users::read(alloc, TWO)?;
     let head = head_of(alloc, text.as_bytes())?;
-    let body = unwanted(LARGEST, &head);
+    let asked = read_asked(alloc, &users, LARGEST, &head)?;
+    drop(users);
+    let body = body_use(LARGEST, &head, &asked);
+    drop(asked);
     drop(head);
     Ok(body)
 }
@@ -451,8 +491,16 @@ fn bodies_are_dropped_or_left(rt: HostRuntime) -> Result<(), Fail> {
             BodyUse::Unread,
         ),
         (
-            "PUT /swift/v1/AUTH_acme/box HTTP/1.1\r\nHost: h\r\nContent-Length: 5\r\nExpect: 100-continue\r\n\r\n",
+            "PUT /swift/v1/AUTH_acme/box HTTP/1.1\r\nHost: h\r\nX-Auth-Token: AUTH_tk1\r\nContent-Length: 5\r\nExpect: 100-continue\r\n\r\n",
             BodyUse::Unread,
+        ),
+        (
+            "PUT /swift/v1/AUTH_acme/box/k HTTP/1.1\r\nHost: h\r\nContent-Length: 5\r\nExpect: 100-continue\r\n\r\n",
+            BodyUse::Awaited,
+        ),
+        (
+            "GET /auth HTTP/1.1\r\nHost: h\r\nContent-Length: 5\r\nX-Auth-User: acme:ann\r\nX-Auth-Key: secret\r\n\r\n",
+            BodyUse::Dropped,
         ),
     ];
     for (text, want) in table {
