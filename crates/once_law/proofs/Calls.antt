@@ -16,12 +16,12 @@ use Rattle.realm_door.specs.Steps.{actor_of_pass}
 use Rattle.realm_door.proofs.Others.{same_after_others}
 use Rattle.swift_requests.specs.declared.asked.Asked.{Asked}
 use Rattle.swift_requests.specs.declared.asked.Asked.TheVariants as Asks
-use Rattle.swift_requests.specs.declared.asked.UnfedCommand.TheVariants.{Get, Listing}
-use Rattle.task_words.specs.declared.asker.Asker.{Asker}
-use Rattle.task_words.specs.declared.outcome.Outcome.{Outcome}
+use Rattle.swift_requests.specs.declared.asked.UnfedCommand.TheVariants.{Get, Listing, Container, Account as OfAccount}
 use Rattle.call_words.specs.Bodies.{Fate}
+use Rattle.call_words.specs.Ends.{TaskEnd, on_object}
 use Rattle.call_words.specs.Calls.{Ground, alone, task, Call, is_waiting, IsBorneOut, RestsOn, IsLeftByRow, events_for, IsOfNext, actor_after, AreRight}
 use Rattle.call_words.specs.Made.{AreBy, AreMadeFor, AreMade}
+use Rattle.once_law.specs.Folds.{IsOfObjects, AreOfObjects}
 use Rattle.once_law.specs.Maps.{Rows, rows_in}
 use Rattle.once_law.specs.Runs.{NoneFrom, IsOpen, AreAt}
 use Rattle.once_law.proofs.Calms.{Calm, calm_first, calm_behind}
@@ -30,31 +30,34 @@ use Rattle.once_law.proofs.Moments.{clock_behind}
 use Rattle.once_law.proofs.Open.{keeps_open}
 use Rattle.once_law.proofs.Standing.{Standing, stands_behind}
 
-module _ (settings : SettingsView) (good : IsSettings settings) (zone : ℕ) (asker : Asker) (pass moment : ℕ) where
+module _ (settings : SettingsView) (good : IsSettings settings) (zone pass moment : ℕ) where
   -- ---- one call
 
   -- no event before by the actor that a reply rests on
   abbrev IsUnused : Ground → List Event → Type 0
   IsUnused alone before = Unit {0}
-  IsUnused (task actor outcome) before = NoneBy (actor_of_pass pass actor) before
+  IsUnused (task actor end) before = NoneBy (actor_of_pass pass actor) before
 
   -- the reply to the call is right, and these events were made for it alone, at the moment
   pub record IsMadeAlone (before first : List Event) (call : Call) (g : Ground) : Type 0 where
+    pub of_objects : IsOfObjects call.asked
     pub opened : IsOpen settings before
     pub legal : Legal settings (before ++ first)
     pub low : (state_of settings before).clock ≤ counted_moment moment
     pub at : AreAt moment first
     pub unused : IsUnused g before
     pub made : AreMadeFor pass g first
-    pub rests : RestsOn settings zone asker pass (before ++ first) call.asked call.fate call.request.body call.shown g
-    pub left : IsLeftByRow zone asker call.asked (is_waiting call.asked call.request.head) call.fate (events_for pass (before ++ first) g)
+    pub rests : RestsOn settings zone pass (before ++ first) call.asked call.fate call.request.body call.shown g
+    pub left : IsLeftByRow zone call.asked (is_waiting call.asked call.request.head) call.fate (events_for pass (before ++ first) g)
 
-  borne_of_tasks : (asked : Asked) (fate : Fate) (body : List ℕ) (outcome : Outcome) (shown : List ℕ) (y : _) (events : List OwnEvent) → IsBorneOut settings.stripe zone asker asked fate body outcome shown y events → OfTasks events
-  borne_of_tasks Asks.BadHost fate body outcome shown y events borne = absurd borne
-  borne_of_tasks (Asks.Refused why) fate body outcome shown y events borne = absurd borne
-  borne_of_tasks (Asks.Put c) fate body outcome shown y events borne = puts_of_tasks events borne.3
-  borne_of_tasks (Asks.Unfed (Get c)) fate body outcome shown y events borne = gets_of_tasks events borne.3
-  borne_of_tasks (Asks.Unfed (Listing c listing)) fate body outcome shown y events borne = lists_of_tasks events borne.3
+  borne_of_tasks : (asked : Asked) (fate : Fate) (body : List ℕ) (end : TaskEnd) (shown : List ℕ) (y : _) (events : List OwnEvent) → IsOfObjects asked → IsBorneOut settings zone asked fate body end shown y events → OfTasks events
+  borne_of_tasks (Asks.Put asker c) fate body (on_object outcome) shown y events of_objects borne = puts_of_tasks events borne.3
+  borne_of_tasks (Asks.Unfed asker (Get c)) fate body (on_object outcome) shown y events of_objects borne = gets_of_tasks events borne.0.2
+  borne_of_tasks (Asks.Unfed asker (Listing c listing)) fate body (on_object outcome) shown y events of_objects borne = lists_of_tasks events borne.0.2
+  borne_of_tasks (Asks.Unfed asker (Container c)) fate body end shown y events of_objects borne = absurd of_objects
+  borne_of_tasks (Asks.Unfed asker (OfAccount c listing)) fate body end shown y events of_objects borne = absurd of_objects
+  borne_of_tasks (Asks.Unfed asker u) fate body end shown y events of_objects borne = absurd borne.0
+  borne_of_tasks asked fate body end shown y events of_objects borne = absurd borne
 
   -- what holds of the task of such a call
   pub record IsTaskAlone (before first : List Event) (count : ℕ) : Type 0 where
@@ -63,11 +66,11 @@ module _ (settings : SettingsView) (good : IsSettings settings) (zone : ℕ) (as
     pub standing : Standing settings before (before ++ first) (account_of settings (before ++ first) (actor_of_pass pass count))
     pub calm : Calm settings good before moment (before ++ first) (account_of settings (before ++ first) (actor_of_pass pass count)) (phase_of settings (before ++ first) (actor_of_pass pass count))
 
-  pub task_alone : (before first : List Event) (call : Call) (count : ℕ) (outcome : Outcome) → IsMadeAlone before first call (task count outcome) → IsTaskAlone before first count
-  task_alone before first call count outcome m =
+  pub task_alone : (before first : List Event) (call : Call) (count : ℕ) (end : TaskEnd) → IsMadeAlone before first call (task count end) → IsTaskAlone before first count
+  task_alone before first call count end m =
       let actor = actor_of_pass pass count in
       let ops = first_ops before first pass count m.unused m.made
-      (borne_of_tasks call.asked call.fate call.request.body outcome call.shown (account_of settings (before ++ first) actor) (own_events (before ++ first) actor) m.rests) in
+      (borne_of_tasks call.asked call.fate call.request.body end call.shown (account_of settings (before ++ first) actor) (own_events (before ++ first) actor) m.of_objects m.rests) in
       let keeps = keep_rows first ops in
       let at_first = standing_first settings before actor m.opened m.unused in
       let account = account-others settings [] before actor m.unused in
@@ -84,13 +87,13 @@ module _ (settings : SettingsView) (good : IsSettings settings) (zone : ℕ) (as
   -- the call left the rows of all zones as they were
   pub rows_kept : (before first : List Event) (call : Call) (g : Ground) → IsMadeAlone before first call g → rows_in settings (before ++ first) ≡ rows_in settings before
   rows_kept before first call alone m = ap (rows_in settings) (ap (λ l. before ++ l) m.made ∙ append-nil before)
-  rows_kept before first call (task count outcome) m =
-      let roots = (task_alone before first call count outcome m).standing.roots in λ i z name. at (roots z i).buckets name
+  rows_kept before first call (task count end) m =
+      let roots = (task_alone before first call count end m).standing.roots in λ i z name. at (roots z i).buckets name
 
   -- and all containers open
   pub open_kept : (before first : List Event) (call : Call) (g : Ground) → IsMadeAlone before first call g → IsOpen settings (before ++ first)
   open_kept before first call alone m = subst (IsOpen settings) (sym (ap (λ l. before ++ l) m.made ∙ append-nil before)) m.opened
-  open_kept before first call (task count outcome) m = (task_alone before first call count outcome m).standing.opened
+  open_kept before first call (task count end) m = (task_alone before first call count end m).standing.opened
 
   -- ---- calls
 
@@ -99,12 +102,13 @@ module _ (settings : SettingsView) (good : IsSettings settings) (zone : ℕ) (as
   at_both (x ∷ xs) ys are = let rest = at_both xs ys are.1 in ((are.0, rest.0), rest.1)
 
   -- what a longer history says of a call, a shorter one says, where those behind made the events in between
-  pub alone_before : (before first others : List Event) (next : ℕ) (call : Call) (calls : List Call) (later : List Event) (last : ℕ) (g : Ground) → Legal settings ((before ++ first) ++ others) → NoneFrom pass next before
-      → AreRight settings zone asker pass ((before ++ first) ++ others) (actor_after next g) calls last → IsOfNext next g → AreMadeFor pass g first → AreMade pass calls others later → AreBy pass last later
-      → RestsOn settings zone asker pass ((before ++ first) ++ others) call.asked call.fate call.request.body call.shown g
-      → IsLeftByRow zone asker call.asked (is_waiting call.asked call.request.head) call.fate (events_for pass ((before ++ first) ++ others) g)
+  pub alone_before : (before first others : List Event) (next : ℕ) (call : Call) (calls : List Call) (later : List Event) (last : ℕ) (g : Ground) → IsOfObjects call.asked → Legal settings ((before ++ first) ++ others) → NoneFrom pass next before
+      → AreRight settings zone pass ((before ++ first) ++ others) (actor_after next g) calls last → IsOfNext next g → AreMadeFor pass g first → AreMade pass calls others later → AreBy pass last later
+      → RestsOn settings zone pass ((before ++ first) ++ others) call.asked call.fate call.request.body call.shown g
+      → IsLeftByRow zone call.asked (is_waiting call.asked call.request.head) call.fate (events_for pass ((before ++ first) ++ others) g)
       → IsOpen settings before → (state_of settings before).clock ≤ counted_moment moment → AreAt moment first → IsMadeAlone before first call g
-  alone_before before first others next call calls later last alone legal unused right of_next own made by_last rests left opened low at = record {
+  alone_before before first others next call calls later last alone of_objects legal unused right of_next own made by_last rests left opened low at = record {
+    of_objects = of_objects;
     opened = opened;
     legal = legal_front settings (start settings) (before ++ first) others legal;
     low = low;
@@ -114,31 +118,32 @@ module _ (settings : SettingsView) (good : IsSettings settings) (zone : ℕ) (as
     rests = rests;
     left = left;
   }
-  alone_before before first others next call calls later last (task actor outcome) legal unused right of_next own made by_last rests left opened low at =
+  alone_before before first others next call calls later last (task actor end) of_objects legal unused right of_next own made by_last rests left opened low at =
       let e : actor ≡ next = of_next in
-      let none = none_of_later pass next (next + 1) calls others later last (omega arith) settings zone asker ((before ++ first) ++ others) right made by_last in
+      let none = none_of_later pass next (next + 1) calls others later last (omega arith) settings zone ((before ++ first) ++ others) right made by_last in
       let none_here = subst (λ a. NoneBy (actor_of_pass pass a) others) (sym e) none in
       record {
+        of_objects = of_objects;
         opened = opened;
         legal = legal_front settings (start settings) (before ++ first) others legal;
         low = low;
         at = at;
         unused = unused actor (omega (arith, e));
         made = own;
-        rests = rests_before settings zone asker pass (before ++ first) others next (task actor outcome) call.asked call.fate call.request.body call.shown of_next none rests;
-        left = subst (IsLeftByRow zone asker call.asked (is_waiting call.asked call.request.head) call.fate) (same_after_others settings (before ++ first) others (actor_of_pass pass actor) none_here).events left;
+        rests = rests_before settings zone pass (before ++ first) others next (task actor end) call.asked call.fate call.request.body call.shown of_next none rests;
+        left = subst (IsLeftByRow zone call.asked (is_waiting call.asked call.request.head) call.fate) (same_after_others settings (before ++ first) others (actor_of_pass pass actor) none_here).events left;
       }
 
   module _ (P : (ℕ → Rows) → Call → Type 0) (one : (before first : List Event) (call : Call) → IsMadeAlone before first call call.ground → P (rows_in settings before) call) where
-    pub each : (before more : List Event) (next : ℕ) (calls : List Call) (last : ℕ) (later : List Event) → Legal settings (before ++ more) → NoneFrom pass next before → AreRight settings zone asker pass (before ++ more) next calls last
+    pub each : (before more : List Event) (next : ℕ) (calls : List Call) (last : ℕ) (later : List Event) → AreOfObjects calls → Legal settings (before ++ more) → NoneFrom pass next before → AreRight settings zone pass (before ++ more) next calls last
         → AreMade pass calls more later → AreBy pass last later → IsOpen settings before → (state_of settings before).clock ≤ counted_moment moment → AreAt moment more → AllByRecursion (P (rows_in settings before)) calls
-    each before more next [] last later legal unused right made by_last opened low at = tt
-    each before more next (call ∷ calls) last later legal unused right (first, others, both, own, made) by_last opened low at =
+    each before more next [] last later of_objects legal unused right made by_last opened low at = tt
+    each before more next (call ∷ calls) last later of_objects legal unused right (first, others, both, own, made) by_last opened low at =
         let whole_is : before ++ more ≡ (before ++ first) ++ others = ap (λ l. before ++ l) both ∙ sym (append_assoc before first others) in
         let legal' = subst (Legal settings) whole_is legal in
-        let right' = subst (λ l. AreRight settings zone asker pass l next (call ∷ calls) last) whole_is right in
+        let right' = subst (λ l. AreRight settings zone pass l next (call ∷ calls) last) whole_is right in
         let ats = at_both first others (subst (AreAt moment) both at) in
-        let m = alone_before before first others next call calls later last call.ground legal' unused right'.2 right'.0 own made by_last right'.1.0 right'.1.1 opened low ats.0 in
-        let rest = each (before ++ first) others (actor_after next call.ground) calls last later legal' (unused_behind settings good zone asker pass (λ count. 0) next call.ground before first right'.0 own unused) right'.2 made by_last (open_kept before first call call.ground m)
+        let m = alone_before before first others next call calls later last call.ground of_objects.0 legal' unused right'.2 right'.0 own made by_last right'.1.0 right'.1.1 opened low ats.0 in
+        let rest = each (before ++ first) others (actor_after next call.ground) calls last later of_objects.1 legal' (unused_behind settings good zone pass (λ count. 0) next call.ground before first right'.0 own unused) right'.2 made by_last (open_kept before first call call.ground m)
         (clock_behind settings before first moment low ats.0) ats.1 in
         (one before first call m, subst (λ rows. AllByRecursion (P rows) calls) (rows_kept before first call call.ground m) rest)

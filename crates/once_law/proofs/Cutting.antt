@@ -1,5 +1,5 @@
 -- One call over a body of each fate: what its account bears out is what the rows and the slots say.
-use Rattle.std.proofs.Common.{◌≡◌, ℕ, List, [], Some, None, Option, refl, sym, subst}
+use Rattle.std.proofs.Common.{◌≡◌, ℕ, true, false, List, [], Some, None, Option, refl, sym, subst}
 use Rattle.std.specs.Prelude.{option_map}
 use Rattle.http_chunks.specs.declared.body.BodyEnd.{BodyEnd}
 use Rattle.realm_model.specs.Settings.{SettingsView}
@@ -28,6 +28,7 @@ use Rattle.task_words.specs.declared.reply.Refusal.TheVariants as Why
 use Rattle.task_words.specs.Answers.{put, get, deed_of, span_of}
 use Rattle.task_words.specs.Outcomes.{Body, LookedUp, IsGetOutcome, IsPutOutcome}
 use Rattle.call_words.specs.Bodies.{Fate, read_whole, broken_off, unread}
+use Rattle.call_words.specs.Ends.{on_object}
 use Rattle.call_words.specs.Calls.{task, AreShownBy, body_at, IsGetEnd, IsListEnd}
 use Rattle.call_words.specs.Texts.{outcome_reply, refusal_at, told_reply, told_list, HasReply}
 use Rattle.once_law.specs.Maps.{Slots, slots_in}
@@ -40,8 +41,8 @@ use Rattle.once_law.proofs.Standing.{Standing}
 
 -- the call is replied as the rows and the slots say, and leaves these slots
 pub record IsTold (x : Fixed) (slots now : Slots) (asked : Asked) (fate : Fate) (body : List ℕ) (actor : ℕ) (outcome : Outcome) (shown : List ℕ) : Type 0 where
-  pub is_said : IsSaidTo x slots asked fate body (task actor outcome) shown
-  pub left : left_behind x slots (command_in asked fate body) (task actor outcome) ≡ now
+  pub is_said : IsSaidTo x slots asked fate body (task actor (on_object outcome)) shown
+  pub left : left_behind x slots (command_in asked fate body) (task actor (on_object outcome)) ≡ now
 
 -- no reply is written for it where the body did not break off
 never_failed : (fate : Fate) → refusal_at fate ≡ None → HasReply (option_map Swift.Refused (refusal_at fate)) → ⊥
@@ -50,7 +51,7 @@ never_failed fate none has = subst (λ r. HasReply (option_map Swift.Refused r))
 module _ (settings : SettingsView) (before history : List Event) (zone : ℕ) (asker : Asker) (clocks : ℕ → ℕ) (actor : ℕ) (y : Account)
     (standing : Standing settings before history y) (clock : (event : Decided) → y.decided ≡ Some event → clocks actor ≡ event.clock) where
   abbrev x : Fixed
-  x = fixed_by settings before zone asker clocks
+  x = fixed_by settings before zone clocks
 
   abbrev slots : Slots
   slots = slots_in settings before zone
@@ -66,14 +67,14 @@ module _ (settings : SettingsView) (before history : List Event) (zone : ℕ) (a
 
   -- ---- by the row
 
-  row_says : (container : List ℕ) (deed : Deed) (refusal : Option Refusal) → LookedUp zone asker container deed refusal y.looked → refusal_of x container deed ≡ refusal
+  row_says : (container : List ℕ) (deed : Deed) (refusal : Option Refusal) → LookedUp zone asker container deed refusal y.looked → refusal_of x asker container deed ≡ refusal
   row_says container deed refusal l = looked_row settings before history zone asker clocks actor y standing clock container deed refusal l
 
-  refuses_so : (outside : Outcome → Type 0) (container : List ℕ) (deed : Deed) (refusal : Refusal) → LookedUp zone asker container deed (Some refusal) y.looked → IsByRow outside (refusal_of x container deed) (Done (Refused refusal))
+  refuses_so : (outside : Outcome → Type 0) (container : List ℕ) (deed : Deed) (refusal : Refusal) → LookedUp zone asker container deed (Some refusal) y.looked → IsByRow outside (refusal_of x asker container deed) (Done (Refused refusal))
   refuses_so outside container deed refusal l =
       subst (λ r. IsByRow outside r (Done (Refused refusal))) (sym (row_says container deed (Some refusal) l)) refl
 
-  grants_so : (outside : Outcome → Type 0) (container : List ℕ) (deed : Deed) (outcome : Outcome) → LookedUp zone asker container deed None y.looked → IsByRow outside None outcome → IsByRow outside (refusal_of x container deed) outcome
+  grants_so : (outside : Outcome → Type 0) (container : List ℕ) (deed : Deed) (outcome : Outcome) → LookedUp zone asker container deed None y.looked → IsByRow outside None outcome → IsByRow outside (refusal_of x asker container deed) outcome
   grants_so outside container deed outcome l is =
       subst (λ r. IsByRow outside r outcome) (sym (row_says container deed None l)) is
 
@@ -85,13 +86,13 @@ module _ (settings : SettingsView) (before history : List Event) (zone : ℕ) (a
   get_end c fate outcome events none by has = (by.0, has)
 
   whole_get : (c : GetCommand) (fate : Fate) (outcome : Outcome) (events : List OwnEvent) (shown : List ℕ) → refusal_at fate ≡ None → IsGetEnd zone asker c fate outcome y events → HasReply (told_reply (span_of c) fate outcome)
-      → AreShownBy zone c outcome shown y.decided → IsDone x slots now (get c) actor outcome shown
+      → AreShownBy zone c outcome shown y.decided → IsDone x slots now asker (get c) actor outcome shown
   whole_get c fate outcome events shown none by has bytes =
       let end = get_end c fate outcome events none by has in
       get_done settings before history zone asker clocks actor y standing clock c outcome shown end.0 end.1 bytes
 
   abbrev CutGet : GetCommand → Outcome → List ℕ → Type 0
-  CutGet c outcome shown = IsCutShort no_other (refusal_of x c.container (deed_of (get c))) outcome shown × (y.changes ≡ 0)
+  CutGet c outcome shown = IsCutShort no_other (refusal_of x asker c.container (deed_of (get c))) outcome shown × (y.changes ≡ 0)
 
   cut_get : (c : GetCommand) (why : BodyEnd) (outcome : Outcome) (events : List OwnEvent) (shown : List ℕ) → IsGetEnd zone asker c (broken_off why) outcome y events → AreShownBy zone c outcome shown y.decided → CutGet c outcome shown
   cut_get c why BodyFailed events shown by bytes =
@@ -102,11 +103,11 @@ module _ (settings : SettingsView) (before history : List Event) (zone : ℕ) (a
       ((refuses_so no_other c.container (deed_of (get c)) (Why.Denied rule) by.0.by_row, bytes), by.0.unchanged)
   cut_get c why (Done (Refused Why.NoContainer)) events shown by bytes =
       ((refuses_so no_other c.container (deed_of (get c)) Why.NoContainer by.0.by_row, bytes), by.0.unchanged)
-  cut_get c why (Done reply) events shown by bytes = absurd by.1
-  cut_get c why outcome events shown by bytes = absurd by.1
+  cut_get c why (Done reply) events shown by bytes = let late : false ≡ true = by.1 in absurd (cc)
+  cut_get c why outcome events shown by bytes = let late : false ≡ true = by.1 in absurd (cc)
 
   pub get_told : (c : GetCommand) (fate : Fate) (body : List ℕ) (outcome : Outcome) (events : List OwnEvent) (shown : List ℕ) → IsGetEnd zone asker c fate outcome y events → HasReply (told_reply (span_of c) fate outcome) → AreShownBy zone c outcome shown y.decided
-      → Tells (Asks.Unfed (Get c)) fate body outcome shown
+      → Tells (Asks.Unfed asker (Get c)) fate body outcome shown
   get_told c read_whole body outcome events shown by has bytes =
       let d = whole_get c read_whole outcome events shown refl by has bytes in record { is_said = d.is_said; left = d.left }
   get_told c (broken_off why) body outcome events shown by has bytes =
@@ -118,7 +119,7 @@ module _ (settings : SettingsView) (before history : List Event) (zone : ℕ) (a
 
   abbrev CutPut : PutCommand → List ℕ → Outcome → List ℕ → Type 0
   CutPut c bytes outcome shown =
-      IsCutShort (IsOutside (put c bytes)) (refusal_of x c.container (deed_of (put c bytes))) outcome shown × (y.changes ≡ 0)
+      IsCutShort (IsOutside (put c bytes)) (refusal_of x asker c.container (deed_of (put c bytes))) outcome shown × (y.changes ≡ 0)
 
   module _ (c : PutCommand) (body : Body) (apart : body.end ≡ Some Whole → ⊥) (bytes : List ℕ) (events : List OwnEvent) (shown : List ℕ) (is : shown ≡ []) where
     put_refused : (refusal : Refusal) → LookedUp zone asker c.container (deed_of (put c bytes)) (Some refusal) y.looked → y.changes ≡ 0 → CutPut c bytes (Done (Refused refusal)) shown
@@ -143,7 +144,7 @@ module _ (settings : SettingsView) (before history : List Event) (zone : ℕ) (a
     cut_put outcome by = absurd by
 
   pub put_told : (c : PutCommand) (fate : Fate) (bytes : List ℕ) (outcome : Outcome) (events : List OwnEvent) (shown : List ℕ) → ((d : Decided) → y.decided ≡ Some d → HasLater d.before)
-      → IsPutOutcome zone asker c (body_at fate bytes) outcome y events → HasReply (told_reply None fate outcome) → shown ≡ [] → Tells (Asks.Put c) fate bytes outcome shown
+      → IsPutOutcome zone asker c (body_at fate bytes) outcome y events → HasReply (told_reply None fate outcome) → shown ≡ [] → Tells (Asks.Put asker c) fate bytes outcome shown
   put_told c read_whole bytes outcome events shown early by has is =
       let d = put_done settings before history zone asker clocks actor y standing clock c bytes outcome events shown early by has is in
       record { is_said = d.is_said; left = d.left }
@@ -165,7 +166,7 @@ module _ (settings : SettingsView) (before history : List Event) (zone : ℕ) (a
   list_end c listing fate outcome events none by has = by.0
 
   abbrev CutList : ListCommand → Outcome → List ℕ → Type 0
-  CutList c outcome shown = IsCutShort no_other (refusal_of x c.container ListContainer) outcome shown × (y.changes ≡ 0)
+  CutList c outcome shown = IsCutShort no_other (refusal_of x asker c.container ListContainer) outcome shown × (y.changes ≡ 0)
 
   cut_list : (c : ListCommand) (why : BodyEnd) (outcome : Outcome) (events : List OwnEvent) (shown : List ℕ) → shown ≡ [] → IsListEnd (request c) (broken_off why) outcome y events → CutList c outcome shown
   cut_list c why BodyFailed events shown is by =
@@ -176,14 +177,14 @@ module _ (settings : SettingsView) (before history : List Event) (zone : ℕ) (a
       ((refuses_so no_other c.container ListContainer (Why.Denied rule) by.0.0.1, is), (by.0.1).unchanged)
   cut_list c why (Done (Refused Why.NoContainer)) events shown is by =
       ((refuses_so no_other c.container ListContainer Why.NoContainer by.0.0.1, is), (by.0.1).unchanged)
-  cut_list c why (Done reply) events shown is by = absurd by.1
-  cut_list c why outcome events shown is by = absurd by.1
+  cut_list c why (Done reply) events shown is by = let late : false ≡ true = by.1 in absurd (cc)
+  cut_list c why outcome events shown is by = let late : false ≡ true = by.1 in absurd (cc)
 
   abbrev Ends : ListCommand → Outcome → Type 0
   Ends c outcome = IsListDone settings before history zone asker clocks c outcome
 
   pub list_told : (c : ListCommand) (listing : ListingForm) (fate : Fate) (body : List ℕ) (outcome : Outcome) (events : List OwnEvent) (shown : List ℕ) → (IsListOutcome (request c) outcome y events → Ends c outcome)
-      → IsListEnd (request c) fate outcome y events → HasReply (told_list listing fate outcome) → shown ≡ [] → Tells (Asks.Unfed (Listing c listing)) fate body outcome shown
+      → IsListEnd (request c) fate outcome y events → HasReply (told_list listing fate outcome) → shown ≡ [] → Tells (Asks.Unfed asker (Listing c listing)) fate body outcome shown
   list_told c listing read_whole body outcome events shown done by has is =
       let d = done (list_end c listing read_whole outcome events refl by has) in record { is_said = (d.is_said, is); left = d.left }
   list_told c listing (broken_off why) body outcome events shown done by has is =

@@ -21,11 +21,11 @@ use Rattle.realm_model.specs.declared.event.Event.{Event}
 use Rattle.realm_model.proofs.Runs.{last_is_next, legal_front}
 use Rattle.realm_door.specs.Steps.{actor_of_pass}
 use Rattle.realm_door.proofs.Others.{own-append, same_after_others}
+use Rattle.swift_auth.specs.Users.{UserView}
 use Rattle.swift_auth.specs.declared.policy.Deed.TheVariants.{ChangeThing}
 use Rattle.swift_requests.specs.Asks.{asked_of}
 use Rattle.swift_requests.specs.declared.asked.Asked.{Asked}
 use Rattle.swift_requests.specs.declared.asked.Asked.TheVariants as Asks
-use Rattle.task_words.specs.declared.asker.Asker.{Asker}
 use Rattle.task_words.specs.Rows.{row_refusal}
 use Rattle.call_words.specs.Bodies.{read_whole}
 use Rattle.call_words.specs.Calls.{Call, ReadsRowFirst, first_refuses, IsLeftByRow, actor_after, AreRight}
@@ -34,6 +34,7 @@ use Rattle.call_words.specs.Requests.{requests_of}
 use Rattle.call_words.specs.Streams.{CallsEnd, Taken, IsFrontFrom}
 use Rattle.call_words.proofs.Reading.{one_call}
 use Rattle.call_words.specs.Bodies.{stays_unread}
+use Rattle.once_law.specs.Folds.{AreOfObjects}
 use Rattle.once_law.specs.Maps.{Rows, rows_in}
 use Rattle.once_law.specs.Runs.{NoneFrom, IsOpen, AreAt}
 use Rattle.once_law.specs.Readings.{refuses_put, AreReadAlone, IsCutGranted}
@@ -71,56 +72,54 @@ row_first settings base (e ∷ es) actor zone container legal none by r =
 
 -- ---- behind calls
 
-module _ (settings : SettingsView) (good : IsSettings settings) (zone : ℕ) (asker : Asker) (pass moment : ℕ) (container : List ℕ) where
-  row_behind : (before more : List Event) (next : ℕ) (calls : List Call) (last : ℕ) (later : List Event) → Legal settings (before ++ more) → NoneFrom pass next before → AreRight settings zone asker pass (before ++ more) next calls last
+module _ (settings : SettingsView) (good : IsSettings settings) (zone pass moment : ℕ) (container : List ℕ) where
+  row_behind : (before more : List Event) (next : ℕ) (calls : List Call) (last : ℕ) (later : List Event) → AreOfObjects calls → Legal settings (before ++ more) → NoneFrom pass next before → AreRight settings zone pass (before ++ more) next calls last
       → AreMade pass calls more later → AreBy pass last later → IsOpen settings before → (state_of settings before).clock ≤ counted_moment moment → AreAt moment more
       → (r : ReadsRowFirst zone container (own_events (before ++ more) (actor_of_pass pass last))) → row_shown r.look.reply ≡ rows_in settings before zone container
-  row_behind before more next [] last later legal unused right made by_last opened low at r =
+  row_behind before more next [] last later of_objects legal unused right made by_last opened low at r =
       let is : next ≡ last = right in
       row_first settings before more (actor_of_pass pass last) zone container legal (unused last (omega (arith, is))) (subst (AreBy pass last) (sym made) by_last) r
-  row_behind before more next (call ∷ calls) last later legal unused right (first, others, both, own, made) by_last opened low at r =
+  row_behind before more next (call ∷ calls) last later of_objects legal unused right (first, others, both, own, made) by_last opened low at r =
       let whole_is : before ++ more ≡ (before ++ first) ++ others = ap (λ l. before ++ l) both ∙ sym (append_assoc before first others) in
       let legal' = subst (Legal settings) whole_is legal in
-      let right' = subst (λ l. AreRight settings zone asker pass l next (call ∷ calls) last) whole_is right in
-      let ats = at_both settings good zone asker pass moment first others (subst (AreAt moment) both at) in
-      let m = alone_before settings good zone asker pass moment before first others next call calls later last call.ground legal' unused right'.2 right'.0 own made by_last right'.1.0 right'.1.1 opened low ats.0 in
+      let right' = subst (λ l. AreRight settings zone pass l next (call ∷ calls) last) whole_is right in
+      let ats = at_both settings good zone pass moment first others (subst (AreAt moment) both at) in
+      let m = alone_before settings good zone pass moment before first others next call calls later last call.ground of_objects.0 legal' unused right'.2 right'.0 own made by_last right'.1.0 right'.1.1 opened low ats.0 in
       let moved : ReadsRowFirst zone container (own_events ((before ++ first) ++ others) (actor_of_pass pass last)) =
       record { look = r.look; others = r.others; begins = ap (λ l. own_events l (actor_of_pass pass last)) (sym whole_is) ∙ r.begins; op = r.op } in
-      let rest = row_behind (before ++ first) others (actor_after next call.ground) calls last later legal' (unused_behind settings good zone asker pass (λ count. 0) next call.ground before first right'.0 own unused) right'.2 made by_last (open_kept settings good zone asker pass moment before first call call.ground m)
+      let rest = row_behind (before ++ first) others (actor_after next call.ground) calls last later of_objects.1 legal' (unused_behind settings good zone pass (λ count. 0) next call.ground before first right'.0 own unused) right'.2 made by_last (open_kept settings good zone pass moment before first call call.ground m)
       (clock_behind settings before first moment low ats.0) ats.1 moved in
-      rest ∙ ap (λ (rows : ℕ → Rows). rows zone container) (rows_kept settings good zone asker pass moment before first call call.ground m)
+      rest ∙ ap (λ (rows : ℕ → Rows). rows zone container) (rows_kept settings good zone pass moment before first call call.ground m)
 
 -- ---- a request that is cut off
 
 -- what the row that was read first lets in, the rows do not refuse
-let_in_is : (settings : SettingsView) (zone : ℕ) (asker : Asker) (rows : Rows) (events : List OwnEvent)
+let_in_is : (zone : ℕ) (rows : Rows) (events : List OwnEvent)
     → ((container : List ℕ) (r : ReadsRowFirst zone container events) → row_shown r.look.reply ≡ rows container)
-    → (asked : Asked) → IsLeftByRow zone asker asked true read_whole events → refuses_put rows asker asked ≡ false
-let_in_is settings zone asker rows events shows (Asks.Put c) (reads, read) =
+    → (asked : Asked) → IsLeftByRow zone asked true read_whole events → refuses_put rows asked ≡ false
+let_in_is zone rows events shows (Asks.Put asker c) (reads, read) =
     ap (λ o. is_some (row_refusal asker o ChangeThing)) (sym (shows c.container reads)) ∙ sym (ap (first_refuses asker ChangeThing) reads.begins) ∙ sym read
-let_in_is settings zone asker rows events shows Asks.BadHost left = refl
-let_in_is settings zone asker rows events shows (Asks.Refused why) left = refl
-let_in_is settings zone asker rows events shows (Asks.Unfed u) left = refl
+let_in_is zone rows events shows asked left = refl
 
 -- the same requests leave the same rest
-one_front : (largest k : ℕ) (bytes : List ℕ) (ms : List Taken) (r q : List ℕ) → IsFrontFrom largest k bytes ms r → IsFrontFrom largest k bytes ms q → r ≡ q
-one_front largest k bytes [] r q x y = sym x ∙ y
-one_front largest k bytes (m ∷ ms) r q (after, takes, stays, front) (behind, also, remains, further) =
-    let same = (one_call largest bytes (stays_unread m.fate) m m after behind (λ is. refl) (λ is. refl) takes also).1 in
-    one_front largest (suc k) after ms r q front (subst (λ l. IsFrontFrom largest (suc k) l ms q) (sym same) further)
+one_front : (largest : ℕ) (users : List UserView) (k : ℕ) (bytes : List ℕ) (ms : List Taken) (r q : List ℕ) → IsFrontFrom largest users k bytes ms r → IsFrontFrom largest users k bytes ms q → r ≡ q
+one_front largest users k bytes [] r q x y = sym x ∙ y
+one_front largest users k bytes (m ∷ ms) r q (after, takes, stays, front) (behind, also, remains, further) =
+    let same = (one_call largest users bytes (stays_unread m.fate) m m after behind (λ is. refl) (λ is. refl) takes also).1 in
+    one_front largest users (suc k) after ms r q front (subst (λ l. IsFrontFrom largest users (suc k) l ms q) (sym same) further)
 
-module _ (settings : SettingsView) (zone : ℕ) (asker : Asker) (rows : Rows) (k : ℕ) (bytes : List ℕ) (good : IsSettings settings) where
-  pub cut_granted : (calls : List Call) (end : CallsEnd) → AreReadAlone settings zone asker rows k bytes calls end → IsCutGranted rows asker settings.largest k bytes calls end
-  cut_granted calls end r rest after head cut front begins =
+module _ (settings : SettingsView) (zone : ℕ) (users : List UserView) (rows : Rows) (k : ℕ) (bytes : List ℕ) (good : IsSettings settings) where
+  pub cut_granted : (calls : List Call) (end : CallsEnd) → AreReadAlone settings zone users rows k bytes calls end → AreOfObjects calls → IsCutGranted rows settings.largest users k bytes calls end
+  cut_granted calls end r of_objects rest after head cut front begins =
       let a = r.alone in
       let l = r.let_in cut in
       let there = l.0 in
       let behind = l.1 in
       let other = l.2 in
-      let same = one_front settings.largest k bytes (requests_of calls) rest there front l.3 in
+      let same = one_front settings.largest users k bytes (requests_of calls) rest there front l.3 in
       let heads = one_head there head other after behind (subst (λ l. BeginsWith l head after) same begins) l.4 in
       let shows = λ (container : List ℕ) (first : ReadsRowFirst zone container (own_events (r.before ++ r.more) (actor_of_pass r.pass r.last))).
-      row_behind settings good zone asker r.pass r.moment container r.before r.more r.next calls r.last a.later r.legal a.unused a.right a.made a.by_last a.opened r.low r.at first
+      row_behind settings good zone r.pass r.moment container r.before r.more r.next calls r.last a.later of_objects r.legal a.unused a.right a.made a.by_last a.opened r.low r.at first
       ∙ ap (λ (q : Rows). q container) r.rows_are in
-      ap (λ (h : Head). refuses_put rows asker (asked_of settings.largest h)) heads.0
-      ∙ let_in_is settings zone asker rows (own_events (r.before ++ r.more) (actor_of_pass r.pass r.last)) shows (asked_of settings.largest other) l.5
+      ap (λ (h : Head). refuses_put rows (asked_of settings.largest users h)) heads.0
+      ∙ let_in_is zone rows (own_events (r.before ++ r.more) (actor_of_pass r.pass r.last)) shows (asked_of settings.largest users other) l.5

@@ -28,8 +28,10 @@ use Rattle.task_words.specs.Answers.{put}
 use Rattle.task_words.specs.Outcomes.{ByRow, Granted, ByMap, IsPutOutcome}
 use Rattle.task_words.specs.Rows.{row_refusal}
 use Rattle.call_words.specs.Bodies.{Fate, read_whole, broken_off, unread, stays_unread}
-use Rattle.call_words.specs.Calls.{Ground, alone, task, Call, body_at, is_waiting, first_refuses, IsLeftByRow, IsRefused, IsBorneOut, AreRight}
+use Rattle.call_words.specs.Ends.{TaskEnd, on_object}
+use Rattle.call_words.specs.Calls.{Ground, alone, task, Call, body_at, is_waiting, first_refuses, IsLeftByRow, IsByHead, IsBorneOut, AreRight}
 use Rattle.call_words.specs.Made.{AreBy, AreMade}
+use Rattle.once_law.specs.Folds.{AreOfObjects}
 use Rattle.once_law.specs.Maps.{Rows, rows_in}
 use Rattle.once_law.specs.Readings.{refuses_put, IsLeftAsRowsSay, AreLeftAsRowsSay}
 use Rattle.once_law.specs.Runs.{NoneFrom, IsOpen, AreAt}
@@ -49,10 +51,10 @@ was_read unread bytes end is = absurd (cc)
 abbrev pub NoneLeft : Call → Type 0
 NoneLeft call = stays_unread call.fate ≡ true → call.request.body ≡ []
 
-module _ (settings : SettingsView) (good : IsSettings settings) (zone : ℕ) (asker : Asker) (pass moment : ℕ) where
+module _ (settings : SettingsView) (good : IsSettings settings) (zone pass moment : ℕ) where
   -- ---- one PUT
 
-  module _ (before history : List Event) (actor : ActorId) (y : Account) (events : List OwnEvent) (c : PutCommand) (fate : Fate) (bytes : List ℕ)
+  module _ (before history : List Event) (actor : ActorId) (y : Account) (events : List OwnEvent) (asker : Asker) (c : PutCommand) (fate : Fate) (bytes : List ℕ)
       (standing : Standing settings before history y) (calm : Calm settings good before moment history y (phase_of settings history actor)) (reads : ReadsOnce settings good before zone bytes actor events y)
       (left : stays_unread fate ≡ first_refuses asker ChangeThing events) (none : stays_unread fate ≡ true → bytes ≡ []) where
     abbrev row : Option Bucket
@@ -117,39 +119,39 @@ module _ (settings : SettingsView) (good : IsSettings settings) (zone : ℕ) (as
 
   module _ (before first : List Event) (call : Call) (none : NoneLeft call) where
     abbrev Says : Asked → Type 0
-    Says asked = is_waiting asked call.request.head ≡ true → stays_unread call.fate ≡ refuses_put (rows_in settings before zone) asker asked
+    Says asked = is_waiting asked call.request.head ≡ true → stays_unread call.fate ≡ refuses_put (rows_in settings before zone) asked
 
-    refused_says : (asked : Asked) → IsRefused asked → Says asked
-    refused_says Asks.BadHost refused waiting = absurd (cc)
-    refused_says (Asks.Refused why) refused waiting = absurd (cc)
-    refused_says (Asks.Put c) refused waiting = absurd refused
-    refused_says (Asks.Unfed u) refused waiting = absurd refused
+    -- who is answered by the head alone waits for no 100
+    by_head_says : (asked : Asked) → IsByHead asked → Says asked
+    by_head_says (Asks.Put asker c) by_head waiting = absurd by_head
+    by_head_says asked by_head waiting = absurd (cc)
 
-    task_says : (count : ℕ) (outcome : Outcome) → IsMadeAlone settings good zone asker pass moment before first call (task count outcome) → (asked : Asked)
-        → IsBorneOut settings.stripe zone asker asked call.fate call.request.body outcome call.shown (account_of settings (before ++ first) (actor_of_pass pass count)) (own_events (before ++ first) (actor_of_pass pass count))
-        → IsLeftByRow zone asker asked (is_waiting asked call.request.head) call.fate (own_events (before ++ first) (actor_of_pass pass count)) → Says asked
-    task_says count outcome m (Asks.Put c) borne left waiting =
+    task_says : (count : ℕ) (end : TaskEnd) → IsMadeAlone settings good zone pass moment before first call (task count end) → (asked : Asked)
+        → IsBorneOut settings zone asked call.fate call.request.body end call.shown (account_of settings (before ++ first) (actor_of_pass pass count)) (own_events (before ++ first) (actor_of_pass pass count))
+        → IsLeftByRow zone asked (is_waiting asked call.request.head) call.fate (own_events (before ++ first) (actor_of_pass pass count)) → Says asked
+    task_says count (on_object outcome) m (Asks.Put asker c) borne left waiting =
         let actor = actor_of_pass pass count in
-        let t = task_alone settings good zone asker pass moment before first call count outcome m in
+        let t = task_alone settings good zone pass moment before first call count (on_object outcome) m in
         let reads = reads_once settings good before zone call.request.body actor first m.unused m.legal m.made t.keeps borne.4 t.at_first borne.5 in
-        put_left before (before ++ first) actor (account_of settings (before ++ first) actor) (own_events (before ++ first) actor) c call.fate call.request.body t.standing t.calm reads
-        (subst (λ b. IsLeftByRow zone asker (Asks.Put c) b call.fate (own_events (before ++ first) actor)) waiting left).1 none outcome borne.0
-    task_says count outcome m asked borne left waiting = absurd (cc)
+        put_left before (before ++ first) actor (account_of settings (before ++ first) actor) (own_events (before ++ first) actor) asker c call.fate call.request.body t.standing t.calm reads
+        (subst (λ b. IsLeftByRow zone (Asks.Put asker c) b call.fate (own_events (before ++ first) actor)) waiting left).1 none outcome borne.0
+    task_says count end m (Asks.Put asker c) borne left waiting = absurd borne
+    task_says count end m asked borne left waiting = absurd (cc)
 
-    call_says : (g : Ground) → IsMadeAlone settings good zone asker pass moment before first call g → IsLeftAsRowsSay (rows_in settings before zone) asker call
-    call_says alone m = refused_says call.asked m.rests.0
-    call_says (task count outcome) m = task_says count outcome m call.asked m.rests m.left
+    call_says : (g : Ground) → IsMadeAlone settings good zone pass moment before first call g → IsLeftAsRowsSay (rows_in settings before zone) call
+    call_says alone m = by_head_says call.asked m.rests.0
+    call_says (task count end) m = task_says count end m call.asked m.rests m.left
 
   -- of a call over rows
   abbrev SaysOver : (ℕ → Rows) → Call → Type 0
-  SaysOver all call = NoneLeft call → IsLeftAsRowsSay (all zone) asker call
+  SaysOver all call = NoneLeft call → IsLeftAsRowsSay (all zone) call
 
-  all_say : (before : List Event) (calls : List Call) → AllByRecursion NoneLeft calls → AllByRecursion (SaysOver (rows_in settings before)) calls → AreLeftAsRowsSay (rows_in settings before zone) asker calls
+  all_say : (before : List Event) (calls : List Call) → AllByRecursion NoneLeft calls → AllByRecursion (SaysOver (rows_in settings before)) calls → AreLeftAsRowsSay (rows_in settings before zone) calls
   all_say before [] none say = tt
   all_say before (call ∷ calls) none say = (say.0 none.0, all_say before calls none.1 say.1)
 
-  pub left_by_rows : (before more : List Event) (next : ℕ) (calls : List Call) (last : ℕ) (later : List Event) → Legal settings (before ++ more) → NoneFrom pass next before → AreRight settings zone asker pass (before ++ more) next calls last
-      → AreMade pass calls more later → AreBy pass last later → IsOpen settings before → (state_of settings before).clock ≤ counted_moment moment → AreAt moment more → AllByRecursion NoneLeft calls → AreLeftAsRowsSay (rows_in settings before zone) asker calls
-  left_by_rows before more next calls last later legal unused right made by_last opened low at none =
+  pub left_by_rows : (before more : List Event) (next : ℕ) (calls : List Call) (last : ℕ) (later : List Event) → AreOfObjects calls → Legal settings (before ++ more) → NoneFrom pass next before → AreRight settings zone pass (before ++ more) next calls last
+      → AreMade pass calls more later → AreBy pass last later → IsOpen settings before → (state_of settings before).clock ≤ counted_moment moment → AreAt moment more → AllByRecursion NoneLeft calls → AreLeftAsRowsSay (rows_in settings before zone) calls
+  left_by_rows before more next calls last later of_objects legal unused right made by_last opened low at none =
       all_say before calls none
-      (each settings good zone asker pass moment SaysOver (λ before first call m none. call_says before first call none call.ground m) before more next calls last later legal unused right made by_last opened low at)
+      (each settings good zone pass moment SaysOver (λ before first call m none. call_says before first call none call.ground m) before more next calls last later of_objects legal unused right made by_last opened low at)

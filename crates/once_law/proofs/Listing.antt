@@ -126,7 +126,7 @@ own_later actor count clock (e ∷ es) own there =
 
 -- it ended as the rows and the slots say, and left the slots
 pub record IsListDone (settings : SettingsView) (before history : List Event) (zone : ℕ) (asker : Asker) (clocks : ℕ → ℕ) (c : ListCommand) (outcome : Outcome) : Type 0 where
-  pub is_said : IsListSaid (fixed_by settings before zone asker clocks) (slots_in settings before zone) c outcome
+  pub is_said : IsListSaid (fixed_by settings before zone clocks) (slots_in settings before zone) asker c outcome
   pub left : slots_in settings before zone ≡ slots_in settings history zone
 
 module _ (settings : SettingsView) (good : IsSettings settings) (before first : List Event) (legal : Legal settings (before ++ first)) (zone : ℕ) (asker : Asker) (clocks : ℕ → ℕ)

@@ -53,27 +53,27 @@ row_grants : (asker : Asker) (row : Option Bucket) (deed : Deed) → row_refusal
 row_grants asker None deed is = absurd (none_grants (verdict_of asker.user asker.account None deed) is)
 row_grants asker (Some r) deed is = (r, refl)
 
-module _ (x : Fixed) (slots : Slots) (command : Command) (actor : ℕ) where
+module _ (x : Fixed) (slots : Slots) (asker : Asker) (command : Command) (actor : ℕ) where
   abbrev pub row : Option Bucket
   row = x.rows (container_of command)
 
   -- the row refuses
-  pub said_refused : (refusal : Refusal) → row_refusal x.asker row (deed_of command) ≡ Some refusal → said x slots command actor ≡ refused refusal slots
+  pub said_refused : (refusal : Refusal) → row_refusal asker row (deed_of command) ≡ Some refusal → said x slots asker command actor ≡ refused refusal slots
   said_refused refusal is = ap (λ r. said_by r row slots command x.zone (x.clocks actor)) is
 
   -- the row grants
-  pub said_granted : (r : Bucket) → row ≡ Some r → row_refusal x.asker (Some r) (deed_of command) ≡ None → said x slots command actor ≡ said_in r slots command x.zone (x.clocks actor)
+  pub said_granted : (r : Bucket) → row ≡ Some r → row_refusal asker (Some r) (deed_of command) ≡ None → said x slots asker command actor ≡ said_in r slots command x.zone (x.clocks actor)
   said_granted r is grants =
-      (λ i. said_by (row_refusal x.asker (is i) (deed_of command)) (is i) slots command x.zone (x.clocks actor))
+      (λ i. said_by (row_refusal asker (is i) (deed_of command)) (is i) slots command x.zone (x.clocks actor))
       ∙ ap (λ g. said_by g (Some r) slots command x.zone (x.clocks actor)) grants
 
   -- the object answer
-  pub said_map : (r : Bucket) → row ≡ Some r → row_refusal x.asker (Some r) (deed_of command) ≡ None → has_other_etag command ≡ false → said x slots command actor ≡ said_of_name r slots command x.zone (x.clocks actor)
+  pub said_map : (r : Bucket) → row ≡ Some r → row_refusal asker (Some r) (deed_of command) ≡ None → has_other_etag command ≡ false → said x slots asker command actor ≡ said_of_name r slots command x.zone (x.clocks actor)
   said_map r is grants right =
       said_granted r is grants
       ∙ ap (λ (b : Bool). cond b (refused Why.OtherEtag slots) (said_of_name r slots command x.zone (x.clocks actor))) right
 
-  pub said_other : (r : Bucket) → row ≡ Some r → row_refusal x.asker (Some r) (deed_of command) ≡ None → has_other_etag command ≡ true → said x slots command actor ≡ refused Why.OtherEtag slots
+  pub said_other : (r : Bucket) → row ≡ Some r → row_refusal asker (Some r) (deed_of command) ≡ None → has_other_etag command ≡ true → said x slots asker command actor ≡ refused Why.OtherEtag slots
   said_other r is grants wrong =
       said_granted r is grants
       ∙ ap (λ (b : Bool). cond b (refused Why.OtherEtag slots) (said_of_name r slots command x.zone (x.clocks actor))) wrong
@@ -114,14 +114,14 @@ put_shown c bytes slot zone clock =
 -- ---- an account that bears it out
 
 -- the call is replied as the rows and the slots say, and leaves these slots
-pub record IsDone (x : Fixed) (slots now : Slots) (command : Command) (actor : ℕ) (outcome : Outcome) (shown : List ℕ) : Type 0 where
-  pub is_said : IsSaid command (said x slots command actor) outcome shown
-  pub left : left_by (said x slots command actor) outcome slots ≡ now
+pub record IsDone (x : Fixed) (slots now : Slots) (asker : Asker) (command : Command) (actor : ℕ) (outcome : Outcome) (shown : List ℕ) : Type 0 where
+  pub is_said : IsSaid command (said x slots asker command actor) outcome shown
+  pub left : left_by (said x slots asker command actor) outcome slots ≡ now
 
 module _ (settings : SettingsView) (before history : List Event) (zone : ℕ) (asker : Asker) (clocks : ℕ → ℕ) (actor : ℕ) (y : Account)
     (standing : Standing settings before history y) (clock : (event : Decided) → y.decided ≡ Some event → clocks actor ≡ event.clock) where
   abbrev x : Fixed
-  x = fixed_by settings before zone asker clocks
+  x = fixed_by settings before zone clocks
 
   abbrev slots : Slots
   slots = slots_in settings before zone
@@ -130,7 +130,7 @@ module _ (settings : SettingsView) (before history : List Event) (zone : ℕ) (a
   now = slots_in settings history zone
 
   abbrev Does : Command → Outcome → List ℕ → Type 0
-  Does command outcome shown = IsDone x slots now command actor outcome shown
+  Does command outcome shown = IsDone x slots now asker command actor outcome shown
 
   -- no head was changed, or one
   none_changed : y.changes ≡ 0 → Unchanged settings before history y
@@ -159,7 +159,7 @@ module _ (settings : SettingsView) (before history : List Event) (zone : ℕ) (a
 
   refusal_done : (command : Command) (refusal : Refusal) (shown : List ℕ) → LookedUp zone asker (container_of command) (deed_of command) (Some refusal) y.looked → y.changes ≡ 0 → shown ≡ [] → Does command (Done (Refused refusal)) shown
   refusal_done command refusal shown l none is =
-      let by = said_refused x slots command actor refusal (looked_row (container_of command) (deed_of command) (Some refusal) l) in
+      let by = said_refused x slots asker command actor refusal (looked_row (container_of command) (deed_of command) (Some refusal) l) in
       record {
         is_said = (sym (ap (λ (s : Said). s.reply) by), is ∙ sym (ap (λ (s : Said). s.shown) by));
         left = ap (λ (s : Said). s.slots) by ∙ slots_stay none;
@@ -169,7 +169,7 @@ module _ (settings : SettingsView) (before history : List Event) (zone : ℕ) (a
   other_done c bytes shown l wrong none is =
       let grants = looked_row c.container (deed_of (put c bytes)) None l in
       let row = row_grants asker (rows_in settings before zone c.container) (deed_of (put c bytes)) grants in
-      let by = said_other x slots (put c bytes) actor row.0 row.1 (subst (λ o. row_refusal asker o (deed_of (put c bytes)) ≡ None) row.1 grants) wrong in
+      let by = said_other x slots asker (put c bytes) actor row.0 row.1 (subst (λ o. row_refusal asker o (deed_of (put c bytes)) ≡ None) row.1 grants) wrong in
       record {
         is_said = (sym (ap (λ (s : Said). s.reply) by), is ∙ sym (ap (λ (s : Said). s.shown) by));
         left = ap (λ (s : Said). s.slots) by ∙ slots_stay none;
@@ -187,13 +187,13 @@ module _ (settings : SettingsView) (before history : List Event) (zone : ℕ) (a
     the_answer : answer (slots m.row.id (name_of command)) command zone (clocks actor) ≡ answer m.event.before command zone m.event.clock
     the_answer = λ i. answer (sym is_slot i) command zone (clock m.event m.is_last i)
 
-    by_name : said x slots command actor ≡ said_of_name m.row slots command zone (clocks actor)
-    by_name = said_map x slots command actor m.row is_row m.granted right
+    by_name : said x slots asker command actor ≡ said_of_name m.row slots command zone (clocks actor)
+    by_name = said_map x slots asker command actor m.row is_row m.granted right
 
     is_after : (answer (slots m.row.id (name_of command)) command zone (clocks actor)).after ≡ m.event.after
     is_after = ap (λ (a : Answer). a.after) the_answer ∙ sym m.leaves
 
-    map_said : (shown : List ℕ) → shown ≡ (answer m.event.before command zone m.event.clock).shown → IsSaid command (said x slots command actor) (Done reply) shown
+    map_said : (shown : List ℕ) → shown ≡ (answer m.event.before command zone m.event.clock).shown → IsSaid command (said x slots asker command actor) (Done reply) shown
     map_said shown is = (
       m.answers ∙ sym (ap (λ (a : Answer). a.reply) the_answer) ∙ sym (ap (λ (s : Said). s.reply) by_name),
       is ∙ sym (ap (λ (a : Answer). a.shown) the_answer) ∙ sym (ap (λ (s : Said). s.shown) by_name),
@@ -273,7 +273,7 @@ module _ (settings : SettingsView) (before history : List Event) (zone : ℕ) (a
             absurd (moves c bytes e.before zone e.clock etag stamp (early e m.is_last) m.answers (sym m.leaves ∙ other e m.is_last))
       ]
 
-  put_outside : (c : PutCommand) (bytes : List ℕ) (outcome : Outcome) (shown : List ℕ) → y.changes ≡ 0 → IsSaid (put c bytes) (said x slots (put c bytes) actor) outcome shown → left_by (said x slots (put c bytes) actor) outcome slots ≡ slots → Does (put c bytes) outcome shown
+  put_outside : (c : PutCommand) (bytes : List ℕ) (outcome : Outcome) (shown : List ℕ) → y.changes ≡ 0 → IsSaid (put c bytes) (said x slots asker (put c bytes) actor) outcome shown → left_by (said x slots asker (put c bytes) actor) outcome slots ≡ slots → Does (put c bytes) outcome shown
   put_outside c bytes outcome shown none is left = record { is_said = is; left = left ∙ slots_stay none }
 
   pub put_done : (c : PutCommand) (bytes : List ℕ) (outcome : Outcome) (events : List OwnEvent) (shown : List ℕ) → ((d : Decided) → y.decided ≡ Some d → HasLater d.before)

@@ -16,7 +16,7 @@ use Rattle.swift_auth.specs.declared.policy.Deed.{Deed}
 use Rattle.swift_auth.specs.declared.policy.Deed.TheVariants.{ListContainer}
 use Rattle.swift_requests.specs.declared.asked.Asked.{Asked}
 use Rattle.swift_requests.specs.declared.asked.Asked.TheVariants as Asks
-use Rattle.swift_requests.specs.declared.asked.UnfedCommand.TheVariants.{Get, Listing}
+use Rattle.swift_requests.specs.declared.asked.UnfedCommand.TheVariants.{Get, Listing, Container, Account}
 use Rattle.task_words.specs.declared.asker.Asker.{Asker}
 use Rattle.task_words.specs.declared.outcome.Outcome.{Outcome}
 use Rattle.task_words.specs.declared.outcome.Outcome.TheVariants.{Done, BodyFailed, Busy, MovedOften, LateTag, NoSpace}
@@ -29,7 +29,8 @@ use Rattle.task_words.specs.Rows.{row_refusal}
 use Rattle.task_words.specs.declared.command.GetCommand.{GetCommand}
 use Rattle.task_words.specs.declared.command.PutCommand.{PutCommand}
 use Rattle.call_words.specs.Bodies.{Fate, read_whole, broken_off, unread}
-use Rattle.call_words.specs.Calls.{Ground, alone, task, Call, call_text}
+use Rattle.call_words.specs.Ends.{on_object}
+use Rattle.call_words.specs.Calls.{Ground, alone, task, Call, call_text, IsByHead}
 use Rattle.once_law.specs.Maps.{Rows, Slots, with_slot}
 
 -- ---- one command
@@ -66,19 +67,18 @@ said_by (Some refusal) row slots command zone clock = refused refusal slots
 said_by None None slots command zone clock = refused NoContainer slots
 said_by None (Some row) slots command zone clock = said_in row slots command zone clock
 
--- what stays the same from call to call: the zone, who asks, the rows; and the clock at the event that decides the reply to
--- the actor of each count
+-- what stays the same from call to call: the zone, the rows; and the clock at the event that decides the reply to the actor of
+-- each count
 pub record Fixed : Type 0 where
   pub zone : ℕ
-  pub asker : Asker
   pub rows : Rows
   pub clocks : ℕ → ℕ
 
--- what a command of this actor is replied
-abbrev pub said : Fixed → Slots → Command → ℕ → Said
-said x slots command actor =
+-- what a command of this asker is replied, by this actor
+abbrev pub said : Fixed → Slots → Asker → Command → ℕ → Said
+said x slots asker command actor =
     let row = x.rows (container_of command) in
-    said_by (row_refusal x.asker row (deed_of command)) row slots command x.zone (x.clocks actor)
+    said_by (row_refusal asker row (deed_of command)) row slots command x.zone (x.clocks actor)
 
 -- ---- ends of a task
 
@@ -131,17 +131,17 @@ IsListReply None (Some row) slots c (Listed rows) = AreListed slots row c rows
 IsListReply refusal row slots c reply = ⊥
 
 -- the task of a listing ended with that reply; or shards did not serve too often
-abbrev pub IsListSaid : Fixed → Slots → ListCommand → Outcome → Type 0
-IsListSaid x slots c (Done reply) =
-    IsListReply (row_refusal x.asker (x.rows c.container) ListContainer) (x.rows c.container) slots c reply
-IsListSaid x slots c MovedOften = Unit {0}
-IsListSaid x slots c outcome = ⊥
+abbrev pub IsListSaid : Fixed → Slots → Asker → ListCommand → Outcome → Type 0
+IsListSaid x slots asker c (Done reply) =
+    IsListReply (row_refusal asker (x.rows c.container) ListContainer) (x.rows c.container) slots c reply
+IsListSaid x slots asker c MovedOften = Unit {0}
+IsListSaid x slots asker c outcome = ⊥
 
 -- ---- bodies that break off
 
--- what the row of a container refuses to a deed
-abbrev pub refusal_of : Fixed → List ℕ → Deed → Option Refusal
-refusal_of x container deed = row_refusal x.asker (x.rows container) deed
+-- what the row of a container refuses an asker
+abbrev pub refusal_of : Fixed → Asker → List ℕ → Deed → Option Refusal
+refusal_of x asker container deed = row_refusal asker (x.rows container) deed
 
 -- The row alone decides: its refusal; where it grants, that the body failed, or an end that is no reply of the maps.
 abbrev pub IsByRow : (Outcome → Type 0) → Option Refusal → Outcome → Type 0
@@ -160,55 +160,64 @@ IsCutShort outside refusal outcome shown = IsByRow outside refusal outcome × (s
 
 -- ---- one call
 
--- the command on an object that it is; none where the request is refused before any name is looked at, lists a container, or
--- has a body that broke off
-abbrev pub command_in : Asked → Fate → List ℕ → Option Command
-command_in Asks.BadHost fate body = None
-command_in (Asks.Refused why) fate body = None
-command_in (Asks.Put c) read_whole body = Some (put c body)
-command_in (Asks.Put c) (broken_off why) body = None
-command_in (Asks.Put c) unread body = None
-command_in (Asks.Unfed (Get c)) read_whole body = Some (get c)
-command_in (Asks.Unfed (Get c)) (broken_off why) body = None
-command_in (Asks.Unfed (Get c)) unread body = Some (get c)
-command_in (Asks.Unfed (Listing c listing)) fate body = None
+-- It is of objects: no container's counts are asked for, none is made, changed or removed, and no account is asked for. So it
+-- leaves the rows as they are.
+abbrev pub IsOfObjects : Asked → Type 0
+IsOfObjects (Asks.Unfed asker (Container c)) = ⊥
+IsOfObjects (Asks.Unfed asker (Account c listing)) = ⊥
+IsOfObjects asked = Unit {0}
 
-abbrev pub command_of : Call → Option Command
+abbrev pub AreOfObjects : List Call → Type 0
+AreOfObjects calls = AllByRecursion (λ call. IsOfObjects call.asked) calls
+
+-- who asks, and the command on an object that it is; none where the request is answered by its head alone, or is none on an
+-- object, or has a body that broke off
+abbrev pub command_in : Asked → Fate → List ℕ → Option (Asker × Command)
+command_in (Asks.Put asker c) read_whole body = Some (asker, put c body)
+command_in (Asks.Unfed asker (Get c)) read_whole body = Some (asker, get c)
+command_in (Asks.Unfed asker (Get c)) unread body = Some (asker, get c)
+command_in asked fate body = None
+
+abbrev pub command_of : Call → Option (Asker × Command)
 command_of call = command_in call.asked call.fate call.request.body
 
 -- nothing is stored where the body was not read whole
-abbrev pub IsPutSaid : Fixed → Slots → PutCommand → Fate → List ℕ → ℕ → Outcome → List ℕ → Type 0
-IsPutSaid x slots c read_whole body actor outcome shown = IsSaid (put c body) (said x slots (put c body) actor) outcome shown
-IsPutSaid x slots c (broken_off why) body actor outcome shown =
-    IsCutShort (IsOutside (put c body)) (refusal_of x c.container (deed_of (put c body))) outcome shown
-IsPutSaid x slots c unread body actor outcome shown =
-    IsCutShort (IsOutside (put c body)) (refusal_of x c.container (deed_of (put c body))) outcome shown
+abbrev pub IsPutSaid : Fixed → Slots → Asker → PutCommand → Fate → List ℕ → ℕ → Outcome → List ℕ → Type 0
+IsPutSaid x slots asker c read_whole body actor outcome shown =
+    IsSaid (put c body) (said x slots asker (put c body) actor) outcome shown
+IsPutSaid x slots asker c (broken_off why) body actor outcome shown =
+    IsCutShort (IsOutside (put c body)) (refusal_of x asker c.container (deed_of (put c body))) outcome shown
+IsPutSaid x slots asker c unread body actor outcome shown =
+    IsCutShort (IsOutside (put c body)) (refusal_of x asker c.container (deed_of (put c body))) outcome shown
 
 -- a body that nobody wants may be left, and says nothing unless it broke off
-abbrev pub IsGetSaid : Fixed → Slots → GetCommand → Fate → ℕ → Outcome → List ℕ → Type 0
-IsGetSaid x slots c read_whole actor outcome shown = IsSaid (get c) (said x slots (get c) actor) outcome shown
-IsGetSaid x slots c (broken_off why) actor outcome shown =
-    IsCutShort no_other (refusal_of x c.container (deed_of (get c))) outcome shown
-IsGetSaid x slots c unread actor outcome shown = IsSaid (get c) (said x slots (get c) actor) outcome shown
+abbrev pub IsGetSaid : Fixed → Slots → Asker → GetCommand → Fate → ℕ → Outcome → List ℕ → Type 0
+IsGetSaid x slots asker c read_whole actor outcome shown = IsSaid (get c) (said x slots asker (get c) actor) outcome shown
+IsGetSaid x slots asker c (broken_off why) actor outcome shown =
+    IsCutShort no_other (refusal_of x asker c.container (deed_of (get c))) outcome shown
+IsGetSaid x slots asker c unread actor outcome shown = IsSaid (get c) (said x slots asker (get c) actor) outcome shown
 
-abbrev pub IsListingSaid : Fixed → Slots → ListCommand → Fate → Outcome → List ℕ → Type 0
-IsListingSaid x slots c read_whole outcome shown = IsListSaid x slots c outcome × (shown ≡ [])
-IsListingSaid x slots c (broken_off why) outcome shown =
-    IsCutShort no_other (refusal_of x c.container ListContainer) outcome shown
-IsListingSaid x slots c unread outcome shown = IsListSaid x slots c outcome × (shown ≡ [])
+abbrev pub IsListingSaid : Fixed → Slots → Asker → ListCommand → Fate → Outcome → List ℕ → Type 0
+IsListingSaid x slots asker c read_whole outcome shown = IsListSaid x slots asker c outcome × (shown ≡ [])
+IsListingSaid x slots asker c (broken_off why) outcome shown =
+    IsCutShort no_other (refusal_of x asker c.container ListContainer) outcome shown
+IsListingSaid x slots asker c unread outcome shown = IsListSaid x slots asker c outcome × (shown ≡ [])
 
--- a request alone shows no bytes
+-- what is answered by the head alone shows no bytes
 abbrev pub IsSaidTo : Fixed → Slots → Asked → Fate → List ℕ → Ground → List ℕ → Type 0
-IsSaidTo x slots Asks.BadHost fate body alone shown = shown ≡ []
-IsSaidTo x slots (Asks.Refused why) fate body alone shown = shown ≡ []
-IsSaidTo x slots (Asks.Put c) fate body (task actor outcome) shown = IsPutSaid x slots c fate body actor outcome shown
-IsSaidTo x slots (Asks.Unfed (Get c)) fate body (task actor outcome) shown = IsGetSaid x slots c fate actor outcome shown
-IsSaidTo x slots (Asks.Unfed (Listing c listing)) fate body (task actor outcome) shown = IsListingSaid x slots c fate outcome shown
-IsSaidTo x slots asked fate body basis shown = ⊥
+IsSaidTo x slots asked fate body alone shown = IsByHead asked × (shown ≡ [])
+IsSaidTo x slots (Asks.Put asker c) fate body (task actor (on_object outcome)) shown =
+    IsPutSaid x slots asker c fate body actor outcome shown
+IsSaidTo x slots (Asks.Unfed asker (Get c)) fate body (task actor (on_object outcome)) shown =
+    IsGetSaid x slots asker c fate actor outcome shown
+IsSaidTo x slots (Asks.Unfed asker (Listing c listing)) fate body (task actor (on_object outcome)) shown =
+    IsListingSaid x slots asker c fate outcome shown
+IsSaidTo x slots asked fate body ground shown = ⊥
 
-abbrev pub left_behind : Fixed → Slots → Option Command → Ground → Slots
-left_behind x slots (Some command) (task actor outcome) = left_by (said x slots command actor) outcome slots
-left_behind x slots command basis = slots
+abbrev pub left_behind : Fixed → Slots → Option (Asker × Command) → Ground → Slots
+left_behind x slots (Some (asker, command)) (task actor (on_object outcome)) =
+    left_by (said x slots asker command actor) outcome slots
+left_behind x slots command ground = slots
 
 -- the call is replied as the rows and the slots say
 abbrev pub IsFolded : Fixed → Slots → Call → Type 0
@@ -233,10 +242,10 @@ slots_behind x slots (call ∷ calls) = slots_behind x (slots_after x slots call
 -- the maps replied, or the body failed, or there was no room
 abbrev pub IsRepliedOrFull : Ground → Type 0
 IsRepliedOrFull alone = Unit {0}
-IsRepliedOrFull (task actor (Done reply)) = Unit {0}
-IsRepliedOrFull (task actor BodyFailed) = Unit {0}
-IsRepliedOrFull (task actor (NoSpace free needed)) = Unit {0}
-IsRepliedOrFull basis = ⊥
+IsRepliedOrFull (task actor (on_object (Done reply))) = Unit {0}
+IsRepliedOrFull (task actor (on_object BodyFailed)) = Unit {0}
+IsRepliedOrFull (task actor (on_object (NoSpace free needed))) = Unit {0}
+IsRepliedOrFull ground = ⊥
 
 abbrev pub AreRepliedOrFull : List Call → Type 0
 AreRepliedOrFull calls = AllByRecursion (λ call. IsRepliedOrFull call.ground) calls
@@ -244,9 +253,9 @@ AreRepliedOrFull calls = AllByRecursion (λ call. IsRepliedOrFull call.ground) c
 -- the maps replied, or the body failed
 abbrev pub IsReplied : Ground → Type 0
 IsReplied alone = Unit {0}
-IsReplied (task actor (Done reply)) = Unit {0}
-IsReplied (task actor BodyFailed) = Unit {0}
-IsReplied basis = ⊥
+IsReplied (task actor (on_object (Done reply))) = Unit {0}
+IsReplied (task actor (on_object BodyFailed)) = Unit {0}
+IsReplied ground = ⊥
 
 abbrev pub AreReplied : List Call → Type 0
 AreReplied calls = AllByRecursion (λ call. IsReplied call.ground) calls

@@ -10,7 +10,6 @@ use Rattle.realm_model.specs.Settings.{SettingsView}
 use Rattle.realm_model.specs.declared.event.Event.{Event}
 use Rattle.index_law.specs.Serving.{NoneCloses}
 use Rattle.realm_door.specs.Steps.{actor_of_pass}
-use Rattle.task_words.specs.declared.asker.Asker.{Asker}
 use Rattle.call_words.specs.Calls.{Call, AreRight}
 use Rattle.call_words.specs.Made.{AreBy, AreMade}
 use Rattle.once_law.specs.Maps.{rows_in, slots_in}
@@ -27,10 +26,10 @@ pub record IsOpen (settings : SettingsView) (history : List Event) : Type 0 wher
 
 -- The replies to calls are right in a history. What came behind its first part was made for them, one after another, and then
 -- by the actor behind theirs. Up to them all containers are open.
-pub record AreAlone (settings : SettingsView) (zone : ℕ) (asker : Asker) (pass : ℕ) (before more : List Event) (next : ℕ) (calls : List Call) (last : ℕ) : Type 0 where
+pub record AreAlone (settings : SettingsView) (zone pass : ℕ) (before more : List Event) (next : ℕ) (calls : List Call) (last : ℕ) : Type 0 where
   pub opened : IsOpen settings before
   pub unused : NoneFrom pass next before
-  pub right : AreRight settings zone asker pass (before ++ more) next calls last
+  pub right : AreRight settings zone pass (before ++ more) next calls last
   pub later : List Event
   pub made : AreMade pass calls more later
   pub by_last : AreBy pass last later
@@ -46,16 +45,15 @@ abbrev pub AreAt : ℕ → List Event → Type 0
 AreAt moment events = AllByRecursion (λ e. e.moment ≡ moment) events
 
 -- what the rows and the slots before the calls fix
-abbrev pub fixed_by : SettingsView → List Event → ℕ → Asker → (ℕ → ℕ) → Fixed
-fixed_by settings before zone asker clocks =
-    record { zone = zone; asker = asker; rows = rows_in settings before zone; clocks = clocks }
+abbrev pub fixed_by : SettingsView → List Event → ℕ → (ℕ → ℕ) → Fixed
+fixed_by settings before zone clocks = record { zone = zone; rows = rows_in settings before zone; clocks = clocks }
 
 -- The calls are replied as the rows and the slots before them say, one after another; and the slots that their events leave are
 -- those that the replies leave.
-pub record AreOfMaps (settings : SettingsView) (zone : ℕ) (asker : Asker) (before more : List Event) (calls : List Call) (clocks : ℕ → ℕ) : Type 0 where
+pub record AreOfMaps (settings : SettingsView) (zone : ℕ) (before more : List Event) (calls : List Call) (clocks : ℕ → ℕ) : Type 0 where
   pub events : List Event
   pub later : List Event
   pub stands : more ≡ events ++ later
-  pub folded : AreFolded (fixed_by settings before zone asker clocks) (slots_in settings before zone) calls
-  pub slots : slots_behind (fixed_by settings before zone asker clocks) (slots_in settings before zone) calls ≡ slots_in settings (before ++ events) zone
+  pub folded : AreFolded (fixed_by settings before zone clocks) (slots_in settings before zone) calls
+  pub slots : slots_behind (fixed_by settings before zone clocks) (slots_in settings before zone) calls ≡ slots_in settings (before ++ events) zone
   pub rows : rows_in settings (before ++ events) zone ≡ rows_in settings before zone

@@ -5,6 +5,7 @@ use Rattle.realm_model.specs.Doors.{DoorView, actor_at}
 use Rattle.realm_model.specs.Histories.{account_of}
 use Rattle.realm_model.specs.Owns.{OwnEvent, own_events}
 use Rattle.realm_model.specs.Settings.{SettingsView}
+use Rattle.task_words.specs.declared.asker.Asker.{Asker}
 use Rattle.task_words.specs.declared.command.BodyEnd.{BodyEnd}
 use Rattle.task_words.specs.Outcomes.{Body}
 use Rattle.realm_door.specs.declared.stepping.Stepping.{Stepping}
@@ -64,7 +65,7 @@ done_more tells settings r s d unended bytes front rest parts is done told =
     subst (λ (l : List ℕ). DoesSo settings r (record { bytes = l; end = r.end }) d) (append_assoc r.bytes front rest ∙ ap (λ l. r.bytes ++ l) (sym parts)) (wider, open_body.1)
 
 -- an actor that made no event did nothing of it yet
-pub nothing_done : (site : Site) (c : PutCommand) (d : DoorView) → account_of site.settings d.seen (actor_at d) ≡ blank → own_events d.seen (actor_at d) ≡ [] → BearsOutSoFar site (Put c) (body_of []) d
-nothing_done site c d account none =
-    subst₂ (λ (y : Account) (events : List OwnEvent). IsPutSoFar site.settings.stripe site.zone site.asker c (body_of []) y events × AreOfPut events) (sym account) (sym none)
+pub nothing_done : (site : Site) (asker : Asker) (c : PutCommand) (d : DoorView) → account_of site.settings d.seen (actor_at d) ≡ blank → own_events d.seen (actor_at d) ≡ [] → BearsOutSoFar site (Put asker c) (body_of []) d
+nothing_done site asker c d account none =
+    subst₂ (λ (y : Account) (events : List OwnEvent). IsPutSoFar site.settings.stripe site.zone asker c (body_of []) y events × AreOfPut events) (sym account) (sym none)
     (record { ordered = tt; cut = λ more follows. tt; changes = inl refl }, tt)

@@ -32,6 +32,7 @@ use Rattle.task_put.proofs.Running.{run_means}
 use Rattle.http_chunks.specs.declared.body.BodyEnd.{BodyEnd as HttpEnd}
 use Rattle.http_chunks.specs.declared.body.BodyEnd.TheVariants as End
 use Rattle.call_words.specs.Bodies.{Fate, read_whole, broken_off, IsWrong}
+use Rattle.call_words.specs.Ends.{on_object}
 use Rattle.call_words.specs.Calls.{body_at}
 use Rattle.call_words.specs.Events.{AreOfPut}
 use Rattle.http_intake.specs.Intake.{IntakeState}
@@ -242,7 +243,7 @@ ended_behind tells alone settings now r t x y d b fate end body same at_end may_
       so_far = λ told.
           subst (λ (w : Body). DoesSo settings r w y.door) (sym at_end)
           (done_ended tells settings r (request_of t) y.door none unended body end request (has_done tells settings t y.door sound up) told);
-      asks = both_ask tells alone settings now (is_by_end ends.outcome) x.door d y.door x.told b y.told same first ends.asks;
+      asks = both_ask tells alone settings now (is_by_end (on_object ends.outcome)) x.door d y.door x.told b y.told same first ends.asks;
     }
 
 -- the body was read to its end, and the task ended behind it

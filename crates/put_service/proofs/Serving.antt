@@ -10,7 +10,9 @@ use Rattle.realm_model.specs.declared.event.Event.{Event}
 use Rattle.swift_requests.specs.declared.asked.Asked.TheVariants.{Put}
 use Rattle.swift_requests.specs.declared.body.BodyUse.TheVariants.{Fed}
 use Rattle.call_words.specs.Bodies.{read_whole, broken_off, Suits}
+use Rattle.call_words.specs.Ends.{on_object}
 use Rattle.call_words.specs.Calls.{body_at}
+use Rattle.task_words.specs.declared.asker.Asker.{Asker}
 use Rattle.task_words.specs.declared.command.PutCommand.{PutCommand}
 use Rattle.task_words.specs.declared.outcome.Outcome.{Outcome}
 use Rattle.task_words.specs.declared.outcome.Outcome.TheVariants.{Done, BodyFailed, Busy, MovedOften, RacedOften, LateTag, LateRead, NoSpace}
@@ -47,8 +49,8 @@ steady_new t r stripe request none unended (draft, looks, new) =
     })
 
 -- what a task of a PUT is asked at first
-abbrev pub first_request : Site → PutCommand → PutRequest
-first_request site c = record { zone = site.zone; asker = site.asker; command = c; bytes = []; end = None }
+abbrev pub first_request : ℕ → Asker → PutCommand → PutRequest
+first_request zone asker c = record { zone = zone; asker = asker; command = c; bytes = []; end = None }
 
 -- a request whose body has no byte and no end yet is that
 pub first_is : (r : PutRequest) → r.bytes ≡ [] → r.end ≡ None → r ≡ record { zone = r.zone; asker = r.asker; command = r.command; bytes = []; end = None }
@@ -64,7 +66,7 @@ abbrev pub ends_with : (left taken told : Option (List ℕ)) (plan : Option (ℕ
 ends_with left taken told plan read_faults write_faults =
     record { left = left; taken = taken; told = told; plan = plan; read_faults = read_faults; write_faults = write_faults }
 
-module _ (tells alone : Type 0) (site : Site) (form : ReplyForm) (c : PutCommand) (d e : DoorView) (i j : IntakeState) (old new : EndsState) where
+module _ (tells alone : Type 0) (site : Site) (form : ReplyForm) (asker : Asker) (c : PutCommand) (d e : DoorView) (i j : IntakeState) (old new : EndsState) where
   abbrev from : Side
   from = side d i old
 
@@ -72,15 +74,15 @@ module _ (tells alone : Type 0) (site : Site) (form : ReplyForm) (c : PutCommand
   to = side e j new
 
   abbrev Ran : Stepping PutTask → BodyEnd → Type 0
-  Ran t end = HasEnded tells alone site.settings (first_request site c) t (fate_of end) (place d i old.left old.told) (place e j new.left new.told)
+  Ran t end = HasEnded tells alone site.settings (first_request site.zone asker c) t (fate_of end) (place d i old.left old.told) (place e j new.left new.told)
 
-  by_run : (t : Stepping PutTask) (end : BodyEnd) → (end ≡ Body.Cut → ⊥) → RunsTask tells alone site.settings (first_request site c) t (place d i old.left old.told) (place e j new.left new.told) end → Ran t end
+  by_run : (t : Stepping PutTask) (end : BodyEnd) → (end ≡ Body.Cut → ⊥) → RunsTask tells alone site.settings (first_request site.zone asker c) t (place d i old.left old.told) (place e j new.left new.told) end → Ran t end
   by_run t Body.Whole not ran = ran
   by_run t Body.Cut not ran = absurd (not refl)
   by_run t Body.BadChunk not ran = ran
   by_run t Body.TooLarge not ran = ran
 
-  pub has_run : (t : Stepping PutTask) (r : PutRequest) (end : BodyEnd) → r ≡ first_request site c → (end ≡ Body.Cut → ⊥) → RunsTask tells alone site.settings r t (place d i old.left old.told) (place e j new.left new.told) end → Ran t end
+  pub has_run : (t : Stepping PutTask) (r : PutRequest) (end : BodyEnd) → r ≡ first_request site.zone asker c → (end ≡ Body.Cut → ⊥) → RunsTask tells alone site.settings r t (place d i old.left old.told) (place e j new.left new.told) end → Ran t end
   has_run t r end request not ran =
       by_run t end not (subst (λ (q : PutRequest). RunsTask tells alone site.settings q t (place d i old.left old.told) (place e j new.left new.told) end) request ran)
 
@@ -91,10 +93,10 @@ module _ (tells alone : Type 0) (site : Site) (form : ReplyForm) (c : PutCommand
   here = place e j new.left new.told
 
   -- nothing was written
-  unwritten : IsRefusedStep tells alone site.settings (first_request site c) there here → Appends old.taken new.taken [] → IsLeft tells alone site form (Put c) Fed from to
+  unwritten : IsRefusedStep tells alone site.settings (first_request site.zone asker c) there here → Appends old.taken new.taken [] → IsLeft tells alone site form (Put asker c) Fed from to
   unwritten x none = inl (x.body, x.came, x.more, record { unwritten = none; asks = x.asks; so_far = x.so_far })
 
-  short_unwritten : RunsShort tells alone site.settings (first_request site c) there here → Appends old.taken new.taken [] → StopsShort tells alone site (Put c) Fed from to
+  short_unwritten : RunsShort tells alone site.settings (first_request site.zone asker c) there here → Appends old.taken new.taken [] → StopsShort tells alone site (Put asker c) Fed from to
   short_unwritten x none = record {
     is_read = refl;
     given = x.given;
@@ -102,17 +104,17 @@ module _ (tells alone : Type 0) (site : Site) (form : ReplyForm) (c : PutCommand
     leaves = record { unwritten = none; asks = x.asks; so_far = x.so_far };
   }
 
-  stops_so : (found : List Event) (fault : ServeFault) → Appends old.taken new.taken [] → StopsBody tells alone site.settings (first_request site c) found there here fault → IsStopped tells alone site form (Put c) Fed found from to fault
+  stops_so : (found : List Event) (fault : ServeFault) → Appends old.taken new.taken [] → StopsBody tells alone site.settings (first_request site.zone asker c) found there here fault → IsStopped tells alone site form (Put asker c) Fed found from to fault
   stops_so found faults.ReadFault none stops = short_unwritten stops none
   stops_so found faults.OutOfMemory none stops = unwritten stops none
   stops_so found faults.Worn none (worn, stops) = (worn, unwritten stops none)
   stops_so found fault none stops = absurd stops
 
-  pub stops_unwritten : (r : PutRequest) (found : List Event) (fault : ServeFault) → r ≡ first_request site c → Appends old.taken new.taken [] → StopsBody tells alone site.settings r found there here fault
-      → IsStopped tells alone site form (Put c) Fed found from to fault
+  pub stops_unwritten : (r : PutRequest) (found : List Event) (fault : ServeFault) → r ≡ first_request site.zone asker c → Appends old.taken new.taken [] → StopsBody tells alone site.settings r found there here fault
+      → IsStopped tells alone site form (Put asker c) Fed found from to fault
   stops_unwritten r found fault request none stops = stops_so found fault none (subst (λ (q : PutRequest). StopsBody tells alone site.settings q found there here fault) request stops)
 
-  pub cut_unwritten : (t : Stepping PutTask) (r : PutRequest) (end : BodyEnd) → r ≡ first_request site c → end ≡ Body.Cut → Appends old.taken new.taken [] → RunsTask tells alone site.settings r t there here end → IsCutOff tells alone site (Put c) Fed from to
+  pub cut_unwritten : (t : Stepping PutTask) (r : PutRequest) (end : BodyEnd) → r ≡ first_request site.zone asker c → end ≡ Body.Cut → Appends old.taken new.taken [] → RunsTask tells alone site.settings r t there here end → IsCutOff tells alone site (Put asker c) Fed from to
   cut_unwritten t r end request is none ran =
       let cut = subst (RunsTask tells alone site.settings r t there here) is ran in
       (short_unwritten (subst (λ (q : PutRequest). RunsShort tells alone site.settings q there here) request cut.0) none, cut.1)
@@ -124,18 +126,18 @@ module _ (tells alone : Type 0) (site : Site) (form : ReplyForm) (c : PutCommand
   suits_of Body.TooLarge body has = tt
 
   -- the reply was written
-  abbrev reply_is : (t : Stepping PutTask) (end : BodyEnd) (outcome : Outcome) → Ran t end → stage_of t ≡ Ended outcome → Appends old.taken new.taken (text_of (form_at form (fate_of end)) end outcome) → IsReplied tells alone site form (Put c) (fate_of end) from to
+  abbrev reply_is : (t : Stepping PutTask) (end : BodyEnd) (outcome : Outcome) → Ran t end → stage_of t ≡ Ended outcome → Appends old.taken new.taken (text_of (form_at form (fate_of end)) end outcome) → IsReplied tells alone site form (Put asker c) (fate_of end) from to
   reply_is t end outcome ran ended written = record {
     body = ran.body;
     has_fate = ran.has_fate;
-    outcome = ran.outcome;
+    outcome = on_object ran.outcome;
     shown = [];
     written = subst (λ o. Appends old.taken new.taken (text_of (form_at form (fate_of end)) end o)) (ap outcome_in (sym ended ∙ ran.ended)) written;
     right = λ told. (ran.right told, end_has_reply ran.outcome (fate_of end) ran.is_end, refl, ran.of_put told, ran.cut told, ran.finished told);
     asks = ran.asks;
   }
 
-  by_end : (end : BodyEnd) (o : Outcome) → (end ≡ Body.Cut → ⊥) → IsEndAt o (fate_of end) → (r : IsReplied tells alone site form (Put c) (fate_of end) from to) → r.outcome ≡ o → IsServed tells alone site form (Put c) Fed from to (served_so end o)
+  by_end : (end : BodyEnd) (o : Outcome) → (end ≡ Body.Cut → ⊥) → IsEndAt o (fate_of end) → (r : IsReplied tells alone site form (Put asker c) (fate_of end) from to) → r.outcome ≡ on_object o → IsServed tells alone site form (Put asker c) Fed from to (served_so end o)
   by_end Body.Cut o not ends r is = absurd (not refl)
   by_end Body.Whole BodyFailed not ends r is = absurd ends
   by_end Body.BadChunk BodyFailed not ends r is = (Body.BadChunk, tt, r, is)
@@ -163,17 +165,17 @@ module _ (tells alone : Type 0) (site : Site) (form : ReplyForm) (c : PutCommand
   by_end Body.Whole (NoSpace free needed) not ends r is = (read_whole, tt, refl, r, λ e. let clash = sym is ∙ e in cc)
 
   pub replied : (t : Stepping PutTask) (end : BodyEnd) (outcome : Outcome) → (end ≡ Body.Cut → ⊥) → Ran t end → stage_of t ≡ Ended outcome → Appends old.taken new.taken (text_of (form_at form (fate_of end)) end outcome)
-      → IsServed tells alone site form (Put c) Fed from to (served_so end outcome)
+      → IsServed tells alone site form (Put asker c) Fed from to (served_so end outcome)
   replied t end outcome not ran ended written =
-      by_end end outcome not (subst (λ o. IsEndAt o (fate_of end)) (ap outcome_in (sym ran.ended ∙ ended)) ran.is_end) (reply_is t end outcome ran ended written) (ap outcome_in (sym ran.ended ∙ ended))
+      by_end end outcome not (subst (λ o. IsEndAt o (fate_of end)) (ap outcome_in (sym ran.ended ∙ ended)) ran.is_end) (reply_is t end outcome ran ended written) (ap (λ s. on_object (outcome_in s)) (sym ran.ended ∙ ended))
 
   -- or not, or a front of it
   pub stops_reply : (found : List Event) (t : Stepping PutTask) (end : BodyEnd) (outcome : Outcome) (fault : ServeFault) → i.failed ≡ None → Ran t end → stage_of t ≡ Ended outcome → LeavesText old.taken new.taken (text_of (form_at form (fate_of end)) end outcome) fault
-      → IsStopped tells alone site form (Put c) Fed found from to fault
+      → IsStopped tells alone site form (Put asker c) Fed found from to fault
   stops_reply found t end outcome faults.OutOfMemory unfailed ran ended leaves = inl (
     body_at (fate_of end) ran.body,
     fate_come Fed (fate_of end) i j old.left new.left ran.body (suits_of end ran.body ran.has_fate) unfailed ran.has_fate,
-    is_by_end ran.outcome,
+    is_by_end (on_object ran.outcome),
     record { unwritten = leaves; asks = ran.asks; so_far = ran.so_far },
   )
   stops_reply found t end outcome faults.WriteFault unfailed ran ended leaves = (
@@ -182,11 +184,11 @@ module _ (tells alone : Type 0) (site : Site) (form : ReplyForm) (c : PutCommand
       suits = suits_of end ran.body ran.has_fate;
       body = ran.body;
       has_fate = ran.has_fate;
-      outcome = ran.outcome;
+      outcome = on_object ran.outcome;
       shown = [];
       written = subst (λ o. AppendsFront old.taken new.taken (text_of (form_at form (fate_of end)) end o)) (ap outcome_in (sym ended ∙ ran.ended)) leaves;
       right = λ told. (ran.right told, end_has_reply ran.outcome (fate_of end) ran.is_end, refl, ran.of_put told, ran.cut told, ran.finished told);
-      more = is_by_end ran.outcome;
+      more = is_by_end (on_object ran.outcome);
       asks = ran.asks;
     },
     refl,

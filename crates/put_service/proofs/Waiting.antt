@@ -1,5 +1,5 @@
 -- A PUT whose client waits for a 100.
-use Rattle.std.proofs.Common.{◌≡◌, ℕ, inl, inr, Bool, true, false, List, [], None, refl, sym, ◌∙◌, subst}
+use Rattle.std.proofs.Common.{◌≡◌, ℕ, inl, inr, Bool, true, false, List, [], None, refl, sym, ap, ◌∙◌, subst}
 use Rattle.std.specs.Io.KnownBytes.{Consumes, Appends}
 use Rattle.std.proofs.KnownBytes.{Appends-nil}
 use Rattle.http_model.specs.declared.reply.ReplyForm.{ReplyForm}
@@ -10,6 +10,7 @@ use Rattle.realm_model.specs.declared.event.Event.{Event}
 use Rattle.swift_auth.specs.declared.policy.Deed.TheVariants.{ChangeThing}
 use Rattle.swift_requests.specs.declared.asked.Asked.TheVariants.{Put}
 use Rattle.swift_requests.specs.declared.body.BodyUse.TheVariants.{Fed, Unread}
+use Rattle.task_words.specs.declared.asker.Asker.{Asker}
 use Rattle.task_words.specs.declared.command.PutCommand.{PutCommand}
 use Rattle.task_words.specs.declared.outcome.Outcome.{Outcome}
 use Rattle.task_words.specs.declared.outcome.Outcome.TheVariants.{Done, BodyFailed, Busy, MovedOften, LateTag, NoSpace}
@@ -23,6 +24,7 @@ use Rattle.task_put.specs.declared.stage.Stage.{Stage}
 use Rattle.task_put.specs.declared.stage.Stage.TheVariants.{Ended}
 use Rattle.task_put.specs.declared.task.PutTask.{PutTask}
 use Rattle.call_words.specs.Bodies.{unread}
+use Rattle.call_words.specs.Ends.{TaskEnd, on_object, body_failed}
 use Rattle.call_words.specs.Calls.{ReadsRowAlone, ReadsRowFirst, first_refuses}
 use Rattle.call_words.specs.Texts.{HasReply, told_reply, outcome_reply, front_if}
 use Rattle.call_service.specs.Serving.{Site, Side, is_by_end, AppendsFront, LeavesText, BearsOutSoFar, body_of, IsNew, LeavesUnwritten, IsServed, IsStopped}
@@ -82,17 +84,21 @@ told_unread (NoSpace free needed) is = tt
 told_unread (Done reply) is = absurd is
 told_unread outcome is = absurd is
 
-not_failed : (outcome : Outcome) → IsEnd outcome → outcome ≡ BodyFailed → ⊥
-not_failed outcome is failed = subst IsEnd failed is
+abbrev object_in : TaskEnd → Outcome
+object_in (on_object outcome) = outcome
+object_in end = MovedOften
 
-module _ (tells alone : Type 0) (site : Site) (form : ReplyForm) (c : PutCommand) (found : List Event) (x y : Side) (same : (y.intake) ≡ x.intake) (left : Consumes x.ends.left y.ends.left [])
-    (asks : Asks tells alone site.settings false x.door y.door x.ends.told y.ends.told) (so_far : tells → BearsOutSoFar site (Put c) (body_of []) y.door) where
-  module _ (outcome : Outcome) (is : IsByEvent outcome) (right : tells → IsPutEnd (record { zone = site.zone; asker = site.asker; command = c; bytes = []; end = None }) outcome site.settings y.door) where
-    asks_so : Asks tells alone site.settings (is_by_end outcome) x.door y.door x.ends.told y.ends.told
+not_failed : (outcome : Outcome) → IsEnd outcome → on_object outcome ≡ body_failed → ⊥
+not_failed outcome is failed = subst IsEnd (ap object_in failed) is
+
+module _ (tells alone : Type 0) (site : Site) (form : ReplyForm) (asker : Asker) (c : PutCommand) (found : List Event) (x y : Side) (same : (y.intake) ≡ x.intake) (left : Consumes x.ends.left y.ends.left [])
+    (asks : Asks tells alone site.settings false x.door y.door x.ends.told y.ends.told) (so_far : tells → BearsOutSoFar site (Put asker c) (body_of []) y.door) where
+  module _ (outcome : Outcome) (is : IsByEvent outcome) (right : tells → IsPutEnd (record { zone = site.zone; asker = asker; command = c; bytes = []; end = None }) outcome site.settings y.door) where
+    asks_so : Asks tells alone site.settings (is_by_end (on_object outcome)) x.door y.door x.ends.told y.ends.told
     asks_so = subst (λ b. Asks tells alone site.settings b x.door y.door x.ends.told y.ends.told) (sym is.1) asks
 
     -- the reply was written, and the body left
-    pub left_served : Appends x.ends.taken y.ends.taken (left_text form (Ended outcome)) → IsServed tells alone site form (Put c) Unread x y services.Closed
+    pub left_served : Appends x.ends.taken y.ends.taken (left_text form (Ended outcome)) → IsServed tells alone site form (Put asker c) Unread x y services.Closed
     left_served written = (
       unread,
       tt,
@@ -100,7 +106,7 @@ module _ (tells alone : Type 0) (site : Site) (form : ReplyForm) (c : PutCommand
       record {
         body = [];
         has_fate = (refl, same, left);
-        outcome = outcome;
+        outcome = on_object outcome;
         shown = [];
         written = written;
         right = λ told. ((right told).0, told_unread outcome is.0, refl, of_put (own_events y.door.seen (actor_at y.door)) (right told).1, (right told).2 [] tt, (right told).1);
@@ -109,19 +115,19 @@ module _ (tells alone : Type 0) (site : Site) (form : ReplyForm) (c : PutCommand
       not_failed outcome is.0,
     )
 
-    pub left_stops : (fault : ServeFault) → LeavesText x.ends.taken y.ends.taken (left_text form (Ended outcome)) fault → IsStopped tells alone site form (Put c) Unread found x y fault
-    left_stops faults.OutOfMemory leaves = inl (body_of [], ((refl, same, left), refl), is_by_end outcome, record { unwritten = leaves; asks = asks_so; so_far = so_far })
+    pub left_stops : (fault : ServeFault) → LeavesText x.ends.taken y.ends.taken (left_text form (Ended outcome)) fault → IsStopped tells alone site form (Put asker c) Unread found x y fault
+    left_stops faults.OutOfMemory leaves = inl (body_of [], ((refl, same, left), refl), is_by_end (on_object outcome), record { unwritten = leaves; asks = asks_so; so_far = so_far })
     left_stops faults.WriteFault leaves = (
       record {
         fate = unread;
         suits = tt;
         body = [];
         has_fate = (refl, same, left);
-        outcome = outcome;
+        outcome = on_object outcome;
         shown = [];
         written = leaves;
         right = λ told. ((right told).0, told_unread outcome is.0, refl, of_put (own_events y.door.seen (actor_at y.door)) (right told).1, (right told).2 [] tt, (right told).1);
-        more = is_by_end outcome;
+        more = is_by_end (on_object outcome);
         asks = asks_so;
       },
       refl,
@@ -129,17 +135,17 @@ module _ (tells alone : Type 0) (site : Site) (form : ReplyForm) (c : PutCommand
     left_stops fault leaves = absurd leaves
 
 -- memory was wanting before anything was done
-nothing_left : (tells alone : Type 0) (site : Site) (c : PutCommand) (x : Side) → (tells → IsNew site.settings x.door) → LeavesUnwritten tells alone site (Put c) (body_of []) false x x
-nothing_left tells alone site c x new = record {
+nothing_left : (tells alone : Type 0) (site : Site) (asker : Asker) (c : PutCommand) (x : Side) → (tells → IsNew site.settings x.door) → LeavesUnwritten tells alone site (Put asker c) (body_of []) false x x
+nothing_left tells alone site asker c x new = record {
   unwritten = Appends-nil x.ends.taken;
   asks = none_asks tells alone site.settings x.door x.ends.told (λ told. (new told).legal);
-  so_far = λ told. nothing_done site c x.door (new told).account (new told).events;
+  so_far = λ told. nothing_done site asker c x.door (new told).account (new told).events;
 }
 
-pub nothing_stops : (waits : Bool) (tells alone : Type 0) (site : Site) (form : ReplyForm) (c : PutCommand) (found : List Event) (x : Side) → (x.intake).failed ≡ None → (tells → IsNew site.settings x.door)
-    → IsPutStopped waits tells alone site form c found x x faults.OutOfMemory
-nothing_stops false tells alone site form c found x sound new = inl (body_of [], none_come Fed x.intake x.ends.left sound, false, nothing_left tells alone site c x new)
-nothing_stops true tells alone site form c found x sound new = inl (inl (body_of [], none_come Unread x.intake x.ends.left sound, false, nothing_left tells alone site c x new))
+pub nothing_stops : (waits : Bool) (tells alone : Type 0) (site : Site) (form : ReplyForm) (asker : Asker) (c : PutCommand) (found : List Event) (x : Side) → (x.intake).failed ≡ None → (tells → IsNew site.settings x.door)
+    → IsPutStopped waits tells alone site form asker c found x x faults.OutOfMemory
+nothing_stops false tells alone site form asker c found x sound new = inl (body_of [], none_come Fed x.intake x.ends.left sound, false, nothing_left tells alone site asker c x new)
+nothing_stops true tells alone site form asker c found x sound new = inl (inl (body_of [], none_come Unread x.intake x.ends.left sound, false, nothing_left tells alone site asker c x new))
 
 -- ---- behind the read of the row
 
@@ -161,26 +167,26 @@ module _ (tells alone : Type 0) (settings : SettingsView) (form : ReplyForm) (r 
     right_at outcome ended told =
         subst (λ (q : PutRequest). IsPutEnd q outcome settings y.door) (is_request ∙ first_is r none unended) (run_means t settings y.door outcome ended sound (up told).1)
 
-    pub over_served : (s : Served) → (s ≡ services.Closed) × Appends x.ends.taken y.ends.taken (left_text form (stage_of t)) → IsServedWaiting tells alone (site_at settings r) form r.command x y s
+    pub over_served : (s : Served) → (s ≡ services.Closed) × Appends x.ends.taken y.ends.taken (left_text form (stage_of t)) → IsServedWaiting tells alone (site_at settings r) form r.asker r.command x y s
     over_served s (is, written) =
         let by = by_event (request_of t) (stage_of t) steady over in
         inl (
           is,
-          left_served tells alone (site_at settings r) form r.command found x y same left asks so_far by.0 by.2 (right_at by.0 by.1)
+          left_served tells alone (site_at settings r) form r.asker r.command found x y same left asks so_far by.0 by.2 (right_at by.0 by.1)
               (subst (λ (stage : Stage). Appends x.ends.taken y.ends.taken (left_text form stage)) by.1 written),
           λ told. (reads_first (row_alone told), subst (λ (q : PutRequest). first_refuses q.asker ChangeThing (own_events y.door.seen (actor_at y.door)) ≡ true) is_request (looked.refuses over told)),
         )
 
     pub over_stops : (fault : ServeFault) → LeavesText x.ends.taken y.ends.taken (left_text form (stage_of t)) fault
-        → IsStoppedWaiting tells alone (site_at settings r) form r.command found x y fault
+        → IsStoppedWaiting tells alone (site_at settings r) form r.asker r.command found x y fault
     over_stops fault leaves =
         let by = by_event (request_of t) (stage_of t) steady over in
-        inl (left_stops tells alone (site_at settings r) form r.command found x y same left asks so_far by.0 by.2 (right_at by.0 by.1) fault
+        inl (left_stops tells alone (site_at settings r) form r.asker r.command found x y same left asks so_far by.0 by.2 (right_at by.0 by.1) fault
         (subst (λ (stage : Stage). LeavesText x.ends.taken y.ends.taken (left_text form stage) fault) by.1 leaves))
 
   -- the body is wanted
   module _ (wants : IsOver (stage_of t) → ⊥) where
-    answers : (grown : List ℕ → Type 0) → grown continue_text → Answers tells alone (site_at settings r) r.command x y grown
+    answers : (grown : List ℕ → Type 0) → grown continue_text → Answers tells alone (site_at settings r) r.asker r.command x y grown
     answers grown written = record {
       written = written;
       intake = same;
@@ -192,12 +198,12 @@ module _ (tells alone : Type 0) (settings : SettingsView) (form : ReplyForm) (r 
     }
 
     -- the 100 was not written whole
-    pub halted : (found : List Event) (fault : ServeFault) → fault ≡ faults.WriteFault → AppendsFront x.ends.taken y.ends.taken continue_text → IsStoppedWaiting tells alone (site_at settings r) form r.command found x y fault
+    pub halted : (found : List Event) (fault : ServeFault) → fault ≡ faults.WriteFault → AppendsFront x.ends.taken y.ends.taken continue_text → IsStoppedWaiting tells alone (site_at settings r) form r.asker r.command found x y fault
     halted found fault is front = inr (inl (is, answers (AppendsFront x.ends.taken y.ends.taken) front))
 
     module _ (went : Appends x.ends.taken y.ends.taken continue_text) (z : Side) where
-      pub further_served : (s : Served) → IsServed tells alone (site_at settings r) form (Put r.command) Fed y z s → IsServedWaiting tells alone (site_at settings r) form r.command x z s
+      pub further_served : (s : Served) → IsServed tells alone (site_at settings r) form (Put r.asker r.command) Fed y z s → IsServedWaiting tells alone (site_at settings r) form r.asker r.command x z s
       further_served s goes = inr (record { between = y; continues = answers (Appends x.ends.taken y.ends.taken) went; goes = goes })
 
-      pub further_stops : (found : List Event) (fault : ServeFault) → IsStopped tells alone (site_at settings r) form (Put r.command) Fed found y z fault → IsStoppedWaiting tells alone (site_at settings r) form r.command found x z fault
+      pub further_stops : (found : List Event) (fault : ServeFault) → IsStopped tells alone (site_at settings r) form (Put r.asker r.command) Fed found y z fault → IsStoppedWaiting tells alone (site_at settings r) form r.asker r.command found x z fault
       further_stops found fault goes = inr (inr (record { between = y; continues = answers (Appends x.ends.taken y.ends.taken) went; goes = goes }))

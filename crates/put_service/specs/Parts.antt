@@ -17,6 +17,7 @@ use Rattle.http_model.specs.declared.reply.ReplyForm.{ReplyForm}
 use Rattle.http_chunks.specs.declared.body.BodyEnd.{BodyEnd}
 use Rattle.http_chunks.specs.declared.body.BodyEnd.TheVariants as End
 use Rattle.call_words.specs.Bodies.{Fate, read_whole, broken_off}
+use Rattle.call_words.specs.Ends.{on_object}
 use Rattle.swift_requests.specs.declared.asked.Asked.TheVariants.{Put}
 use Rattle.call_words.specs.Calls.{body_at}
 use Rattle.call_words.specs.Texts.{told_reply, text_if}
@@ -43,11 +44,11 @@ use Rattle.put_service.specs.Standing.{IsEndBy, IsEndAt, IsSteady}
 
 -- where the task is served
 abbrev pub site_at : SettingsView → PutRequest → Site
-site_at settings r = record { settings = settings; zone = r.zone; asker = r.asker }
+site_at settings r = record { settings = settings; zone = r.zone }
 
 -- what the door tells of its actor is what the PUT did so far, of whose body so much came
 abbrev pub DoesSo : SettingsView → PutRequest → Body → DoorView → Type 0
-DoesSo settings r body d = BearsOutSoFar (site_at settings r) (Put r.command) body d
+DoesSo settings r body d = BearsOutSoFar (site_at settings r) (Put r.asker r.command) body d
 
 -- of whose body the task took so much
 abbrev pub HasDone : Type 0 → SettingsView → PutRequest → DoorView → Type 0
@@ -113,7 +114,7 @@ pub record EndsSo (tells alone : Type 0) (settings : SettingsView) (task : Stepp
   pub outcome : Outcome
   pub ended : stage_of task ≡ Ended outcome
   pub is_end : IsEndBy outcome end
-  pub asks : Asks tells alone settings (is_by_end outcome) d e told told'
+  pub asks : Asks tells alone settings (is_by_end (on_object outcome)) d e told told'
 
 -- the body had that fate, and the task ended so
 pub record HasEnded (tells alone : Type 0) (settings : SettingsView) (r : PutRequest) (task : Stepping PutTask) (fate : Fate) (x y : Place) : Type 0 where
@@ -129,7 +130,7 @@ pub record HasEnded (tells alone : Type 0) (settings : SettingsView) (r : PutReq
   pub finished : tells → IsFinished (path_of (own_events y.door.seen (actor_at y.door)))
   pub cut : tells → AreCut r.zone settings.stripe body (own_events y.door.seen (actor_at y.door))
   pub so_far : tells → DoesSo settings r (body_at fate body) y.door
-  pub asks : AsksAt tells alone settings (is_by_end outcome) x y
+  pub asks : AsksAt tells alone settings (is_by_end (on_object outcome)) x y
 
 -- what became of a body that ended so
 abbrev pub fate_of : BodyEnd → Fate

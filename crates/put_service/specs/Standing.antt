@@ -1,6 +1,7 @@
 -- Where the task of a PUT stands, and where it pauses.
 use Rattle.std.specs.Prelude.{◌≡◌, ℕ, ◌<◌, ◌≤◌, Bool, true, false, [], Option, Some, None, Result}
 use Rattle.call_words.specs.Bodies.{Fate, broken_off, IsWrong}
+use Rattle.call_words.specs.Ends.{on_object}
 use Rattle.http_intake.specs.Intake.{IntakeState}
 use Rattle.http_model.specs.declared.reply.ReplyForm.{ReplyForm}
 use Rattle.realm_model.specs.Settings.{SettingsView}
@@ -61,7 +62,7 @@ IsEndAt outcome fate = IsEnd outcome
 
 -- an event brings this end: the end of the body does not
 abbrev pub IsByEvent : Outcome → Type 0
-IsByEvent outcome = IsEnd outcome × (is_by_end outcome ≡ false)
+IsByEvent outcome = IsEnd outcome × (is_by_end (on_object outcome) ≡ false)
 
 -- the end of the body brings the stage's end
 abbrev pub IsByBody : Option BodyEnd → Stage → Type 0

@@ -172,9 +172,9 @@ fn serve_body<'c, D: Door, C: Clock, S: Source, K: Sink>(
 ) -> Result<Served, ServeFault>
     requires ready { IsReady D.tells (⟦<Connection<'c, D, C, S, K> as Connected>⟧.around connection.old) task.old (⟦<Connection<'c, D, C, S, K> as Connected>⟧.side connection.old) form }
     ensures served { IfOk result (IsServed D.tells D.alone (site_at (⟦<Connection<'c, D, C, S, K> as Connected>⟧.around connection.old).settings (request_of task.old)) form
-        (Put (request_of task.old).command) Fed (⟦<Connection<'c, D, C, S, K> as Connected>⟧.side connection.old) (⟦<Connection<'c, D, C, S, K> as Connected>⟧.side connection.new)) }
+        (Put (request_of task.old).asker (request_of task.old).command) Fed (⟦<Connection<'c, D, C, S, K> as Connected>⟧.side connection.old) (⟦<Connection<'c, D, C, S, K> as Connected>⟧.side connection.new)) }
     ensures stopped { IfErr result (IsStopped D.tells D.alone (site_at (⟦<Connection<'c, D, C, S, K> as Connected>⟧.around connection.old).settings (request_of task.old)) form
-        (Put (request_of task.old).command) Fed (⟦<Connection<'c, D, C, S, K> as Connected>⟧.found connection.new) (⟦<Connection<'c, D, C, S, K> as Connected>⟧.side connection.old) (⟦<Connection<'c, D, C, S, K> as Connected>⟧.side connection.new)) }
+        (Put (request_of task.old).asker (request_of task.old).command) Fed (⟦<Connection<'c, D, C, S, K> as Connected>⟧.found connection.new) (⟦<Connection<'c, D, C, S, K> as Connected>⟧.side connection.old) (⟦<Connection<'c, D, C, S, K> as Connected>⟧.side connection.new)) }
     ensures around { StaysAround (⟦<Connection<'c, D, C, S, K> as Connected>⟧.around connection.old) (⟦<Connection<'c, D, C, S, K> as Connected>⟧.around connection.new) result }
 {
     let end = run_put(
@@ -270,9 +270,9 @@ fn serve_waiting<'c, D: Door, C: Clock, S: Source, K: Sink>(
     requires looks { IsLooking (stage_of task.old) }
     requires new { D.tells → IsNew (⟦<Connection<'c, D, C, S, K> as Connected>⟧.around connection.old).settings (⟦<Connection<'c, D, C, S, K> as Connected>⟧.side connection.old).door }
     ensures served { IfOk result (IsServedWaiting D.tells D.alone (site_at (⟦<Connection<'c, D, C, S, K> as Connected>⟧.around connection.old).settings (request_of task.old)) form
-        (request_of task.old).command (⟦<Connection<'c, D, C, S, K> as Connected>⟧.side connection.old) (⟦<Connection<'c, D, C, S, K> as Connected>⟧.side connection.new)) }
+        (request_of task.old).asker (request_of task.old).command (⟦<Connection<'c, D, C, S, K> as Connected>⟧.side connection.old) (⟦<Connection<'c, D, C, S, K> as Connected>⟧.side connection.new)) }
     ensures stopped { IfErr result (IsStoppedWaiting D.tells D.alone (site_at (⟦<Connection<'c, D, C, S, K> as Connected>⟧.around connection.old).settings (request_of task.old)) form
-        (request_of task.old).command (⟦<Connection<'c, D, C, S, K> as Connected>⟧.found connection.new) (⟦<Connection<'c, D, C, S, K> as Connected>⟧.side connection.old) (⟦<Connection<'c, D, C, S, K> as Connected>⟧.side connection.new)) }
+        (request_of task.old).asker (request_of task.old).command (⟦<Connection<'c, D, C, S, K> as Connected>⟧.found connection.new) (⟦<Connection<'c, D, C, S, K> as Connected>⟧.side connection.old) (⟦<Connection<'c, D, C, S, K> as Connected>⟧.side connection.new)) }
     ensures around { StaysAround (⟦<Connection<'c, D, C, S, K> as Connected>⟧.around connection.old) (⟦<Connection<'c, D, C, S, K> as Connected>⟧.around connection.new) result }
 {
     look(alloc, task, connection.door, connection.clock)?;
@@ -295,9 +295,9 @@ fn serve_new<'c, D: Door, C: Clock, S: Source, K: Sink>(
     requires looks { IsLooking (stage_of task.old) }
     requires new { D.tells → IsNew (⟦<Connection<'c, D, C, S, K> as Connected>⟧.around connection.old).settings (⟦<Connection<'c, D, C, S, K> as Connected>⟧.side connection.old).door }
     ensures served { IfOk result (IsPutServed waits D.tells D.alone (site_at (⟦<Connection<'c, D, C, S, K> as Connected>⟧.around connection.old).settings (request_of task.old)) form
-        (request_of task.old).command (⟦<Connection<'c, D, C, S, K> as Connected>⟧.side connection.old) (⟦<Connection<'c, D, C, S, K> as Connected>⟧.side connection.new)) }
+        (request_of task.old).asker (request_of task.old).command (⟦<Connection<'c, D, C, S, K> as Connected>⟧.side connection.old) (⟦<Connection<'c, D, C, S, K> as Connected>⟧.side connection.new)) }
     ensures stopped { IfErr result (IsPutStopped waits D.tells D.alone (site_at (⟦<Connection<'c, D, C, S, K> as Connected>⟧.around connection.old).settings (request_of task.old)) form
-        (request_of task.old).command (⟦<Connection<'c, D, C, S, K> as Connected>⟧.found connection.new) (⟦<Connection<'c, D, C, S, K> as Connected>⟧.side connection.old) (⟦<Connection<'c, D, C, S, K> as Connected>⟧.side connection.new)) }
+        (request_of task.old).asker (request_of task.old).command (⟦<Connection<'c, D, C, S, K> as Connected>⟧.found connection.new) (⟦<Connection<'c, D, C, S, K> as Connected>⟧.side connection.old) (⟦<Connection<'c, D, C, S, K> as Connected>⟧.side connection.new)) }
     ensures around { StaysAround (⟦<Connection<'c, D, C, S, K> as Connected>⟧.around connection.old) (⟦<Connection<'c, D, C, S, K> as Connected>⟧.around connection.new) result }
 {
     if waits {
@@ -327,11 +327,11 @@ pub fn serve_put<'c, D: Door, C: Clock, S: Source, K: Sink>(
 
     // The whole reply was written behind the body, or with the body left; or the input ended inside the body.
     ensures served { IfOk result (IsPutServed waits D.tells D.alone
-        (record { settings = (⟦<Connection<'c, D, C, S, K> as Connected>⟧.around connection.old).settings; zone = zone; asker = asker }) form put (⟦<Connection<'c, D, C, S, K> as Connected>⟧.side connection.old) (⟦<Connection<'c, D, C, S, K> as Connected>⟧.side connection.new)) }
+        (record { settings = (⟦<Connection<'c, D, C, S, K> as Connected>⟧.around connection.old).settings; zone = zone }) form asker put (⟦<Connection<'c, D, C, S, K> as Connected>⟧.side connection.old) (⟦<Connection<'c, D, C, S, K> as Connected>⟧.side connection.new)) }
 
     // Only a write that failed leaves a front of a text.
     ensures stopped { IfErr result (IsPutStopped waits D.tells D.alone
-        (record { settings = (⟦<Connection<'c, D, C, S, K> as Connected>⟧.around connection.old).settings; zone = zone; asker = asker }) form put (⟦<Connection<'c, D, C, S, K> as Connected>⟧.found connection.new) (⟦<Connection<'c, D, C, S, K> as Connected>⟧.side connection.old) (⟦<Connection<'c, D, C, S, K> as Connected>⟧.side connection.new)) }
+        (record { settings = (⟦<Connection<'c, D, C, S, K> as Connected>⟧.around connection.old).settings; zone = zone }) form asker put (⟦<Connection<'c, D, C, S, K> as Connected>⟧.found connection.new) (⟦<Connection<'c, D, C, S, K> as Connected>⟧.side connection.old) (⟦<Connection<'c, D, C, S, K> as Connected>⟧.side connection.new)) }
 
     ensures around { StaysAround (⟦<Connection<'c, D, C, S, K> as Connected>⟧.around connection.old) (⟦<Connection<'c, D, C, S, K> as Connected>⟧.around connection.new) result }
 {

@@ -7,7 +7,7 @@ use Rattle.room_law.specs.Frames.{frames_of_body}
 
 -- the frames that the body of a request takes, where it is put, or as much of it as came before its chunks went wrong
 abbrev pub frames_asked : ℕ → ℕ → Asked → List ℕ → ℕ
-frames_asked frame stripe (Put c) body = frames_of_body frame stripe body
+frames_asked frame stripe (Put asker c) body = frames_of_body frame stripe body
 frames_asked frame stripe asked body = 0
 
 -- and those of all calls together

@@ -2,3 +2,4 @@ pub mod Meanwhile
 pub mod Looks
 pub mod Listing
 pub mod Counted
+pub mod Removed

@@ -14,10 +14,11 @@ ghost use Rattle.list_words.specs.Listings.{rows_of};
 ghost use Rattle.list_law.specs.Maps.{live_names};
 ghost use Rattle.task_list.specs.declared.request.ListRequest.{ListRequest as ListingOf};
 ghost use Rattle.task_list.specs.Listed.{ListedBy};
-ghost use Rattle.task_container.specs.declared.outcome.ContainerReply.TheVariants.{Counted};
+ghost use Rattle.task_container.specs.declared.outcome.ContainerReply.TheVariants.{Counted, Removed};
 ghost use Rattle.task_container.specs.declared.request.ContainerRequest.{ContainerRequest as CountOf};
 ghost use Rattle.task_container.specs.Ends.{IsContainerReply};
 ghost use Rattle.task_container.specs.Requests.{name_of};
+ghost use Rattle.settled_law.specs.Removing.{IsRemovedEmpty};
 ghost use Rattle.settled_law.specs.Resting.{Rests, IsLeftAtRest};
 
 /// A listing begins when no change is under way in the shards of its container's row; up to its end none is
@@ -52,4 +53,13 @@ pub fn counts_of_settled_containers_are_of_their_maps()
         → IsContainerReply r (Counted shown objects bytes) shards (account_of settings (before ++ during) actor)
         (own_events (before ++ during) actor)
         → bytes ≡ min (counts_of (heads (before ++ during) r.zone row.id)).bytes greatest }
+{}
+
+/// A request that removed a container took the row of its account away in zone 1, and no name of the container is live
+/// there, at that event and ever after.
+pub fn removed_containers_are_empty()
+    ensures { (settings : SettingsView) (history : List EventOf) (actor : ActorId)
+        → (r : CountOf) (shards : ℕ) → IsSettings settings → Legal settings history
+        → IsContainerReply r Removed shards (account_of settings history actor) (own_events history actor)
+        → IsRemovedEmpty settings history actor r.asker.account (name_of r.command) }
 {}

@@ -1,6 +1,11 @@
 pub mod Texts
 pub mod PairLemmas
+pub mod Fronts
 pub mod Numbers
 pub mod Refusals
+pub mod Passing
 pub mod OnLiterals
 pub mod ListLaws
+pub mod Cases
+pub mod Rights
+pub mod Puts

@@ -1,7 +1,7 @@
 -- Lists by commas: cut and freed of blanks by the words of std, they are the lists of the standard.
-use Rattle.std.proofs.Common.{◌≡◌, ℕ, suc, ◌+◌, ◌-◌, ◌<◌, ◌≤◌, Bool, true, false, cond, ◌==◌, List, [], ◌∷◌, ◌++◌, length, map, take, drop, get_or, reverse, All, refl, sym, ap, ap₂, subst, ◌∙◌, arith}
+use Rattle.std.proofs.Common.{◌≡◌, ℕ, suc, ◌+◌, ◌-◌, ◌<◌, ◌≤◌, Bool, true, false, cond, ◌==◌, List, [], ◌∷◌, ◌++◌, length, map, take, drop, reverse, All, refl, sym, ap, ap₂, subst, ◌∙◌, arith}
 use Rattle.std.specs.Char.{is_ascii_whitespace}
-use Rattle.std.specs.List.{slice_split, onto_first, prefix_len, list_all}
+use Rattle.std.specs.List.{onto_first, prefix_len, list_all}
 use Rattle.std.proofs.lemmas.Bool.{and_parts}
 use Rattle.std.proofs.lemmas.Bool.Decides.{nat_tests}
 use Rattle.std.proofs.lemmas.List.{reverse-append, reverse-reverse, length-reverse, take-append-drop, take_at, get_or-reverse, length-drop}
@@ -9,7 +9,7 @@ use Rattle.std.proofs.lemmas.List.Elements.{All-head, All-tail, All-nil, All-con
 use Rattle.std.proofs.lemmas.List.Sums.{prefix_len-le-length}
 use Rattle.httparse.specs.Grammar.{is_ows, skip_ows, trim_ows}
 use Rattle.http1.specs.Fields.{cons_first, split_commas, elements}
-use Rattle.swift_auth.specs.Lists.{parts_of, member_in, without_front, without_back}
+use Rattle.swift_auth.specs.Lists.{parts_of, member_in, without_front}
 use Rattle.swift_requests.specs.Etags.{is_field_byte}
 
 -- std and the standard take the byte for a blank, or both do not

@@ -1,34 +1,14 @@
--- Names of metadata, and pairs in the order of a map.
-use Rattle.std.proofs.Common.{◌≡◌, ℕ, ◌==◌, ◌&&◌, Bool, true, List, [], ◌∷◌, ◌++◌, drop, length, map, nat_eq, Option, Some, None, refl, sym, ap, ◌∙◌, subst, arith}
-use Rattle.std.specs.BTreeMap.{insert_entry}
+-- Pairs in the order of a map.
+use Rattle.std.proofs.Common.{◌≡◌, ℕ, true, List, [], ◌∷◌, Option, Some, None, refl, sym, ap, ◌∙◌}
 use Rattle.std.specs.Cmp.Lexicographic.{slice_cmp}
 use Rattle.std.specs.Option.{MatchOption, IsSome}
-use Rattle.std.specs.List.{starts_with}
 use Rattle.std.specs.List.Sorted.{IsStrictlySortedBy}
 use Rattle.std.specs.Map.{keys_of}
 use Rattle.std.specs.Ordering.{nat_cmp, is_lt}
 use Rattle.std.specs.Str.{is_utf8}
-use Rattle.std.specs.Str.Pattern.{LacksTextAt}
 use Rattle.std.proofs.lemmas.Bool.{and_parts, and_from}
-use Rattle.std.proofs.lemmas.Bool.Decides.{nat_tests}
 use Rattle.rgw_types.specs.Pairs.{is_risen}
-use Rattle.http_model.specs.declared.field.Field.{Field}
-use Rattle.swift_requests.specs.Metadata.{meta_prefix, lower_name, is_meta, are_texts}
-
--- ---- names
-
-behind : (text front : List ℕ) → starts_with nat_eq text front ≡ true → text ≡ front ++ drop (length front) text
-behind text [] begins = refl
-behind [] (x ∷ front) begins = cc
-behind (y ∷ text) (x ∷ front) begins =
-    let both = and_parts (x == y) (starts_with nat_eq text front) begins in
-    let head : x ≡ y = grind (arith, nat_tests, both.0) in
-    ap (λ n. n ∷ text) (sym head) ∙ ap (λ rest. x ∷ rest) (behind text front both.1)
-
--- the prefix stands in front of the name of a field of metadata
-pub has_prefix : (field : Field) (name : List ℕ) → is_meta field ≡ true → name ≡ lower_name field → LacksTextAt meta_prefix name 0 → ⊥
-has_prefix field name is same lacks =
-    lacks (drop (length meta_prefix) name) (behind name meta_prefix (ap (λ n. starts_with nat_eq n meta_prefix) same ∙ is))
+use Rattle.swift_requests.specs.Metadata.{are_texts}
 
 -- ---- order
 

@@ -6,25 +6,25 @@ use Rattle.swift_words.specs.declared.target.Target.TheVariants.{Thing, Containe
 use Rattle.swift_words.specs.Parts.{is_name as word_name}
 use Rattle.swift_words.specs.Targets.{has_names}
 use Rattle.swift_reply.specs.declared.reply.SwiftRefusal.{SwiftRefusal}
-use Rattle.swift_reply.specs.declared.reply.SwiftRefusal.TheVariants.{Unauthorized, Invalid, NoLength, TooLarge}
+use Rattle.swift_reply.specs.declared.reply.SwiftRefusal.TheVariants.{Invalid, NoLength, TooLarge}
 use Rattle.swift_reply.specs.declared.reply.Invalid.TheVariants as word
 use Rattle.http_model.specs.declared.head.Head.{Head}
 use Rattle.http_model.specs.Framings.{value_of}
-use Rattle.swift_requests.specs.Asks.{is_user, is_text_field, has_texts, has_put_texts, is_kind_if_any, has_put_sizes, is_without_length, is_above, put_refusal, get_refusal, list_refusal}
+use Rattle.swift_requests.specs.Fields.{is_text_field, has_texts, has_put_texts, is_kind_if_any, has_put_sizes, is_without_length, is_above}
 use Rattle.swift_requests.specs.Metadata.{meta_of, are_texts, are_within}
+use Rattle.swift_requests.specs.Refusals.{put_refusal, get_refusal}
 
 -- ---- PUTs
 
-put_tests : (user texts put_texts sizes short above : Bool) (a b c d e : SwiftRefusal)
-    → cond (not user) (Some a) (cond (not (texts && put_texts)) (Some b) (cond (not sizes) (Some c) (cond short (Some d) (cond above (Some e) None)))) ≡ None
+put_tests : (texts put_texts sizes short above : Bool) (a b c d : SwiftRefusal)
+    → cond (not (texts && put_texts)) (Some a) (cond (not sizes) (Some b) (cond short (Some c) (cond above (Some d) None))) ≡ None
     → (texts ≡ true) × (put_texts ≡ true) × (sizes ≡ true) × (short ≡ false) × (above ≡ false)
-put_tests true true true true false false a b c d e none = (refl, refl, refl, refl, refl)
-put_tests true true true true false true a b c d e none = absurd (cc)
-put_tests true true true true true above a b c d e none = absurd (cc)
-put_tests true true true false short above a b c d e none = absurd (cc)
-put_tests true true false sizes short above a b c d e none = absurd (cc)
-put_tests true false put_texts sizes short above a b c d e none = absurd (cc)
-put_tests false texts put_texts sizes short above a b c d e none = absurd (cc)
+put_tests true true true false false a b c d none = (refl, refl, refl, refl, refl)
+put_tests true true true false true a b c d none = absurd (cc)
+put_tests true true true true above a b c d none = absurd (cc)
+put_tests true true false short above a b c d none = absurd (cc)
+put_tests true false sizes short above a b c d none = absurd (cc)
+put_tests false put_texts sizes short above a b c d none = absurd (cc)
 
 -- its fields are text and within their limits, and its length is told and not above the largest
 pub put_passed : (largest : ℕ) (head : Head) → put_refusal largest head ≡ None
@@ -32,8 +32,8 @@ pub put_passed : (largest : ℕ) (head : Head) → put_refusal largest head ≡ 
     × (is_without_length head.framing ≡ false) × (is_above largest head.framing ≡ false)
 unfolding put_refusal
 put_passed largest head none =
-    put_tests (is_user head) (has_texts head) (has_put_texts head) (has_put_sizes head) (is_without_length head.framing) (is_above largest head.framing)
-    Unauthorized (Invalid word.Value) (Invalid word.Meta) NoLength TooLarge none
+    put_tests (has_texts head) (has_put_texts head) (has_put_sizes head) (is_without_length head.framing) (is_above largest head.framing)
+    (Invalid word.Value) (Invalid word.Meta) NoLength TooLarge none
 
 pub etag_text : (head : Head) → has_put_texts head ≡ true → is_text_field (codes "etag") head ≡ true
 unfolding has_put_texts
@@ -59,19 +59,17 @@ short_kind head value is sent =
 
 -- ---- GETs
 
-get_tests : (user texts above : Bool) (a b c : SwiftRefusal)
-    → cond (not user) (Some a) (cond (not texts) (Some b) (cond above (Some c) None)) ≡ None
+get_tests : (texts above : Bool) (a b : SwiftRefusal) → cond (not texts) (Some a) (cond above (Some b) None) ≡ None
     → (texts ≡ true) × (above ≡ false)
-get_tests true true false a b c none = (refl, refl)
-get_tests true true true a b c none = absurd (cc)
-get_tests true false above a b c none = absurd (cc)
-get_tests false texts above a b c none = absurd (cc)
+get_tests true false a b none = (refl, refl)
+get_tests true true a b none = absurd (cc)
+get_tests false above a b none = absurd (cc)
 
 -- its conditions are text, and its length is not above the largest
 pub get_passed : (largest : ℕ) (head : Head) → get_refusal largest head ≡ None → (has_texts head ≡ true) × (is_above largest head.framing ≡ false)
 unfolding get_refusal
 get_passed largest head none =
-    get_tests (is_user head) (has_texts head) (is_above largest head.framing) Unauthorized (Invalid word.Value) TooLarge none
+    get_tests (has_texts head) (is_above largest head.framing) (Invalid word.Value) TooLarge none
 
 -- ---- targets
 
@@ -84,15 +82,3 @@ thing_names account container name is = let both = and_parts (word_name 256 cont
 pub container_name : (account container : List ℕ) → has_names (Container account container) ≡ true → is_name 256 container ≡ true
 unfolding word_name
 container_name account container is = is
-
--- ---- listings
-
-list_tests : (user above : Bool) (a b : SwiftRefusal) → cond (not user) (Some a) (cond above (Some b) None) ≡ None → above ≡ false
-list_tests true false a b none = refl
-list_tests true true a b none = absurd (cc)
-list_tests false above a b none = absurd (cc)
-
--- its length is not above the largest
-pub list_passed : (largest : ℕ) (head : Head) → list_refusal largest head ≡ None → is_above largest head.framing ≡ false
-unfolding list_refusal
-list_passed largest head none = list_tests (is_user head) (is_above largest head.framing) Unauthorized TooLarge none

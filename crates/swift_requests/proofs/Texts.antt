@@ -6,7 +6,7 @@ use Rattle.std.specs.declared.result.Result.{Result}
 use Rattle.std.specs.declared.result.Result.TheVariants.{Ok, Err}
 use Rattle.std.proofs.lemmas.Bool.{false_from_ne_true}
 use Rattle.std.proofs.lemmas.Str.{IsUtf8-from_is_utf8, is_utf8-from_IsUtf8}
-use Rattle.swift_requests.specs.Asks.{is_text_if_any}
+use Rattle.swift_requests.specs.Fields.{is_text_if_any}
 
 -- the answer of a reader of UTF-8
 abbrev pub ReadsUtf8 : {E : Type 0} → List ℕ → Result (Bor (List ℕ)) E → (E → Type 0) → Type 0

@@ -1,10 +1,6 @@
--- What the head of a request asks (OpenStack Object Storage API v1).
-use Rattle.std.specs.Prelude.{ℕ, Bool, true, false, not, ◌&&◌, ◌||◌, nat_le, nat_lt, List, [], ◌∷◌, length, Option, Some, None, if◌then◌else◌, bytes_eq, codes}
-use Rattle.std.specs.List.{list_any}
-use Rattle.std.specs.Str.{is_utf8}
-use Rattle.http1.specs.Text.{eq_ignore_case}
-use Rattle.object_words.specs.Limits.{media_type_limit}
-use Rattle.swift_auth.specs.Users.{standard_user, account_of}
+-- What the head of a request asks, and of which user (OpenStack Object Storage API v1).
+use Rattle.std.specs.Prelude.{ℕ, Bool, not, ◌&&◌, ◌||◌, nat_lt, List, length, Option, Some, None, if◌then◌else◌, codes}
+use Rattle.swift_auth.specs.Users.{UserView, account_of}
 use Rattle.swift_words.specs.declared.fault.WordFault.{WordFault}
 use Rattle.swift_words.specs.declared.fault.WordFault.TheVariants as faults
 use Rattle.swift_words.specs.declared.target.Target.{Target}
@@ -12,20 +8,114 @@ use Rattle.swift_words.specs.declared.target.Target.TheVariants as targets
 use Rattle.swift_words.specs.declared.query.Query.{Query}
 use Rattle.swift_words.specs.Targets.{target_fault, target_of, asked_by as query_of}
 use Rattle.swift_reply.specs.declared.reply.SwiftRefusal.{SwiftRefusal}
-use Rattle.swift_reply.specs.declared.reply.SwiftRefusal.TheVariants.{NotBuilt, Unauthorized, Invalid, NoPath, NoLength, TargetTooLong, TooLarge}
+use Rattle.swift_reply.specs.declared.reply.SwiftRefusal.TheVariants.{NotBuilt, Unauthorized, Invalid, NoPath, NoMethod, TargetTooLong, TooLarge}
 use Rattle.swift_reply.specs.declared.reply.Invalid.{Invalid as InvalidWord}
 use Rattle.swift_reply.specs.declared.reply.Invalid.TheVariants as word
-use Rattle.http_model.specs.declared.field.Field.{Field}
-use Rattle.http_model.specs.declared.head.Framing.{Framing}
-use Rattle.http_model.specs.declared.head.Framing.TheVariants.{Empty, Length, Chunked}
+use Rattle.swift_reply.specs.declared.reply.TargetKind.TheVariants as kind
+use Rattle.task_container.specs.declared.request.ContainerCommand.TheVariants as container
+use Rattle.task_words.specs.declared.asker.Asker.{Asker}
 use Rattle.http_model.specs.declared.head.Head.{Head}
-use Rattle.http_model.specs.Framings.{value_of}
-use Rattle.http_model.specs.Forms.{is_get, is_put, is_bodiless, has_host}
+use Rattle.http_model.specs.Forms.{is_get, is_put, has_host}
 use Rattle.swift_requests.specs.declared.asked.Asked.{Asked}
-use Rattle.swift_requests.specs.declared.asked.Asked.TheVariants.{BadHost, Refused, Put, Unfed}
-use Rattle.swift_requests.specs.declared.asked.UnfedCommand.TheVariants.{Get, Listing}
+use Rattle.swift_requests.specs.declared.asked.Asked.TheVariants.{BadHost, Refused, Login, Put, Unfed}
+use Rattle.swift_requests.specs.declared.asked.UnfedCommand.TheVariants.{Get, Listing, Container, Account}
+use Rattle.swift_requests.specs.AccountCommands.{account_command, change_command}
+use Rattle.swift_requests.specs.Askers.{asker_of}
 use Rattle.swift_requests.specs.Commands.{put_command, get_command, list_command, listing_form}
-use Rattle.swift_requests.specs.Metadata.{meta_of, are_texts, are_within}
+use Rattle.swift_requests.specs.Fields.{is_sent, is_above}
+use Rattle.swift_requests.specs.Logins.{login_of, host_of}
+use Rattle.swift_requests.specs.Methods.{is_look, is_delete, has_container_method, has_object_method}
+use Rattle.swift_requests.specs.Refusals.{put_refusal, get_refusal, own_refusal, change_refusal}
+
+-- by the refusal, if there is one
+abbrev pub asked_unless : Option SwiftRefusal → Asked → Asked
+asked_unless (Some refusal) asked = Refused refusal
+asked_unless None asked = asked
+
+-- ---- where tokens are asked for
+
+-- 401 where the name and the key are not those of one user, then 413
+abbrev pub login_asked : ℕ → Head → Option UserView → Asked
+login_asked largest head None = Refused Unauthorized
+login_asked largest head (Some user) =
+    if is_above largest head.framing then Refused TooLarge else Login (host_of head) (account_of user) user.token
+
+-- GET alone; a token that was sent is not looked at
+abbrev pub auth_asked : ℕ → List UserView → Head → Asked
+auth_asked largest users head =
+    if is_get head then login_asked largest head (login_of users head) else Refused (NoMethod kind.Auth)
+
+-- ---- accounts
+
+-- 401 for a token of nobody
+abbrev pub account_asked_by : ℕ → Head → Query → Option Asker → Asked
+account_asked_by largest head query None = Refused Unauthorized
+account_asked_by largest head query (Some asker) =
+    asked_unless (own_refusal largest head asker) (Unfed asker (Account (account_command head query) (listing_form query)))
+
+-- GET and HEAD
+abbrev pub account_asked : ℕ → List UserView → Head → Query → List ℕ → Asked
+account_asked largest users head query account =
+    if is_look head then account_asked_by largest head query (asker_of users head account) else Refused (NoMethod kind.Account)
+
+-- ---- containers
+
+-- GET and HEAD: who may is judged by the container's row
+abbrev pub look_asked : ℕ → Head → Query → List ℕ → Asker → Asked
+look_asked largest head query name asker =
+    if is_above largest head.framing then Refused TooLarge
+    else if is_get head then Unfed asker (Listing (list_command name query) (listing_form query))
+    else Unfed asker (Container (container.Head name))
+
+-- PUT and POST
+abbrev pub change_asked : ℕ → Head → List ℕ → Asker → Asked
+change_asked largest head name asker =
+    asked_unless (change_refusal largest head asker) (Unfed asker (Container (change_command head name)))
+
+-- DELETE
+abbrev pub delete_asked : ℕ → Head → List ℕ → Asker → Asked
+delete_asked largest head name asker =
+    asked_unless (own_refusal largest head asker) (Unfed asker (Container (container.Delete name)))
+
+-- 401 for a token of nobody
+abbrev pub container_asked_by : ℕ → Head → Query → List ℕ → Option Asker → Asked
+container_asked_by largest head query name None = Refused Unauthorized
+container_asked_by largest head query name (Some asker) =
+    if is_look head then look_asked largest head query name asker
+    else if is_delete head then delete_asked largest head name asker
+    else change_asked largest head name asker
+
+-- GET, HEAD, PUT, POST and DELETE
+abbrev pub container_asked : ℕ → List UserView → Head → Query → List ℕ → List ℕ → Asked
+container_asked largest users head query account name =
+    if has_container_method head then container_asked_by largest head query name (asker_of users head account)
+    else Refused (NoMethod kind.Container)
+
+-- ---- objects
+
+-- what is served: a GET, a HEAD, or a PUT that copies nothing
+unfoldable pub is_taken : Head → Bool
+is_taken head = is_look head || (is_put head && not (is_sent (codes "x-copy-from") head))
+
+-- who may is judged by the container's row
+abbrev pub put_asked : ℕ → Head → List ℕ → List ℕ → Asker → Asked
+put_asked largest head container name asker = asked_unless (put_refusal largest head) (Put asker (put_command container name head))
+
+abbrev pub get_asked : ℕ → Head → List ℕ → List ℕ → Asker → Asked
+get_asked largest head container name asker = asked_unless (get_refusal largest head) (Unfed asker (Get (get_command container name head)))
+
+-- 401 for a token of nobody
+abbrev pub object_asked_by : ℕ → Head → List ℕ → List ℕ → Option Asker → Asked
+object_asked_by largest head container name None = Refused Unauthorized
+object_asked_by largest head container name (Some asker) =
+    if is_put head then put_asked largest head container name asker else get_asked largest head container name asker
+
+-- 405 for a method that no object takes, then 501 for what is not served yet
+abbrev pub object_asked : ℕ → List UserView → Head → List ℕ → List ℕ → List ℕ → Asked
+object_asked largest users head account container name =
+    if not (has_object_method head) then Refused (NoMethod kind.Object)
+    else if not (is_taken head) then Refused NotBuilt
+    else object_asked_by largest head container name (asker_of users head account)
 
 -- ---- targets
 
@@ -43,142 +133,22 @@ invalid_by faults.BadLimit = word.Limit
 invalid_by faults.BadFormat = word.Format
 invalid_by faults.NotPath = word.Target
 
--- ---- the forms that are taken
-
--- GET, HEAD or PUT
-abbrev pub has_taken_method : Head → Bool
-has_taken_method head = is_get head || (is_bodiless head.method || is_put head)
-
-abbrev pub is_sent : List ℕ → Head → Bool
-is_sent name head = list_any (λ field. eq_ignore_case field.name name) head.fields
-
--- a request for an object has a form that is taken; a PUT is no copy
-unfoldable pub is_taken : Head → Bool
-is_taken head = has_taken_method head && not (is_put head && is_sent (codes "x-copy-from") head)
-
--- the account is that of the one user
-abbrev pub is_own : List ℕ → Bool
-is_own account = bytes_eq account (account_of standard_user)
-
--- ---- fields
-
--- the text was sent, and is this
-abbrev pub is_text : List ℕ → Option (List ℕ) → Bool
-is_text text None = false
-is_text text (Some value) = bytes_eq value text
-
--- the token that counts is the one user's
-unfoldable pub is_user : Head → Bool
-is_user head = is_text standard_user.token (value_of (codes "x-auth-token") head.fields)
-
--- the value is text, where there is one
-abbrev pub is_text_if_any : Option (List ℕ) → Bool
-is_text_if_any None = true
-is_text_if_any (Some value) = is_utf8 value
-
-abbrev pub is_text_field : List ℕ → Head → Bool
-is_text_field name head = is_text_if_any (value_of name head.fields)
-
--- the conditions on ETags are text
-unfoldable pub has_texts : Head → Bool
-has_texts head = is_text_field (codes "if-match") head && is_text_field (codes "if-none-match") head
-
--- what a PUT sends of its content is text: its ETag, its media type and its metadata
-unfoldable pub has_put_texts : Head → Bool
-has_put_texts head =
-    is_text_field (codes "etag") head && (is_text_field (codes "content-type") head && are_texts (meta_of head.fields))
-
--- the value has its size, where there is one
-abbrev pub is_kind_if_any : Option (List ℕ) → Bool
-is_kind_if_any None = true
-is_kind_if_any (Some value) = nat_le (length value) media_type_limit
-
--- the media type and the metadata of a PUT are within their limits
-unfoldable pub has_put_sizes : Head → Bool
-has_put_sizes head = is_kind_if_any (value_of (codes "content-type") head.fields) && are_within (meta_of head.fields)
-
--- ---- lengths
-
--- neither a length is told, nor chunks
-abbrev pub is_without_length : Framing → Bool
-is_without_length Empty = true
-is_without_length (Length n) = false
-is_without_length Chunked = false
-
--- a length above that is told
-abbrev pub is_above : ℕ → Framing → Bool
-is_above largest Empty = false
-is_above largest (Length n) = nat_lt largest n
-is_above largest Chunked = false
-
--- ---- refusals
-
--- the first reason to refuse a PUT by its fields: 401, 400, 411, 413
-unfoldable pub put_refusal : ℕ → Head → Option SwiftRefusal
-put_refusal largest head =
-    if not (is_user head) then Some Unauthorized
-    else if not (has_texts head && has_put_texts head) then Some (Invalid word.Value)
-    else if not (has_put_sizes head) then Some (Invalid word.Meta)
-    else if is_without_length head.framing then Some NoLength
-    else if is_above largest head.framing then Some TooLarge
-    else None
-
--- the first reason to refuse a GET or a HEAD by its fields: 401, 400, 413
-unfoldable pub get_refusal : ℕ → Head → Option SwiftRefusal
-get_refusal largest head =
-    if not (is_user head) then Some Unauthorized
-    else if not (has_texts head) then Some (Invalid word.Value)
-    else if is_above largest head.framing then Some TooLarge
-    else None
-
--- the first reason to refuse a listing by its fields: 401, 413
-unfoldable pub list_refusal : ℕ → Head → Option SwiftRefusal
-list_refusal largest head =
-    if not (is_user head) then Some Unauthorized
-    else if is_above largest head.framing then Some TooLarge
-    else None
-
--- ---- what is asked
-
--- by the refusal, if there is one
-abbrev pub asked_unless : Option SwiftRefusal → Asked → Asked
-asked_unless (Some refusal) asked = Refused refusal
-asked_unless None asked = asked
-
--- of an object
-abbrev pub put_asked : ℕ → List ℕ → List ℕ → Head → Asked
-put_asked largest container name head = asked_unless (put_refusal largest head) (Put (put_command container name head))
-
-abbrev pub get_asked : ℕ → List ℕ → List ℕ → Head → Asked
-get_asked largest container name head = asked_unless (get_refusal largest head) (Unfed (Get (get_command container name head)))
-
-abbrev pub object_asked : ℕ → List ℕ → List ℕ → Head → Asked
-object_asked largest container name head =
-    if is_put head then put_asked largest container name head else get_asked largest container name head
-
--- of a container: its listing
-abbrev pub list_asked : ℕ → List ℕ → Query → Head → Asked
-list_asked largest container query head =
-    asked_unless (list_refusal largest head) (Unfed (Listing (list_command container query) (listing_form query)))
-
--- at what a target names: 404 for no path of the API, 501 for what is not served yet
-abbrev pub asked_at : ℕ → Head → Query → Target → Asked
-asked_at largest head query targets.Unknown = Refused NoPath
-asked_at largest head query targets.Auth = Refused NotBuilt
-asked_at largest head query (targets.Account account) = Refused NotBuilt
-asked_at largest head query (targets.Container account container) =
-    if is_own account && is_get head then list_asked largest container query head else Refused NotBuilt
-asked_at largest head query (targets.Thing account container name) =
-    if is_own account && is_taken head then object_asked largest container name head else Refused NotBuilt
+-- at what a target names: 404 for no path of the API, then 405 and what follows
+abbrev pub asked_at : ℕ → List UserView → Head → Query → Target → Asked
+asked_at largest users head query targets.Unknown = Refused NoPath
+asked_at largest users head query targets.Auth = auth_asked largest users head
+asked_at largest users head query (targets.Account account) = account_asked largest users head query account
+asked_at largest users head query (targets.Container account name) = container_asked largest users head query account name
+asked_at largest users head query (targets.Thing account container name) = object_asked largest users head account container name
 
 -- by the first fault of the target, if it has one: 400
-abbrev pub asked_by : ℕ → Head → Option WordFault → Asked
-asked_by largest head (Some fault) = Refused (Invalid (invalid_by fault))
-asked_by largest head None = asked_at largest head (query_of head.target) (target_of head.target)
+abbrev pub asked_by : ℕ → List UserView → Head → Option WordFault → Asked
+asked_by largest users head (Some fault) = Refused (Invalid (invalid_by fault))
+asked_by largest users head None = asked_at largest users head (query_of head.target) (target_of head.target)
 
 -- the Host fields are judged first (RFC 9112, section 3.2), then the length of the target (414), then what it is
-unfoldable pub asked_of : ℕ → Head → Asked
-asked_of largest head =
+unfoldable pub asked_of : ℕ → List UserView → Head → Asked
+asked_of largest users head =
     if not (has_host head) then BadHost
     else if nat_lt target_limit (length head.target) then Refused TargetTooLong
-    else asked_by largest head (target_fault head.target)
+    else asked_by largest users head (target_fault head.target)

@@ -23,7 +23,7 @@ unwanted largest head = if is_within largest head.framing && not (waits head) th
 
 -- what becomes of the body of a request that asks this
 abbrev pub body_use : ℕ → Head → Asked → BodyUse
-body_use largest head (Put command) = if waits head then Awaited else Fed
+body_use largest head (Put asker command) = if waits head then Awaited else Fed
 body_use largest head (Refused NotBuilt) = Unread
 body_use largest head (Refused TooLarge) = Unread
 body_use largest head asked = unwanted largest head

@@ -11,15 +11,18 @@ use Rattle.http_model.specs.declared.head.Framing.{Framing}
 use Rattle.http_model.specs.declared.head.Framing.TheVariants.{Empty, Length}
 use Rattle.http_model.specs.declared.head.Head.{Head}
 
--- the largest object
-abbrev pub largest : ℕ
-largest = 5368709120
-
 abbrev pub host : Field
 host = record { name = codes "Host"; value = codes "example.com" }
 
+-- the tokens of ann, of bob, and of nobody
 abbrev pub token : Field
 token = record { name = codes "X-Auth-Token"; value = codes "AUTH_tk1" }
+
+abbrev pub bob_token : Field
+bob_token = record { name = codes "x-auth-token"; value = codes "AUTH_tk2" }
+
+abbrev pub lost_token : Field
+lost_token = record { name = codes "X-Auth-Token"; value = codes "AUTH_tk3" }
 
 abbrev pub target : List ℕ
 target = codes "/swift/v1/AUTH_acme/box/k"

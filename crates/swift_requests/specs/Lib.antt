@@ -1,7 +1,16 @@
 pub mod Etags
 pub mod Ranges
 pub mod Metadata
+pub mod Methods
 pub mod Commands
+pub mod Fields
+pub mod Askers
+pub mod Logins
+pub mod Changes
+pub mod AccountCommands
+pub mod Refusals
 pub mod Asks
 pub mod Bodies
+pub mod KnownUsers
 pub mod KnownHeads
+pub mod KnownAccounts

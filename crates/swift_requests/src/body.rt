@@ -60,17 +60,19 @@ pub fn unwanted(largest: u64, head: &Head) -> BodyUse
 }
 
 /// What becomes of the body of a request that asks this, where the largest object has so many bytes
-/// (RFC 9112, section 6.3). A PUT is fed its content, behind a 100 where the client waits for one. The body of
+/// (RFC 9112, section 6.3). A PUT of an object is fed its content, behind a 100 where the client waits for one. The body of
 /// any other request is read and dropped, unless its length is above the largest, the client waits for a 100, or
 /// the refusal is `NotBuilt` or `TooLarge`.
 pub fn body_use(largest: u64, head: &Head, asked: &Asked) -> BodyUse
     ensures { result ≡ body_use largest head.now asked.now }
 {
     match asked {
-        Asked::Put(_) if waits(head) => BodyUse::Awaited,
-        Asked::Put(_) => BodyUse::Fed,
+        Asked::Put { .. } if waits(head) => BodyUse::Awaited,
+        Asked::Put { .. } => BodyUse::Fed,
         Asked::Refused(SwiftRefusal::NotBuilt | SwiftRefusal::TooLarge) => BodyUse::Unread,
-        Asked::BadHost | Asked::Refused(_) | Asked::Unfed(_) => unwanted(largest, head),
+        Asked::BadHost | Asked::Refused(_) | Asked::Login { .. } | Asked::Unfed { .. } => {
+            unwanted(largest, head)
+        }
     }
 }
 

@@ -1,6 +1,6 @@
 //! What the fields of a request say of its command.
 ghost use Rattle.std.specs.Prelude.{◌≡◌, IfOk, true};
-ghost use Rattle.swift_requests.specs.Asks.{has_texts, has_put_texts, has_put_sizes};
+ghost use Rattle.swift_requests.specs.Fields.{has_texts, has_put_texts, has_put_sizes};
 ghost use Rattle.swift_requests.specs.Commands.{second_of, conditions_of, kind_of};
 ghost use Rattle.swift_requests.specs.Ranges.{span_of};
 
@@ -23,7 +23,7 @@ fn second_of(head: &Head, name: &[u8]) -> Option<u64>
 
 /// The conditions of a request (RFC 9110, section 13.1): If-Match and If-None-Match, and, unless it is a
 /// PUT, If-Modified-Since and If-Unmodified-Since. Of a repeated name the last value counts.
-#[tactic(auto, unfolding(crate::specs::Asks::has_texts, crate::specs::Commands::conditions_of))]
+#[tactic(auto, unfolding(crate::specs::Fields::has_texts, crate::specs::Commands::conditions_of))]
 pub(crate) fn conditions(alloc: Global, head: &Head) -> Result<Conditions, AllocError>
     requires { has_texts head.now ≡ true }
     ensures { IfOk result (λ when. when ≡ conditions_of head.now) }

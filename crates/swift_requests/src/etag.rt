@@ -1,7 +1,7 @@
 //! The ETags that a request sends.
 ghost use Rattle.std.specs.Prelude.{◌≡◌, IfOk, true};
 ghost use Rattle.swift_requests.specs.Etags.{without_quotes, etag_in, etags_in, rule_in, rule_of, sent_etag};
-ghost use Rattle.swift_requests.specs.Asks.{is_text_field};
+ghost use Rattle.swift_requests.specs.Fields.{is_text_field};
 ghost use Rattle.std.specs.Prelude.{codes};
 
 use http_model::{Head, field_value};

@@ -1,51 +1,29 @@
-//! Which requests are taken, and who is let ask.
-ghost use Rattle.std.specs.Prelude.{◌≡◌, codes};
+//! What fields and lengths are tested for, and what targets are read as.
+ghost use Rattle.std.specs.Prelude.{◌≡◌, codes, true};
 ghost use Rattle.std.specs.Str.{is_utf8};
-ghost use Rattle.swift_requests.specs.Asks.{has_taken_method, is_sent, is_taken, is_user, is_text_field, has_texts, has_put_texts, has_put_sizes, is_kind_if_any};
-ghost use Rattle.swift_requests.specs.Metadata.{meta_of};
+ghost use Rattle.object_words.specs.Limits.{is_name};
 ghost use Rattle.http_model.specs.Framings.{value_of};
+ghost use Rattle.swift_requests.specs.Asks.{invalid_by};
+ghost use Rattle.swift_requests.specs.Commands.{listing_form};
+ghost use Rattle.swift_requests.specs.Fields.{is_sent, is_text_field, has_texts, has_put_texts, has_put_sizes, is_kind_if_any, is_without_length, is_above};
+ghost use Rattle.swift_requests.specs.Metadata.{meta_of};
 
 use crate::metadata::SentMetadata;
-use http_model::{Head, field_value};
+use http_model::{Framing, Head, field_value};
 use http1::text::eq_ignore_case;
-use object_words::MediaType;
-
-/// The token of the one user.
-const USER_TOKEN: &[u8] = b"AUTH_tk1";
-
-fn has_taken_method(head: &Head) -> bool
-    ensures { result ≡ has_taken_method head.now }
-{
-    head.is_get() || head.is_bodiless() || head.is_put()
-}
+use object_words::{MediaType, Name};
+use rgw_types::Text;
+use swift_reply::{Invalid, ListingForm};
+use swift_words::{Query, WordFault};
 
 /// Whether some field has this name, in any case.
-fn is_sent(head: &Head, name: &[u8]) -> bool
+pub(crate) fn is_sent(head: &Head, name: &[u8]) -> bool
     ensures { result ≡ is_sent name.now head.now }
 {
     head.fields
         .as_slice()
         .iter()
         .any(|field| eq_ignore_case(field.name.as_bytes(), name))
-}
-
-/// Whether a request for an object has a form that is taken: a GET, a HEAD, or a PUT that copies nothing.
-#[tactic(auto, unfolding(crate::specs::Asks::is_taken))]
-pub(crate) fn is_taken(head: &Head) -> bool
-    ensures { result ≡ is_taken head.now }
-{
-    has_taken_method(head) && !(head.is_put() && is_sent(head, b"x-copy-from"))
-}
-
-/// Whether the token that counts is the one user's.
-#[tactic(auto, unfolding(crate::specs::Asks::is_user))]
-pub(crate) fn is_user(head: &Head) -> bool
-    ensures { result ≡ is_user head.now }
-{
-    match field_value(head.fields.as_slice(), b"x-auth-token") {
-        Some(token) => token == USER_TOKEN,
-        None => false,
-    }
 }
 
 pub(crate) fn is_text(value: &[u8]) -> bool
@@ -65,7 +43,7 @@ pub(crate) fn is_text_field(head: &Head, name: &[u8]) -> bool
 }
 
 /// Whether the conditions on ETags are UTF-8: If-Match and If-None-Match.
-#[tactic(auto, unfolding(crate::specs::Asks::has_texts))]
+#[tactic(auto, unfolding(crate::specs::Fields::has_texts))]
 pub(crate) fn has_texts(head: &Head) -> bool
     ensures { result ≡ has_texts head.now }
 {
@@ -73,7 +51,7 @@ pub(crate) fn has_texts(head: &Head) -> bool
 }
 
 /// Whether what a PUT sends of its content is UTF-8: its ETag, its media type and its metadata.
-#[tactic(auto, unfolding(crate::specs::Asks::has_put_texts))]
+#[tactic(auto, unfolding(crate::specs::Fields::has_put_texts))]
 pub(crate) fn has_put_texts(head: &Head, metadata: &SentMetadata) -> bool
     requires { metadata.now ≡ meta_of head.now.fields }
     ensures { result ≡ has_put_texts head.now }
@@ -92,10 +70,58 @@ fn is_kind_if_any(head: &Head) -> bool
 }
 
 /// Whether the media type and the metadata of a PUT are within their limits.
-#[tactic(auto, unfolding(crate::specs::Asks::has_put_sizes))]
+#[tactic(auto, unfolding(crate::specs::Fields::has_put_sizes))]
 pub(crate) fn has_put_sizes(head: &Head, metadata: &SentMetadata) -> bool
     requires { metadata.now ≡ meta_of head.now.fields }
     ensures { result ≡ has_put_sizes head.now }
 {
     is_kind_if_any(head) && metadata.are_within()
+}
+
+pub(crate) fn is_without_length(framing: Framing) -> bool
+    ensures { result ≡ is_without_length framing }
+{
+    framing == Framing::Empty
+}
+
+pub(crate) fn is_above(largest: u64, framing: Framing) -> bool
+    ensures { result ≡ is_above largest framing }
+{
+    match framing {
+        Framing::Length(length) => largest < length,
+        Framing::Empty | Framing::Chunked => false,
+    }
+}
+
+/// How the 400 names what of a target is wrong.
+pub(crate) fn invalid_by(fault: WordFault) -> Invalid
+    ensures { result ≡ invalid_by fault }
+{
+    match fault {
+        WordFault::BadEscape => Invalid::Escape,
+        WordFault::BadUtf8 => Invalid::Utf8,
+        WordFault::BadName => Invalid::Name,
+        WordFault::BadLimit => Invalid::Limit,
+        WordFault::BadFormat => Invalid::Format,
+        WordFault::NotPath | WordFault::OutOfMemory => Invalid::Target,
+    }
+}
+
+/// A text of a target as a name.
+pub(crate) fn name_of<const MOST: usize>(text: Text) -> Name<MOST>
+    requires { is_name MOST text ≡ true }
+    ensures { result ≡ text }
+{
+    Name::new(text).unwrap()
+}
+
+/// How the rows of a listing are written.
+pub(crate) fn listing_form(query: &Query) -> ListingForm
+    ensures { result ≡ listing_form query.now }
+{
+    if query.json {
+        ListingForm::Json
+    } else {
+        ListingForm::Plain
+    }
 }

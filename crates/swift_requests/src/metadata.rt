@@ -16,7 +16,7 @@ use std::marker::Model;
 const META_PREFIX: &str = "x-object-meta-";
 
 /// The most pairs.
-const MOST_PAIRS: usize = 90;
+pub(crate) const MOST_PAIRS: usize = 90;
 
 /// The most bytes of a pair's name.
 const NAME_LIMIT: usize = 128;
@@ -105,7 +105,8 @@ fn pair_name(alloc: Global, field: &Field) -> Result<Text, AllocError>
     Text::from_str(alloc, name.strip_prefix(META_PREFIX).unwrap())
 }
 
-fn is_within(name: &Text, value: &Bytes) -> bool
+/// Whether a pair has a name of 1 to 128 bytes and a value of at most 256 bytes.
+pub(crate) fn is_within(name: &Text, value: &Bytes) -> bool
     ensures { result ≡ is_within (name.now, value.now) }
 {
     !name.is_empty() && name.len() <= NAME_LIMIT && value.len() <= VALUE_LIMIT

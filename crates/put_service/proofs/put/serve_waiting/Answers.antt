@@ -27,7 +27,7 @@ returns-in_err-look-clause-stopped g c =
     let y = side (g.D.Door.told c.look.new.door) c.args.connection.now.intake.now new in
     let p = err_from_is_err_and c.from_residual.result c.from_residual.ensures.1 in
     rw (p.1, p.2)
-    (inl (row_stops g.D.Door.tells g.D.Door.alone (site_at settings r) c.args.form (Put r.command) Unread (g.D.Door.found c.look.new.door) x y (body_of [])
+    (inl (row_stops g.D.Door.tells g.D.Door.alone (site_at settings r) c.args.form (Put r.asker r.command) Unread (g.D.Door.found c.look.new.door) x y (body_of [])
     c.in_err-look.field-0.0 c.in_err-look.ensures.fault (none_come Unread c.args.connection.now.intake.now old.left c.requires.ready.readable.0)
     (record {
       unwritten = Appends-nil old.taken;
@@ -82,7 +82,7 @@ returns-clause-served g c =
     let y = side (g.D.Door.told c.look.new.door) c.args.connection.now.intake.now mid in
     let new = ends_with (g.S.Source.left c.serve_body.new.connection.source.now) (g.K.Sink.taken c.serve_body.new.connection.sink.now) (g.C.Clock.told c.serve_body.new.connection.clock.now) (g.C.Clock.plan c.serve_body.new.connection.clock.now) (g.S.Source.faults c.serve_body.new.connection.source.now) (g.K.Sink.faults c.serve_body.new.connection.sink.now) in
     let z = side (g.D.Door.told c.serve_body.new.connection.door.now) c.serve_body.new.connection.intake.now new in
-    let goes = subst₂ (λ (now : SettingsView) (q : PutRequest). IfOk c.serve_body.result (IsServed g.D.Door.tells g.D.Door.alone (site_at now q) c.args.form (Put q.command) Fed y z)) c.in_ok-look.ensures.stays.settings c.look.ensures.request c.serve_body.ensures.served in
+    let goes = subst₂ (λ (now : SettingsView) (q : PutRequest). IfOk c.serve_body.result (IsServed g.D.Door.tells g.D.Door.alone (site_at now q) c.args.form (Put q.asker q.command) Fed y z)) c.in_ok-look.ensures.stays.settings c.look.ensures.request c.serve_body.ensures.served in
     IfOk-weaker c.serve_body.result _ _
     (further_served g.D.Door.tells g.D.Door.alone settings c.args.form r c.requires.ready.fresh.2 c.requires.ready.fresh.3 c.look.new.task x y refl (Consumes-nil old.left) c.in_ok-look.ensures.asks c.look.ensures.request c.in_ok-look.ensures.sound c.look.ensures.up c.in_ok-look.ensures.looked (search rules) c.in_ok-send.ensures.ok z) goes
 
@@ -97,6 +97,6 @@ returns-clause-stopped g c =
     let new = ends_with (g.S.Source.left c.serve_body.new.connection.source.now) (g.K.Sink.taken c.serve_body.new.connection.sink.now) (g.C.Clock.told c.serve_body.new.connection.clock.now) (g.C.Clock.plan c.serve_body.new.connection.clock.now) (g.S.Source.faults c.serve_body.new.connection.source.now) (g.K.Sink.faults c.serve_body.new.connection.sink.now) in
     let z = side (g.D.Door.told c.serve_body.new.connection.door.now) c.serve_body.new.connection.intake.now new in
     let found = g.D.Door.found c.serve_body.new.connection.door.now in
-    let goes = subst₂ (λ (now : SettingsView) (q : PutRequest). IfErr c.serve_body.result (IsStopped g.D.Door.tells g.D.Door.alone (site_at now q) c.args.form (Put q.command) Fed found y z)) c.in_ok-look.ensures.stays.settings c.look.ensures.request c.serve_body.ensures.stopped in
+    let goes = subst₂ (λ (now : SettingsView) (q : PutRequest). IfErr c.serve_body.result (IsStopped g.D.Door.tells g.D.Door.alone (site_at now q) c.args.form (Put q.asker q.command) Fed found y z)) c.in_ok-look.ensures.stays.settings c.look.ensures.request c.serve_body.ensures.stopped in
     IfErr-weaker c.serve_body.result _ _
     (further_stops g.D.Door.tells g.D.Door.alone settings c.args.form r c.requires.ready.fresh.2 c.requires.ready.fresh.3 c.look.new.task x y refl (Consumes-nil old.left) c.in_ok-look.ensures.asks c.look.ensures.request c.in_ok-look.ensures.sound c.look.ensures.up c.in_ok-look.ensures.looked (search rules) c.in_ok-send.ensures.ok z found) goes

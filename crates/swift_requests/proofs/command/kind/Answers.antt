@@ -1,4 +1,3 @@
-use Rattle.std.proofs.Common.{sym}
 use Rattle.std.proofs.lemmas.Str.{IsUtf8-from_is_utf8}
 use Rattle.swift_requests.proofs.Refusals.{kind_text, short_kind}
 use Rattle.swift_requests.proofs.Texts.{text_value}

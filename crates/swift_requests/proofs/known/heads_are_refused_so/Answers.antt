@@ -4,4 +4,4 @@ use Rattle.swift_requests.proofs.known.heads_are_refused_so.Goals as goal
 
 pub returns : goal.returns
 unfolding heads_on_literals
-returns c = record { host = refl; two_hosts = refl; star = refl; escape = refl; utf8 = refl; name = refl; limit = refl; format = refl; path = refl; auth = refl; account = refl; container = refl; other_account = refl; method = refl; lower = refl; copy = refl; nobody = refl; other_token = refl; text = refl; etag = refl; kind_text = refl; last_text = refl }
+returns c = record { host = refl; two_hosts = refl; star = refl; escape = refl; utf8 = refl; name = refl; limit = refl; format = refl; path = refl; method = refl; lower = refl; deleted = refl; posted = refl; copied = refl; copy = refl; lost = refl; other_token = refl; text = refl; text_of_nobody = refl; etag = refl; kind_text = refl; last_text = refl }

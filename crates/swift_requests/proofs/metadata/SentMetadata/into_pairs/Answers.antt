@@ -6,8 +6,7 @@ use Rattle.std.specs.Ordering.{nat_cmp}
 use Rattle.std.specs.Str.{is_utf8}
 use Rattle.std.proofs.lemmas.Str.{IsUtf8-from_is_utf8}
 use Rattle.rgw_types.specs.Pairs.{is_risen}
-use Rattle.swift_requests.specs.Metadata.{are_texts}
-use Rattle.swift_requests.proofs.PairLemmas.{first_text, rest_texts, entries_rise}
+use Rattle.swift_requests.proofs.PairLemmas.{first_text, entries_rise}
 use Rattle.swift_requests.proofs.metadata.SentMetadata.into_pairs.Goals as goal
 
 pub from_utf8-requires : goal.from_utf8-requires

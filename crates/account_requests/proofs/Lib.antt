@@ -1,4 +1,0 @@
-pub mod Fronts
-pub mod Passing
-pub mod OnLiterals
-pub mod Rights

@@ -1,6 +1,0 @@
-use Rattle.std.proofs.Common.{◌≡◌, [], drop}
-use Rattle.account_requests.specs.Changes.{with_fields}
-use Rattle.account_requests.proofs.changes.SentChanges.read.Given as goal
-
-abbrev pub invariant-loop-field : goal.invariant-loop-field
-invariant-loop-field l = with_fields l.pairs.entries (drop l.field-index l.fields) ≡ with_fields [] l.fn.fields

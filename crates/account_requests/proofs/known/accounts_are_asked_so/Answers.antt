@@ -1,7 +1,0 @@
-use Rattle.std.proofs.Common.{refl}
-use Rattle.account_requests.proofs.OnLiterals.{heads_on_literals}
-use Rattle.account_requests.proofs.known.accounts_are_asked_so.Goals as goal
-
-pub returns : goal.returns
-unfolding heads_on_literals
-returns c = record { all = refl; some = refl; head = refl; own = refl; post = refl; put_by_nobody = refl; delete_by_lost = refl; query_first = refl; nobody = refl; lost = refl; bob = refl; no_user_has_it = refl; too_large = refl; too_large_first = refl }

@@ -1,7 +1,0 @@
-use Rattle.std.proofs.Common.{refl}
-use Rattle.account_requests.proofs.OnLiterals.{heads_on_literals}
-use Rattle.account_requests.proofs.known.askers_are_known_so.Goals as goal
-
-pub returns : goal.returns
-unfolding heads_on_literals
-returns c = record { ann = refl; bob = refl; nobody = refl; lost = refl; empty = refl; last = refl; last_lost = refl }

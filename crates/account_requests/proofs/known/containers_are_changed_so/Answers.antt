@@ -1,7 +1,0 @@
-use Rattle.std.proofs.Common.{refl}
-use Rattle.account_requests.proofs.OnLiterals.{heads_on_literals}
-use Rattle.account_requests.proofs.known.containers_are_changed_so.Goals as goal
-
-pub returns : goal.returns
-unfolding heads_on_literals
-returns c = record { plain = refl; with_body = refl; chunks = refl; opened = refl; lists = refl; pairs = refl; removed = refl; emptied = refl; removed_later = refl; set_later = refl; last_text = refl; other_fields = refl; deleted = refl; deleted_with_fields = refl; longest = refl }
