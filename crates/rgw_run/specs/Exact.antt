@@ -1,6 +1,6 @@
 -- What a run of `once` at one moment replies: the replies of one bucket map, folded over the calls from the empty container, or
 -- from no container.
-use Rattle.std.specs.Prelude.{ℕ, ◌+◌, ◌≤◌, List, [], bytes_eq, Option, Some, None, Result, Ok, Err, IfSome, refl, if◌then◌else◌}
+use Rattle.std.specs.Prelude.{◌≡◌, ℕ, ◌+◌, ◌≤◌, List, [], ◌++◌, bytes_eq, Option, Some, None, Result, Ok, Err, IfSome, refl, if◌then◌else◌}
 use Rattle.gw_io.specs.Ends.{EndsState}
 use Rattle.rgw_model.specs.Stamps.{counted_moment}
 use Rattle.realm_core.specs.Realms.{RealmView}
@@ -18,7 +18,7 @@ use Rattle.gateway.specs.Calls.{place_of}
 use Rattle.gateway.specs.Serving.{LeavesAt, ServesConnection}
 use Rattle.gateway.specs.declared.serve.Served.{Served}
 use Rattle.once_law.specs.Maps.{Rows, no_slots}
-use Rattle.once_law.specs.Folds.{Fixed, AreFolded, AreRepliedOrFull, AreReplied}
+use Rattle.once_law.specs.Folds.{Fixed, AreOfObjects, AreFolded, AreRepliedOrFull, AreReplied}
 use Rattle.room_law.specs.Rooms.{frames_together}
 use Rattle.rgw_run.specs.declared.once_end.OnceEnd.{OnceEnd}
 use Rattle.rgw_run.specs.declared.once_end.OnceEnd.TheVariants.{Unmade, Unbegun, Ended, Stopped}
@@ -55,7 +55,6 @@ one_row settings users (Some bucket) name =
 abbrev pub fixed_at : SettingsView → List UserView → Option (List ℕ) → ℕ → Fixed
 fixed_at settings users bucket moment = record {
   zone = 1;
-  asker = standard_asker;
   rows = one_row settings users bucket;
   clocks = λ actor. counted_moment moment;
 }
@@ -68,6 +67,12 @@ pub record AreExact (settings : SettingsView) (users : List UserView) (bucket : 
   pub full : AreRepliedOrFull calls
   pub found : frames_together settings.frame settings.stripe calls ≤ settings.frames → AreReplied calls
 
+-- The first calls are so replied, up to one on a container or an account: such a call reads or changes rows, which the fold keeps
+-- as they are.
+abbrev pub AreExactFirst : SettingsView → List UserView → Option (List ℕ) → ℕ → List Call → Type 0
+AreExactFirst settings users bucket moment calls =
+    (front others : List Call) → calls ≡ front ++ others → AreOfObjects front → AreExact settings users bucket moment front
+
 -- ---- a run
 
 -- the calls whose replies were written whole are so replied, however the run ended
@@ -75,9 +80,9 @@ abbrev pub IsExactEnd : (settings : SettingsView) (users : List UserView) (bucke
 IsExactEnd settings users bucket moment old new realm Unmade leaves = Unit {0}
 IsExactEnd settings users bucket moment old new realm (Unbegun fault) leaves = Unit {0}
 IsExactEnd settings users bucket moment old new realm (Ended served) leaves =
-    AreExact settings users bucket moment (calls_in settings users leaves.door.seen leaves.ready leaves.door leaves.middle new (Ok served) leaves.serves)
+    AreExactFirst settings users bucket moment (calls_in settings users leaves.door.seen leaves.ready leaves.door leaves.middle new (Ok served) leaves.serves)
 IsExactEnd settings users bucket moment old new realm (Stopped fault) leaves =
-    AreExact settings users bucket moment (calls_in settings users leaves.door.seen leaves.ready leaves.door leaves.middle new (Err fault) leaves.serves)
+    AreExactFirst settings users bucket moment (calls_in settings users leaves.door.seen leaves.ready leaves.door leaves.middle new (Err fault) leaves.serves)
 
 -- a run at one moment, with the replies of the bucket map
 pub record RunsExactly (settings : SettingsView) (users : List UserView) (bucket : Option (List ℕ)) (moment : ℕ) (old new : EndsState) (realm : Option RealmView) (status : ℕ) : Type 0 where
