@@ -40,34 +40,31 @@ module _ (tells alone : Type 0) (place : Place) (k : ℕ) (x z y : Side) (head :
   abbrev largest : ℕ
   largest = place.settings.largest
 
-  abbrev users : List UserView
-  users = place.users
-
   abbrev form : ReplyForm
   form = record { bodiless = bodiless; close = close }
 
-  is_closing : close ≡ closes k head (is_unread (use_of largest users head))
+  is_closing : close ≡ closes k head (is_unread (use_of largest place.users head))
   is_closing = is_close ∙ ap (λ p. closes k head (is_unread p)) (is_plan ∙ ap (body_use largest head) is_asked)
 
-  is_form : form ≡ form_before largest users k head
+  is_form : form ≡ form_before largest place.users k head
   is_form = λ i. record { bodiless = is_bodiless' i; close = (is_close ∙ ap (λ p. closes k head (is_unread p)) (is_plan ∙ ap (body_use largest head) is_asked)) i }
 
   abbrev Served' : Served → Type 0
-  Served' s = Serves tells alone (site_in place) head asked (use_of largest users head) form z y s
+  Served' s = Serves tells alone (site_in place) head asked (use_of largest place.users head) form z y s
 
-  moved_served : (s : Served) → Served' s → Serves tells alone (site_in place) head (asked_of largest users head) (use_of largest users head) (form_before largest users k head) z y s
+  moved_served : (s : Served) → Served' s → Serves tells alone (site_in place) head (asked_of largest place.users head) (use_of largest place.users head) (form_before largest place.users k head) z y s
   moved_served s served =
-      let one = subst (λ (f : ReplyForm). Serves tells alone (site_in place) head asked (use_of largest users head) f z y s) is_form served in
-      subst (λ (a : Asked). Serves tells alone (site_in place) head a (use_of largest users head) (form_before largest users k head) z y s) is_asked one
+      let one = subst (λ (f : ReplyForm). Serves tells alone (site_in place) head asked (use_of largest place.users head) f z y s) is_form served in
+      subst (λ (a : Asked). Serves tells alone (site_in place) head a (use_of largest place.users head) (form_before largest place.users k head) z y s) is_asked one
 
-  served_by : (s t : Served) → s ≡ t → Served' s → Serves tells alone (site_in place) head (asked_of largest users head) (use_of largest users head) (form_before largest users k head) z y t
+  served_by : (s t : Served) → s ≡ t → Served' s → Serves tells alone (site_in place) head (asked_of largest place.users head) (use_of largest place.users head) (form_before largest place.users k head) z y t
   served_by s t is served = moved_served t (subst Served' is served)
 
   -- the form of the reply that was written
-  closed_at : (fate : Fate) → Suits (use_of largest users head) fate → close ≡ true → (form_of k head fate).close ≡ true
+  closed_at : (fate : Fate) → Suits (use_of largest place.users head) fate → close ≡ true → (form_of k head fate).close ≡ true
   closed_at fate suits closed =
-      ap (λ (f : ReplyForm). f.close) (sym (form_suits (is_bodiless head.method) k head (use_of largest users head) fate suits))
-      ∙ shut_closes (form_before largest users k head) fate (sym is_closing ∙ closed)
+      ap (λ (f : ReplyForm). f.close) (sym (form_suits (is_bodiless head.method) k head (use_of largest place.users head) fate suits))
+      ∙ shut_closes (form_before largest place.users k head) fate (sym is_closing ∙ closed)
 
   pub served_cut : (s : Served) → s ≡ services.Cut → Served' s → ServesFrom tells alone place k x.intake.buffer x.door y.door x.ends y.ends 0 conn.Cut
   served_cut s is served = let cut = served_by s services.Cut is served in cut_behind tells alone place k x z y head reads cut.0 cut.1
@@ -76,7 +73,7 @@ module _ (tells alone : Type 0) (place : Place) (k : ℕ) (x z y : Side) (head :
       → Served' s → ServesFrom tells alone place k x.intake.buffer x.door y.door x.ends y.ends 1 end
   served_closed s end is closed ends served = by (served_by s services.Replied is served)
     where
-      by : Serves tells alone (site_in place) head (asked_of largest users head) (use_of largest users head) (form_before largest users k head) z y services.Replied → ServesFrom tells alone place k x.intake.buffer x.door y.door x.ends y.ends 1 end
+      by : Serves tells alone (site_in place) head (asked_of largest place.users head) (use_of largest place.users head) (form_before largest place.users k head) z y services.Replied → ServesFrom tells alone place k x.intake.buffer x.door y.door x.ends y.ends 1 end
       by (fate, whole, shut, r, good) =
           subst (λ (e : ConnEnd). ServesFrom tells alone place k x.intake.buffer x.door y.door x.ends y.ends 1 e) (sym (ends r.ground good ∙ ap (λ a. closing_end a r.ground) is_asked))
           (closes_behind tells alone place k x z y head reads fate r (closed_at fate r.taken.0 closed))
@@ -85,15 +82,15 @@ module _ (tells alone : Type 0) (place : Place) (k : ℕ) (x z y : Side) (head :
       → GoesOn tells alone place k x.intake.buffer y.intake.buffer x.door y.door x.ends y.ends × IsReady largest y.intake
   served_on s is stays served = by (served_by s services.Replied is served)
     where
-      by : Serves tells alone (site_in place) head (asked_of largest users head) (use_of largest users head) (form_before largest users k head) z y services.Replied
+      by : Serves tells alone (site_in place) head (asked_of largest place.users head) (use_of largest place.users head) (form_before largest place.users k head) z y services.Replied
           → GoesOn tells alone place k x.intake.buffer y.intake.buffer x.door y.door x.ends y.ends × IsReady largest y.intake
       by (fate, whole, shut, r, good) = at fate whole shut r
         where
-          at : (fate : Fate) → is_broken fate ≡ false → (is_left fate ≡ true → (form_before largest users k head).close ≡ true) → Replies tells alone (site_in place) head (asked_of largest users head) (use_of largest users head) (form_before largest users k head) fate z y
+          at : (fate : Fate) → is_broken fate ≡ false → (is_left fate ≡ true → (form_before largest place.users k head).close ≡ true) → Replies tells alone (site_in place) head (asked_of largest place.users head) (use_of largest place.users head) (form_before largest place.users k head) fate z y
               → GoesOn tells alone place k x.intake.buffer y.intake.buffer x.door y.door x.ends y.ends × IsReady largest y.intake
           at read_whole whole shut r =
               goes_on tells alone place k x z y head reads read_whole r
-              (ap (λ (f : ReplyForm). f.close) (sym (form_suits (is_bodiless head.method) k head (use_of largest users head) read_whole r.taken.0)) ∙ sym is_closing ∙ stays)
+              (ap (λ (f : ReplyForm). f.close) (sym (form_suits (is_bodiless head.method) k head (use_of largest place.users head) read_whole r.taken.0)) ∙ sym is_closing ∙ stays)
           at (broken_off why) whole shut r = absurd (cc)
           at unread whole shut r =
               let clash : true ≡ false = sym (shut refl) ∙ sym is_closing ∙ stays in
@@ -103,29 +100,29 @@ module _ (tells alone : Type 0) (place : Place) (k : ℕ) (x z y : Side) (head :
   pub served_broken : (s : Served) → s ≡ services.Closed → Served' s → ServesFrom tells alone place k x.intake.buffer x.door y.door x.ends y.ends 1 conn.Closed
   served_broken s is served = by (served_by s services.Closed is served)
     where
-      by : Serves tells alone (site_in place) head (asked_of largest users head) (use_of largest users head) (form_before largest users k head) z y services.Closed → ServesFrom tells alone place k x.intake.buffer x.door y.door x.ends y.ends 1 conn.Closed
+      by : Serves tells alone (site_in place) head (asked_of largest place.users head) (use_of largest place.users head) (form_before largest place.users k head) z y services.Closed → ServesFrom tells alone place k x.intake.buffer x.door y.door x.ends y.ends 1 conn.Closed
       by (fate, left, not, r, good) =
-          let end : closing_end (asked_of largest users head) r.ground ≡ conn.Closed =
-          ap (λ b. cond (b || is_refusing (asked_of largest users head)) conn.Refused conn.Closed) good ∙ ap (λ b. cond b conn.Refused conn.Closed) not in
+          let end : closing_end (asked_of largest place.users head) r.ground ≡ conn.Closed =
+          ap (λ b. cond (b || is_refusing (asked_of largest place.users head)) conn.Refused conn.Closed) good ∙ ap (λ b. cond b conn.Refused conn.Closed) not in
           subst (λ (e : ConnEnd). ServesFrom tells alone place k x.intake.buffer x.door y.door x.ends y.ends 1 e) end
           (closes_behind tells alone place k x z y head reads fate r (ap (closes k head) left ∙ left_closes k head))
 
   pub served_refused : (s : Served) → s ≡ services.Refused → Served' s → ServesFrom tells alone place k x.intake.buffer x.door y.door x.ends y.ends 1 conn.Refused
   served_refused s is served = by (served_by s services.Refused is served)
     where
-      by : Serves tells alone (site_in place) head (asked_of largest users head) (use_of largest users head) (form_before largest users k head) z y services.Refused → ServesFrom tells alone place k x.intake.buffer x.door y.door x.ends y.ends 1 conn.Refused
+      by : Serves tells alone (site_in place) head (asked_of largest place.users head) (use_of largest place.users head) (form_before largest place.users k head) z y services.Refused → ServesFrom tells alone place k x.intake.buffer x.door y.door x.ends y.ends 1 conn.Refused
       by (why, r, failing) =
-          let end : closing_end (asked_of largest users head) r.ground ≡ conn.Refused =
-          ap (λ b. cond (b || is_refusing (asked_of largest users head)) conn.Refused conn.Closed) failing in
+          let end : closing_end (asked_of largest place.users head) r.ground ≡ conn.Refused =
+          ap (λ b. cond (b || is_refusing (asked_of largest place.users head)) conn.Refused conn.Closed) failing in
           subst (λ (e : ConnEnd). ServesFrom tells alone place k x.intake.buffer x.door y.door x.ends y.ends 1 e) end
           (closes_behind tells alone place k x z y head reads (broken_off why) r (left_closes k head))
 
-  pub served_not : (found : List Event) (fault : ServeFault) → (tells → MayBegin place.settings z.door) → Stops tells alone (site_in place) form asked (use_of largest users head) found z y fault
+  pub served_not : (found : List Event) (fault : ServeFault) → (tells → MayBegin place.settings z.door) → Stops tells alone (site_in place) form asked (use_of largest place.users head) found z y fault
       → LeavesAt tells alone place k found x y fault
   served_not found fault may left =
-      let one = subst (λ (f : ReplyForm). Stops tells alone (site_in place) f asked (use_of largest users head) found z y fault) is_form left in
+      let one = subst (λ (f : ReplyForm). Stops tells alone (site_in place) f asked (use_of largest place.users head) found z y fault) is_form left in
       leaves_behind tells alone place k x z y head reads found may fault
-      (subst (λ (a : Asked). Stops tells alone (site_in place) (form_before largest users k head) a (use_of largest users head) found z y fault) is_asked one)
+      (subst (λ (a : Asked). Stops tells alone (site_in place) (form_before largest place.users k head) a (use_of largest place.users head) found z y fault) is_asked one)
 
 -- memory was wanting before the head was judged
 pub not_judged : (tells alone : Type 0) (place : Place) (k : ℕ) (x z : Side) (head : Head) (found : List Event) → (tells → MayBegin place.settings z.door) → ReadsHead place.settings.largest x z head

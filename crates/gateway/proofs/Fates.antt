@@ -1,5 +1,5 @@
 -- What became of a body, and what it makes of a reply.
-use Rattle.std.proofs.Common.{◌≡◌, inl, inr, ℕ, Bool, true, false, cond, ◌||◌, List, [], ◌∷◌, ◌++◌, length, Option, refl, sym, ap, ◌∙◌, subst, subst₂, append-nil, arith}
+use Rattle.std.proofs.Common.{◌≡◌, ◌≢◌, inl, inr, ℕ, Bool, true, false, cond, ◌||◌, List, [], ◌∷◌, ◌++◌, length, Option, refl, sym, ap, ◌∙◌, subst, subst₂, append-nil, arith}
 use Rattle.std.specs.Io.KnownBytes.{Consumes}
 use Rattle.http_chunks.specs.declared.body.BodyEnd.{BodyEnd}
 use Rattle.http_chunks.specs.declared.body.BodyEnd.TheVariants as End

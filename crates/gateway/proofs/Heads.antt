@@ -1,5 +1,5 @@
 -- What a head asks, and what becomes of the bytes behind it.
-use Rattle.std.proofs.Common.{◌≡◌, ℕ, ◌+◌, ◌≤◌, Bool, true, false, not, cond, nat_lt, List, length, Option, Some, None, refl, sym, ap, ◌∙◌, subst, codes, arith}
+use Rattle.std.proofs.Common.{◌≡◌, ℕ, ◌+◌, ◌≤◌, Bool, true, false, not, cond, List, refl, sym, ap, ◌∙◌, subst, codes, arith}
 use Rattle.std.specs.Prelude.{bytes_eq}
 use Rattle.std.proofs.lemmas.Bool.Decides.{nat_tests}
 use Rattle.std.proofs.lemmas.Slice.Eq.{bytes_eq-Decides}
@@ -7,130 +7,27 @@ use Rattle.http_intake.specs.Intake.{IntakeState, is_in_chunks}
 use Rattle.http_model.specs.declared.head.Framing.{Framing}
 use Rattle.http_model.specs.declared.head.Framing.TheVariants.{Empty, Length, Chunked}
 use Rattle.http_model.specs.declared.head.Head.{Head}
-use Rattle.http_model.specs.Forms.{is_get, is_put, is_bodiless, content_length, has_host, waits}
+use Rattle.http_model.specs.Forms.{is_put, is_bodiless, content_length, waits}
 use Rattle.swift_reply.specs.declared.reply.SwiftRefusal.{SwiftRefusal}
 use Rattle.swift_reply.specs.declared.reply.SwiftRefusal.TheVariants as why
-use Rattle.swift_words.specs.declared.fault.WordFault.{WordFault}
-use Rattle.swift_words.specs.declared.target.Target.{Target}
-use Rattle.swift_words.specs.declared.target.Target.TheVariants as targets
-use Rattle.swift_words.specs.declared.query.Query.{Query}
-use Rattle.swift_words.specs.Targets.{target_fault, target_of, asked_by as query_of}
-use Rattle.swift_auth.specs.Users.{UserView, account_of}
-use Rattle.swift_reply.specs.declared.reply.TargetKind.TheVariants as kind
-use Rattle.swift_requests.specs.Askers.{asker_of}
-use Rattle.swift_requests.specs.Asks.{target_limit, asked_unless, login_asked, account_asked_by, look_asked, container_asked_by, is_taken, object_asked_by, asked_at, asked_by, asked_of}
+use Rattle.swift_auth.specs.Users.{UserView}
+use Rattle.swift_requests.specs.Asks.{asked_of}
 use Rattle.swift_requests.specs.Fields.{is_above}
-use Rattle.swift_requests.specs.Logins.{login_of, host_of}
-use Rattle.swift_requests.specs.Methods.{is_look, is_delete, has_container_method, has_object_method}
-use Rattle.swift_requests.specs.Refusals.{put_refusal, get_refusal, own_refusal, change_refusal}
+use Rattle.swift_requests.proofs.Puts.{asks_put}
 use Rattle.swift_requests.proofs.Refusals.{put_passed}
 use Rattle.task_words.specs.declared.asker.Asker.{Asker}
 use Rattle.swift_requests.specs.Bodies.{body_use, is_unread}
 use Rattle.swift_requests.specs.declared.asked.Asked.{Asked}
-use Rattle.swift_requests.specs.declared.asked.Asked.TheVariants.{BadHost, Refused, Login, Put, Unfed}
+use Rattle.swift_requests.specs.declared.asked.Asked.TheVariants.{Refused, Put, Unfed}
 use Rattle.swift_requests.specs.declared.asked.UnfedCommand.{UnfedCommand}
-use Rattle.swift_requests.specs.declared.asked.UnfedCommand.TheVariants.{Get}
 use Rattle.swift_requests.specs.declared.body.BodyUse.{BodyUse}
 use Rattle.swift_requests.specs.declared.body.BodyUse.TheVariants.{Fed, Awaited, Dropped, Unread}
 use Rattle.task_words.specs.declared.command.PutCommand.{PutCommand}
-use Rattle.task_words.specs.declared.command.GetCommand.{GetCommand}
 use Rattle.call_words.specs.Calls.{IsByHead}
 use Rattle.call_words.specs.Streams.{use_of}
 use Rattle.call_service.specs.Bodies.{most_due, most_due_by, dropped_if}
 use Rattle.gateway.specs.Requests.{IsBehindHead}
 use Rattle.gateway.specs.Texts.{is_refusing}
-
--- ---- what is no PUT of an object
-
-abbrev IsNoPut : Asked → Type 0
-IsNoPut (Put asker c) = ⊥
-IsNoPut asked = Unit {0}
-
-no_put : (x : Asked) → IsNoPut x → (asker : Asker) (c : PutCommand) → x ≡ Put asker c → ⊥
-no_put x is asker c e = subst IsNoPut e is
-
-either : (b : Bool) (x y : Asked) → IsNoPut x → IsNoPut y → IsNoPut (cond b x y)
-either true x y first second = first
-either false x y first second = second
-
-unless : (r : Option SwiftRefusal) (x : Asked) → IsNoPut x → IsNoPut (asked_unless r x)
-unless None x is = is
-unless (Some w) x is = tt
-
-module _ (largest : ℕ) (head : Head) (query : Query) where
-  by_login : (user : Option UserView) → IsNoPut (login_asked largest head user)
-  by_login None = tt
-  by_login (Some user) = either (is_above largest head.framing) (Refused why.TooLarge) (Login (host_of head) (account_of user) user.token) tt tt
-
-  by_account : (asker : Option Asker) → IsNoPut (account_asked_by largest head query asker)
-  by_account None = tt
-  by_account (Some asker) = unless (own_refusal largest head asker) _ tt
-
-  by_look : (name : List ℕ) (asker : Asker) → IsNoPut (look_asked largest head query name asker)
-  by_look name asker = either (is_above largest head.framing) _ _ tt (either (is_get head) _ _ tt tt)
-
-  by_container : (name : List ℕ) (asker : Option Asker) → IsNoPut (container_asked_by largest head query name asker)
-  by_container name None = tt
-  by_container name (Some asker) =
-      either (is_look head) _ _ (by_look name asker)
-      (either (is_delete head) _ _ (unless (own_refusal largest head asker) _ tt) (unless (change_refusal largest head asker) _ tt))
-
--- ---- a PUT of an object
-
--- where this test passed, and what it refuses else
-passed : (b : Bool) (w : SwiftRefusal) (x : Asked) (asker : Asker) (c : PutCommand) → cond (not b) (Refused w) x ≡ Put asker c → x ≡ Put asker c
-passed true w x asker c e = e
-passed false w x asker c e = absurd (cc)
-
-host_put : (host : Bool) (x : Asked) (asker : Asker) (c : PutCommand) → cond (not host) BadHost x ≡ Put asker c → x ≡ Put asker c
-host_put true x asker c e = e
-host_put false x asker c e = absurd (cc)
-
-short_put : (long : Bool) (w : SwiftRefusal) (x : Asked) (asker : Asker) (c : PutCommand) → cond long (Refused w) x ≡ Put asker c → x ≡ Put asker c
-short_put true w x asker c e = absurd (cc)
-short_put false w x asker c e = e
-
--- a request for an object that no field refuses
-object_put : (put : Bool) (r g : Option SwiftRefusal) (own asker : Asker) (p c : PutCommand) (q : GetCommand)
-    → cond put (asked_unless r (Put own p)) (asked_unless g (Unfed own (Get q))) ≡ Put asker c → (put ≡ true) × (r ≡ None)
-object_put true None g own asker p c q e = (refl, refl)
-object_put true (Some w) g own asker p c q e = absurd (cc)
-object_put false r None own asker p c q e = absurd (cc)
-object_put false r (Some w) own asker p c q e = absurd (cc)
-
--- the head of a PUT that is served
-pub record AsksPut (largest : ℕ) (head : Head) : Type 0 where
-  pub is_one : is_put head ≡ true
-  pub passed : put_refusal largest head ≡ None
-
-module _ (largest : ℕ) (users : List UserView) (head : Head) (asker : Asker) (c : PutCommand) where
-  by_asker : (container name : List ℕ) (own : Option Asker) → object_asked_by largest head container name own ≡ Put asker c → AsksPut largest head
-  by_asker container name None e = absurd (cc)
-  by_asker container name (Some own) e =
-      let found = object_put (is_put head) (put_refusal largest head) (get_refusal largest head) own asker _ c _ e in
-      record { is_one = found.0; passed = found.1 }
-
-  at_put : (query : Query) (target : Target) → asked_at largest users head query target ≡ Put asker c → AsksPut largest head
-  at_put query targets.Unknown e = absurd (cc)
-  at_put query targets.Auth e =
-      absurd (no_put _ (either (is_get head) _ _ (by_login largest head query (login_of users head)) tt) asker c e)
-  at_put query (targets.Account account) e =
-      absurd (no_put _ (either (is_look head) _ _ (by_account largest head query (asker_of users head account)) tt) asker c e)
-  at_put query (targets.Container account name) e =
-      absurd (no_put _ (either (has_container_method head) _ _ (by_container largest head query name (asker_of users head account)) tt) asker c e)
-  at_put query (targets.Thing account container name) e =
-      by_asker container name (asker_of users head account)
-      (passed (is_taken head) why.NotBuilt _ asker c (passed (has_object_method head) (why.NoMethod kind.Object) _ asker c e))
-
-  by_put : (fault : Option WordFault) → asked_by largest users head fault ≡ Put asker c → AsksPut largest head
-  by_put (Some fault) e = absurd (cc)
-  by_put None e = at_put (query_of head.target) (target_of head.target) e
-
-  asks_put : asked_of largest users head ≡ Put asker c → AsksPut largest head
-  unfolding asked_of
-  asks_put e =
-      let in_length = host_put (has_host head) _ asker c e in
-      by_put (target_fault head.target) (short_put (nat_lt target_limit (length head.target)) why.TargetTooLong _ asker c in_length)
 
 -- ---- methods
 

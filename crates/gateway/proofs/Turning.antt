@@ -115,7 +115,7 @@ module _ (tells alone : Type 0) (site : Site) (form : ReplyForm) (found : List E
       → IsLeftBy alone site z.door y.door
   asked_left (Put asker c) plan z y fault may (b, begins, x) is = task_left z y b may begins (put_asks (is_awaited plan) asker c (side b z.intake z.ends) y fault x) is
   asked_left (Unfed asker u) plan z y fault may (b, begins, x) is = task_left z y b may begins (stopped_asks (Unfed asker u) plan (side b z.intake z.ends) y fault x) is
-  asked_left other plan z y fault may (left, idle) is = same_left alone site z.door y.door may idle.door
+  asked_left other plan z y fault may left is = same_left alone site z.door y.door may left.1.door
 
   request_left : (asked : Asked) (plan : BodyUse) (z y : Side) (fault : ServeFault) → MayBegin site.settings z.door → LeavesRequest tells alone site form asked plan found z y fault → tells
       → IsLeftBy alone site z.door y.door

@@ -10,6 +10,7 @@ use realm_stage::RealmStage;
 use rgw_types::Text;
 use std::alloc::Global;
 use std::str;
+use swift_auth::Users;
 
 /// The 14th of November 2023.
 const MOMENT: u64 = 1_700_000_000_000_000;
@@ -42,7 +43,7 @@ fn sharded(frames: u32, shards: u32) -> anyhow::Result<Settings> {
     settings.context("the settings are within their bounds")
 }
 
-/// A realm in which the container `box` of the one user's account was made.
+/// A realm in which the container `box` of the account of the standard user was made.
 pub fn realm_with_box(alloc: Global, settings: &Settings) -> anyhow::Result<RealmStage> {
     let mut stage = RealmStage::new(alloc, settings)?;
     let name = Text::from_str(alloc, "box")?;
@@ -53,13 +54,14 @@ pub fn realm_with_box(alloc: Global, settings: &Settings) -> anyhow::Result<Real
     Ok(stage)
 }
 
-/// Serves one connection: what was written to it, and how it ended.
+/// Serves one connection where there is the standard user: what was written to it, and how it ended.
 pub fn replies(
     alloc: Global,
     stage: &mut RealmStage,
     bytes: &[u8],
 ) -> anyhow::Result<(Vec<u8>, Served)> {
     let settings = stage.settings();
+    let users = Users::standard(alloc)?;
     settings.has_zone_one();
     let mut source = SliceSource::new(bytes, PIECE, &[]);
     let mut sink = VecSink::new(alloc, 4096, &[]);
@@ -67,6 +69,7 @@ pub fn replies(
     let served = serve_connection(
         alloc,
         &settings,
+        &users,
         stage,
         1,
         &mut source,

@@ -132,6 +132,27 @@ const SCENES: &[Scene] = &[
             b"PUT /swift/v1/AUTH_acme/box/n HTTP/1.1\r\nHost: h\r\nX-Auth-Token: AUTH_tk1\r\nExpect: 200-ok\r\nContent-Length: 5\r\n\r\nhello",
         ],
     },
+    Scene {
+        title: "a user is let in, makes a container, lists the account, and removes the container",
+        frames: 64,
+        connections: &[
+            b"GET /auth/v1.0 HTTP/1.1\r\nHost: h\r\nX-Auth-User: acme:ann\r\nX-Auth-Key: secret\r\n\r\nPUT /swift/v1/AUTH_acme/own HTTP/1.1\r\nHost: h\r\nX-Auth-Token: AUTH_tk1\r\n\r\nPUT /swift/v1/AUTH_acme/own HTTP/1.1\r\nHost: h\r\nX-Auth-Token: AUTH_tk1\r\nX-Container-Meta-Color: red\r\n\r\nPOST /swift/v1/AUTH_acme/own HTTP/1.1\r\nHost: h\r\nX-Auth-Token: AUTH_tk1\r\nX-Container-Read: .r:*,.rlistings\r\n\r\nHEAD /swift/v1/AUTH_acme/own HTTP/1.1\r\nHost: h\r\nX-Auth-Token: AUTH_tk1\r\n\r\nHEAD /swift/v1/AUTH_acme/own HTTP/1.1\r\nHost: h\r\n\r\nGET /swift/v1/AUTH_acme HTTP/1.1\r\nHost: h\r\nX-Auth-Token: AUTH_tk1\r\n\r\nGET /swift/v1/AUTH_acme?format=json HTTP/1.1\r\nHost: h\r\nX-Auth-Token: AUTH_tk1\r\n\r\nHEAD /swift/v1/AUTH_acme HTTP/1.1\r\nHost: h\r\nX-Auth-Token: AUTH_tk1\r\n\r\nDELETE /swift/v1/AUTH_acme/own HTTP/1.1\r\nHost: h\r\nX-Auth-Token: AUTH_tk1\r\n\r\nDELETE /swift/v1/AUTH_acme/own HTTP/1.1\r\nHost: h\r\nX-Auth-Token: AUTH_tk1\r\n\r\nGET /swift/v1/AUTH_acme HTTP/1.1\r\nHost: h\r\nX-Auth-Token: AUTH_tk1\r\n\r\n",
+        ],
+    },
+    Scene {
+        title: "a container that is not empty stays",
+        frames: 64,
+        connections: &[
+            b"PUT /swift/v1/AUTH_acme/box/k HTTP/1.1\r\nHost: h\r\nX-Auth-Token: AUTH_tk1\r\nContent-Type: text/plain\r\nContent-Length: 5\r\n\r\nhelloDELETE /swift/v1/AUTH_acme/box HTTP/1.1\r\nHost: h\r\nX-Auth-Token: AUTH_tk1\r\n\r\nGET /swift/v1/AUTH_acme?format=json HTTP/1.1\r\nHost: h\r\nX-Auth-Token: AUTH_tk1\r\n\r\nHEAD /swift/v1/AUTH_acme HTTP/1.1\r\nHost: h\r\nX-Auth-Token: AUTH_tk1\r\n\r\nGET /swift/v1/AUTH_acme/box/k HTTP/1.1\r\nHost: h\r\nX-Auth-Token: AUTH_tk1\r\n\r\n",
+        ],
+    },
+    Scene {
+        title: "who is not let in, and what a user may not do",
+        frames: 64,
+        connections: &[
+            b"GET /auth/v1.0 HTTP/1.1\r\nHost: h\r\nX-Auth-User: acme:ann\r\nX-Auth-Key: other\r\n\r\nGET /swift/v1/AUTH_acme HTTP/1.1\r\nHost: h\r\n\r\nGET /swift/v1/AUTH_acme HTTP/1.1\r\nHost: h\r\nX-Auth-Token: AUTH_tk2\r\n\r\nGET /swift/v1/AUTH_beta HTTP/1.1\r\nHost: h\r\nX-Auth-Token: AUTH_tk1\r\n\r\nPUT /swift/v1/AUTH_beta/own HTTP/1.1\r\nHost: h\r\nX-Auth-Token: AUTH_tk1\r\n\r\nHEAD /swift/v1/AUTH_acme/box HTTP/1.1\r\nHost: h\r\n\r\nPOST /auth/v1.0 HTTP/1.1\r\nHost: h\r\nX-Auth-Token: AUTH_tk1\r\n\r\nDELETE /swift/v1/AUTH_acme HTTP/1.1\r\nHost: h\r\nX-Auth-Token: AUTH_tk1\r\n\r\nGET /swift/v1/AUTH_acme/box/k HTTP/1.1\r\nHost: h\r\nX-Auth-Token: AUTH_tk1\r\n\r\n",
+        ],
+    },
 ];
 
 /// Serves the connections of each scene to a realm of its own.

@@ -2,12 +2,11 @@
 use Rattle.std.proofs.Common.{◌≡◌, ℕ, false, [], List, refl, sym, subst, arith}
 use Rattle.std.specs.Prelude.{Ok, Err, Result}
 use Rattle.admin_api.specs.Jobs.{IsNew}
-use Rattle.call_service.specs.Serving.{Site}
 use Rattle.call_service.specs.declared.fault.ServeFault.{ServeFault}
 use Rattle.call_service.specs.declared.fault.ServeFault.TheVariants as faults
 use Rattle.door_moments.specs.Acts.{Acts}
 use Rattle.gateway.proofs.Growing.{new_actor, advances_none, advances_both, advances_one}
-use Rattle.gateway.specs.Calls.{Advances, MayBegin}
+use Rattle.gateway.specs.Calls.{Place, Advances, MayBegin}
 use Rattle.gateway.specs.Serving.{IsLeft, ServesConnection}
 use Rattle.gateway.specs.declared.serve.Served.{Served}
 use Rattle.gw_io.specs.Ends.{EndsState}
@@ -18,19 +17,19 @@ use Rattle.realm_model.specs.declared.event.Event.{Event}
 
 -- ---- behind a connection
 
-left_advances : (tells alone : Type 0) (site : Site) (found : List Event) (d e : DoorView) (old new : EndsState) (fault : ServeFault)
-    → IsLeft tells alone site found d e old new fault → tells → Advances site.settings d e
-left_advances tells alone site found d e old new faults.ReadFault left t = (left.1.replied.settled t).advances
-left_advances tells alone site found d e old new faults.OutOfMemory left t = (left.1.settled t).advances
-left_advances tells alone site found d e old new faults.WriteFault left t = (left.1.settled t).advances
-left_advances tells alone site found d e old new faults.Worn left t = (left.1.settled t).advances
-left_advances tells alone site found d e old new (faults.Late read_at clock) left t = (left.1.settled t).advances
+left_advances : (tells alone : Type 0) (place : Place) (found : List Event) (d e : DoorView) (old new : EndsState) (fault : ServeFault)
+    → IsLeft tells alone place found d e old new fault → tells → Advances place.settings d e
+left_advances tells alone place found d e old new faults.ReadFault left t = (left.1.replied.settled t).advances
+left_advances tells alone place found d e old new faults.OutOfMemory left t = (left.1.settled t).advances
+left_advances tells alone place found d e old new faults.WriteFault left t = (left.1.settled t).advances
+left_advances tells alone place found d e old new faults.Worn left t = (left.1.settled t).advances
+left_advances tells alone place found d e old new (faults.Late read_at clock) left t = (left.1.settled t).advances
 
 -- the pass went on, whatever the connection came to
-pub advances_behind : (tells alone : Type 0) (site : Site) (found : List Event) (d e : DoorView) (old new : EndsState) (result : Result Served ServeFault)
-    → ServesConnection tells alone site found d e old new result → tells → Advances site.settings d e
-advances_behind tells alone site found d e old new (Ok served) serves t = (serves.served.replied.settled t).advances
-advances_behind tells alone site found d e old new (Err fault) serves t = left_advances tells alone site found d e old new fault (serves.left fault refl) t
+pub advances_behind : (tells alone : Type 0) (place : Place) (found : List Event) (d e : DoorView) (old new : EndsState) (result : Result Served ServeFault)
+    → ServesConnection tells alone place found d e old new result → tells → Advances place.settings d e
+advances_behind tells alone place found d e old new (Ok served) serves t = (serves.served.replied.settled t).advances
+advances_behind tells alone place found d e old new (Err fault) serves t = left_advances tells alone place found d e old new fault (serves.left fault refl) t
 
 -- ---- a round of jobs
 

@@ -7,19 +7,19 @@ use gw_io::Clock;
 use object_words::BucketName;
 use realm_core::Realm;
 use realm_model::Settings;
-use rgw_types::Text;
 use std::alloc::{AllocError, Global};
 use std::sync::Wait;
 use swift_auth::Users;
 use turn_cell::{DoorFault, Pass, Turn};
 use turn_door::TurnDoor;
 
-/// Makes the container that is named, if one is, at the moment now. It fails only for want of memory: in a
-/// realm that has all its events nothing is made.
+/// Makes the container that is named, if one is, at the moment now, in the account of the first user. It fails
+/// only for want of memory: in a realm that has all its events nothing is made.
 pub(crate) fn prepare<R: Wait, C: Clock>(
     rt: &R,
     alloc: Global,
     settings: &Settings,
+    users: &Users,
     bucket: &Option<BucketName>,
     cell: &Turn<Realm>,
     pass: Pass<Realm>,
@@ -31,19 +31,11 @@ pub(crate) fn prepare<R: Wait, C: Clock>(
     let Some(name) = bucket else {
         return Ok(());
     };
-    let owner = standard_owner(alloc)?;
+    let owner = users.first().account();
     let mut door = TurnDoor::new(rt, cell, pass);
     let moment = clock.now();
-    match preset_bucket(alloc, settings, &mut door, name, &owner, moment) {
+    match preset_bucket(alloc, settings, &mut door, name, owner, moment) {
         Ok(()) | Err(DoorFault::Worn) => Ok(()),
         Err(DoorFault::OutOfMemory) => Err(AllocError),
-    }
-}
-
-/// The account of the one user.
-fn standard_owner(alloc: Global) -> Result<Text, AllocError> {
-    match Users::standard(alloc) {
-        Ok(users) => users.first().account().clone(),
-        Err(_) => Err(AllocError),
     }
 }

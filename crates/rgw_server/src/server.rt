@@ -21,6 +21,7 @@ use std::sync::atomic::AtomicBool;
 use std::sync::atomic::Ordering::SeqCst;
 use std::thread;
 use std::thread::Threads;
+use swift_auth::Users;
 use turn_cell::Turn;
 
 /// What a server is to do.
@@ -57,6 +58,7 @@ fn run_workers<
     rt: &R,
     alloc: Global,
     settings: &Settings,
+    users: &Users,
     cell: &Turn<Realm>,
     posts: Vec<Post<C>>,
     jobs: &Receiver<Job<S, K>>,
@@ -67,7 +69,7 @@ fn run_workers<
 {
     let work = |post: Post<C>|
         requires { IsFresh cell.now post.pass × (cell.now.fixed ≡ settings.now) }
-    { work_at(rt, alloc, settings, cell, post, jobs, gate) };
+    { work_at(rt, alloc, settings, users, cell, post, jobs, gate) };
     // Where memory runs out some have not run; the others end with their port.
     let _worked = thread::map_vec(rt, posts, &work);
 }
@@ -77,6 +79,7 @@ fn serve_posts<R: Wait + Threads + Sync, P: Port + Drop, C: Clock, G: Gate + Syn
     rt: &R,
     alloc: Global,
     settings: &Settings,
+    users: &Users,
     plan: &ServePlan,
     cell: &Turn<Realm>,
     posts: Vec<Post<C>>,
@@ -99,7 +102,7 @@ fn serve_posts<R: Wait + Threads + Sync, P: Port + Drop, C: Clock, G: Gate + Syn
         rt,
         ||
             requires { All (λ post. IsFresh cell.now post.pass) posts.items × (cell.now.fixed ≡ settings.now) }
-        { run_workers(rt, alloc, settings, cell, posts, &jobs, gate) },
+        { run_workers(rt, alloc, settings, users, cell, posts, &jobs, gate) },
         || -> (P, ServeEnd)
             requires { P.port port ≡ opened number }
             ensures { EndsSo number accepts (P.port result.0) result.1 }
@@ -120,6 +123,7 @@ fn serve_beside_jobs<
     rt: &R,
     alloc: Global,
     settings: &Settings,
+    users: &Users,
     plan: &ServePlan,
     cell: &Turn<Realm>,
     posts: Vec<Post<C>>,
@@ -145,7 +149,7 @@ fn serve_beside_jobs<
             requires { All (λ post. IsFresh cell.now post.pass) posts.items × (cell.now.fixed ≡ settings.now) × (P.port port ≡ opened plan.now.port) }
             ensures { EndsSo plan.entry.now.port plan.entry.now.accepts (P.port result.0) result.1 }
         {
-            let ended = serve_posts(rt, alloc, settings, plan, cell, posts, port, gate);
+            let ended = serve_posts(rt, alloc, settings, users, plan, cell, posts, port, gate);
             is_over.store(true, SeqCst);
             ended
         },
@@ -165,6 +169,7 @@ fn serve_port<
     rt: &R,
     alloc: Global,
     settings: &Settings,
+    users: &Users,
     plan: &ServePlan,
     clock: &mut C,
     port: P,
@@ -181,7 +186,9 @@ fn serve_port<
         return (port, ServeEnd::OutOfMemory);
     };
     let maker = cell.split(&mut first, 1);
-    if prepare(rt, alloc, settings, &plan.bucket, &cell, maker, clock).is_err() {
+    let bucket = &plan.bucket;
+    let made = prepare(rt, alloc, settings, users, bucket, &cell, maker, clock);
+    if made.is_err() {
         return (port, ServeEnd::OutOfMemory);
     }
     let Ok(posts) = make_posts(alloc, &cell, &mut first, clock, plan.workers) else {
@@ -192,17 +199,18 @@ fn serve_port<
         clock: clock.twin(),
     };
     serve_beside_jobs(
-        rt, alloc, settings, plan, &cell, posts, job_post, port, gate, pause,
+        rt, alloc, settings, users, plan, &cell, posts, job_post, port, gate, pause,
     )
 }
 
-/// Serves the connections of one port to a new realm, while jobs run over the same realm, until the port
-/// gave as many as were wanted, or is shut, and all were served. A connection's fault ends that connection
-/// alone. The port is taken back.
+/// Serves the connections of one port, by these users, to a new realm, while jobs run over the same realm,
+/// until the port gave as many as were wanted, or is shut, and all were served. A connection's fault ends that
+/// connection alone. The port is taken back.
 pub fn serve<R: Wait + Threads + Sync, C: Clock, N: Net, G: Gate + Sync, T: Pause + Sync>(
     rt: &R,
     alloc: Global,
     settings: &Settings,
+    users: &Users,
     plan: &ServePlan,
     clock: &mut C,
     net: &mut N,
@@ -214,7 +222,7 @@ pub fn serve<R: Wait + Threads + Sync, C: Clock, N: Net, G: Gate + Sync, T: Paus
     let Ok(port) = net.listen(plan.port) else {
         return ServeEnd::Failed;
     };
-    let (port, end) = serve_port(rt, alloc, settings, plan, clock, port, gate, pause);
+    let (port, end) = serve_port(rt, alloc, settings, users, plan, clock, port, gate, pause);
     net.close(port);
     end
 }

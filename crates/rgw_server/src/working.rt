@@ -13,6 +13,7 @@ use realm_door::Door;
 use realm_model::Settings;
 use std::alloc::Global;
 use std::sync::Wait;
+use swift_auth::Users;
 use turn_cell::Turn;
 use turn_door::TurnDoor;
 
@@ -29,6 +30,7 @@ pub(crate) struct Job<S, K> {
 fn serve_job<D: Door, S: Source + Drop, K: Sink + Drop, C: Clock>(
     alloc: Global,
     settings: &Settings,
+    users: &Users,
     door: &mut D,
     clock: &mut C,
     mut source: S,
@@ -41,7 +43,16 @@ fn serve_job<D: Door, S: Source + Drop, K: Sink + Drop, C: Clock>(
     ensures ready { D.tells → MayBegin settings.now (D.told door.new) }
     ensures advances { D.tells → Advances settings.now (D.told door.old) (D.told door.new) }
 {
-    let _served = serve_connection(alloc, settings, door, 1, &mut source, &mut sink, clock);
+    let _served = serve_connection(
+        alloc,
+        settings,
+        users,
+        door,
+        1,
+        &mut source,
+        &mut sink,
+        clock,
+    );
     // The half that is read from closes the connection so that the last reply is not lost.
     drop(source);
     drop(sink);
@@ -52,6 +63,7 @@ fn work<R: Wait, D: Door, S: Source + Drop, K: Sink + Drop, C: Clock, G: Gate>(
     rt: &R,
     alloc: Global,
     settings: &Settings,
+    users: &Users,
     door: &mut D,
     clock: &mut C,
     jobs: &Receiver<Job<S, K>>,
@@ -72,7 +84,7 @@ fn work<R: Wait, D: Door, S: Source + Drop, K: Sink + Drop, C: Clock, G: Gate>(
             sink,
         } = job;
         gate.enter(number);
-        serve_job(alloc, settings, door, clock, source, sink);
+        serve_job(alloc, settings, users, door, clock, source, sink);
         gate.leave(number);
     }
 }
@@ -82,6 +94,7 @@ pub(crate) fn work_at<R: Wait, S: Source + Drop, K: Sink + Drop, C: Clock, G: Ga
     rt: &R,
     alloc: Global,
     settings: &Settings,
+    users: &Users,
     cell: &Turn<Realm>,
     post: Post<C>,
     jobs: &Receiver<Job<S, K>>,
@@ -93,5 +106,7 @@ pub(crate) fn work_at<R: Wait, S: Source + Drop, K: Sink + Drop, C: Clock, G: Ga
     let Post { pass, mut clock } = post;
     settings.has_zone_one();
     let mut door = TurnDoor::new(rt, cell, pass);
-    work(rt, alloc, settings, &mut door, &mut clock, jobs, gate);
+    work(
+        rt, alloc, settings, users, &mut door, &mut clock, jobs, gate,
+    );
 }
