@@ -42,11 +42,13 @@ pub(crate) fn run_server<R: Wait + Threads + Sync, C: Clock, N: Net, T: Pause + 
         bucket,
     };
     let end = match now {
-        None => serve(rt, alloc, &settings, &plan, clock, net, &OpenGate, pause),
+        None => serve(
+            rt, alloc, &settings, &users, &plan, clock, net, &OpenGate, pause,
+        ),
         Some(moment) => {
             let mut still = StepClock::new(moment, 0);
             serve(
-                rt, alloc, &settings, &plan, &mut still, net, &OpenGate, pause,
+                rt, alloc, &settings, &users, &plan, &mut still, net, &OpenGate, pause,
             )
         }
     };

@@ -3,7 +3,7 @@ ghost use Rattle.std.specs.Prelude.{◌≡◌, ◌≤◌};
 ghost use Rattle.gateway.specs.Calls.{MayBegin};
 ghost use Rattle.rgw_server.specs.Posts.{IsFresh};
 
-use crate::fixtures::{EARLY, container, small_settings};
+use crate::fixtures::{EARLY, container, small_settings, standard_users};
 use container_preset::preset_bucket;
 use gateway::serve_connection;
 use gw_io::{SliceSource, StepClock, VecSink};
@@ -15,6 +15,7 @@ use std::alloc::Global;
 use std::sync::Wait;
 use std::test::Fail;
 use std::thread::join;
+use swift_auth::Users;
 use turn_cell::{Pass, Turn};
 use turn_door::TurnDoor;
 
@@ -28,7 +29,13 @@ const GETS: &[u8] =
     b"GET /swift/v1/AUTH_acme/box/k HTTP/1.1\r\nHost: h\r\nX-Auth-Token: AUTH_tk1\r\n\r\nGET /swift/v1/AUTH_acme/bag/m HTTP/1.1\r\nHost: h\r\nX-Auth-Token: AUTH_tk1\r\n\r\n";
 
 // What a connection of these bytes is replied through a door.
-fn replies<D: Door>(alloc: Global, settings: &Settings, door: &mut D, input: &[u8]) -> Vec<u8>
+fn replies<D: Door>(
+    alloc: Global,
+    settings: &Settings,
+    users: &Users,
+    door: &mut D,
+    input: &[u8],
+) -> Vec<u8>
     requires zone { 1 ≤ settings.now.zones }
     requires same { D.settings door.old ≡ settings.now }
     requires ready { D.tells → MayBegin settings.now (D.told door.old) }
@@ -36,7 +43,16 @@ fn replies<D: Door>(alloc: Global, settings: &Settings, door: &mut D, input: &[u
     let mut source = SliceSource::new(input, usize::MAX, &[]);
     let mut sink = VecSink::new(alloc, usize::MAX, &[]);
     let mut clock = StepClock::new(EARLY, 0);
-    let _served = serve_connection(alloc, settings, door, 1, &mut source, &mut sink, &mut clock);
+    let _served = serve_connection(
+        alloc,
+        settings,
+        users,
+        door,
+        1,
+        &mut source,
+        &mut sink,
+        &mut clock,
+    );
     sink.into_bytes()
 }
 
@@ -45,6 +61,7 @@ fn replies_through<R: Wait>(
     rt: &R,
     alloc: Global,
     settings: &Settings,
+    users: &Users,
     cell: &Turn<Realm>,
     pass: Pass<Realm>,
     input: &[u8],
@@ -54,7 +71,7 @@ fn replies_through<R: Wait>(
 {
     settings.has_zone_one();
     let mut door = TurnDoor::new(rt, cell, pass);
-    replies(alloc, settings, &mut door, input)
+    replies(alloc, settings, users, &mut door, input)
 }
 
 // Makes a container through a pass that has seen no event.
@@ -87,6 +104,7 @@ fn begins(reply: &[u8], with: &[u8]) -> bool {
 fn two_passes_of_one_cell_make_a_put_each(rt: HostRuntime) -> Result<(), Fail> {
     let alloc = rt.alloc();
     let settings = small_settings()?;
+    let users = standard_users(alloc)?;
     let Ok(realm) = Realm::new(alloc, &settings) else {
         return Err("no realm")?;
     };
@@ -99,13 +117,13 @@ fn two_passes_of_one_cell_make_a_put_each(rt: HostRuntime) -> Result<(), Fail> {
     let other = cell.split(&mut first, 1);
     let (in_box, in_bag) = join(
         &rt,
-        || replies_through(&rt, alloc, &settings, &cell, one, PUT_IN_BOX),
-        || replies_through(&rt, alloc, &settings, &cell, other, PUT_IN_BAG),
+        || replies_through(&rt, alloc, &settings, &users, &cell, one, PUT_IN_BOX),
+        || replies_through(&rt, alloc, &settings, &users, &cell, other, PUT_IN_BAG),
     );
     assert!(rt; begins(in_box.as_slice(), b"HTTP/1.1 201 Created\r\n"));
     assert!(rt; begins(in_bag.as_slice(), b"HTTP/1.1 201 Created\r\n"));
     let third = cell.split(&mut first, 1);
-    let both = replies_through(&rt, alloc, &settings, &cell, third, GETS);
+    let both = replies_through(&rt, alloc, &settings, &users, &cell, third, GETS);
     assert!(rt; begins(both.as_slice(), b"HTTP/1.1 200 OK\r\n"));
     assert!(rt; both.as_slice().ends_with(b"\r\n\r\nabc"));
     Ok(())

@@ -11,6 +11,7 @@ use std::sync::atomic::AtomicU64;
 use std::sync::atomic::Ordering::SeqCst;
 use std::sync::{Arc, Mutex, Wait};
 use std::test::Fail;
+use swift_auth::Users;
 
 /// A PUT of `hello` and a GET of it.
 pub const PUT_THEN_GET: &[u8] =
@@ -63,6 +64,14 @@ impl Clock for SharedClock<'_> {
 
     fn twin(&self) -> Self {
         *self
+    }
+}
+
+/// The users of a gateway to which none are given.
+pub fn standard_users(alloc: Global) -> Result<Users, Fail> {
+    match Users::standard(alloc) {
+        Ok(users) => Ok(users),
+        Err(_) => Err("no users")?,
     }
 }
 

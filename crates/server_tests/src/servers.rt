@@ -2,7 +2,7 @@
 // place of a test that has no end.
 use crate::fixtures::{
     EARLY, GET, LATE, LOOKS, PUT, PUT_THEN_GET, SHOWN, STORED, STORED_AND_SHOWN, STORED_LATER,
-    SharedClock, has_output, net_of, new_output, plan, small_settings,
+    SharedClock, has_output, net_of, new_output, plan, small_settings, standard_users,
 };
 use gw_io::StepClock;
 use net_io::{Gate, NoPause, OpenGate};
@@ -67,9 +67,10 @@ fn two_connections_are_served_at_once(rt: HostRuntime) -> Result<(), Fail> {
         gave_up: AtomicBool::new(false),
     };
     let settings = small_settings()?;
+    let users = standard_users(alloc)?;
     let plan = plan(alloc, 2, Some(2))?;
     let end = serve(
-        &rt, alloc, &settings, &plan, &mut clock, &mut net, &gate, &NoPause,
+        &rt, alloc, &settings, &users, &plan, &mut clock, &mut net, &gate, &NoPause,
     );
     assert_eq!(rt; end, ServeEnd::Ended);
     assert!(rt; !gate.gave_up.load(SeqCst));
@@ -120,9 +121,10 @@ fn one_realm_for_all_workers(rt: HostRuntime) -> Result<(), Fail> {
         gave_up: AtomicBool::new(false),
     };
     let settings = small_settings()?;
+    let users = standard_users(alloc)?;
     let plan = plan(alloc, 2, Some(2))?;
     let end = serve(
-        &rt, alloc, &settings, &plan, &mut clock, &mut net, &gate, &NoPause,
+        &rt, alloc, &settings, &users, &plan, &mut clock, &mut net, &gate, &NoPause,
     );
     assert_eq!(rt; end, ServeEnd::Ended);
     assert!(rt; !gate.gave_up.load(SeqCst));
@@ -175,9 +177,10 @@ fn jobs_run_in_rounds_over_the_realm_of_the_connections(rt: HostRuntime) -> Resu
         gave_up: AtomicBool::new(false),
     };
     let settings = small_settings()?;
+    let users = standard_users(alloc)?;
     let plan = plan(alloc, 1, None)?;
     let end = serve(
-        &rt, alloc, &settings, &plan, &mut clock, &mut net, &gate, &NoPause,
+        &rt, alloc, &settings, &users, &plan, &mut clock, &mut net, &gate, &NoPause,
     );
     assert_eq!(rt; end, ServeEnd::Ended);
     assert!(rt; !gate.gave_up.load(SeqCst));
@@ -194,9 +197,10 @@ fn a_worker_goes_on_behind_a_cut_connection(rt: HostRuntime) -> Result<(), Fail>
     let mut net = net_of(rt, alloc, [(cut, &first), (PUT_THEN_GET, &second)])?;
     let mut clock = StepClock::new(EARLY, 0);
     let settings = small_settings()?;
+    let users = standard_users(alloc)?;
     let plan = plan(alloc, 1, Some(2))?;
     let end = serve(
-        &rt, alloc, &settings, &plan, &mut clock, &mut net, &OpenGate, &NoPause,
+        &rt, alloc, &settings, &users, &plan, &mut clock, &mut net, &OpenGate, &NoPause,
     );
     assert_eq!(rt; end, ServeEnd::Ended);
     assert!(rt; has_output(&rt, &first, b""));
