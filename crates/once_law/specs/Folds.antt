@@ -160,8 +160,8 @@ IsCutShort outside refusal outcome shown = IsByRow outside refusal outcome × (s
 
 -- ---- one call
 
--- It is of objects: no container's counts are asked for, none is made, changed or removed, and no account is asked for. So it
--- leaves the rows as they are.
+-- An object or a listing is asked for, or the head alone is answered: no container's counts are asked for, none is made, changed
+-- or removed, and no account is asked for. So the rows stay as they are.
 abbrev pub IsOfObjects : Asked → Type 0
 IsOfObjects (Asks.Unfed asker (Container c)) = ⊥
 IsOfObjects (Asks.Unfed asker (Account c listing)) = ⊥
@@ -170,8 +170,8 @@ IsOfObjects asked = Unit {0}
 abbrev pub AreOfObjects : List Call → Type 0
 AreOfObjects calls = AllByRecursion (λ call. IsOfObjects call.asked) calls
 
--- who asks, and the command on an object that it is; none where the request is answered by its head alone, or is none on an
--- object, or has a body that broke off
+-- who asks, and the command on an object that it is; none where the request is answered by its head alone, is none on an object,
+-- or has a body that broke off, or is a PUT whose body was left
 abbrev pub command_in : Asked → Fate → List ℕ → Option (Asker × Command)
 command_in (Asks.Put asker c) read_whole body = Some (asker, put c body)
 command_in (Asks.Unfed asker (Get c)) read_whole body = Some (asker, get c)
