@@ -32,6 +32,12 @@ five o o₁ o₂ o₃ o₄ o₅ a b c d f e₁ e₂ e₃ e₄ e₅ =
     more o₄ o₅ o (((a ++ b) ++ c) ++ d) f e₅ (more o₃ o₄ o ((a ++ b) ++ c) d e₄ (more o₂ o₃ o (a ++ b) c e₃ (more o₁ o₂ o a b e₂ e₁)))
     ∙ simp append_assoc
 
+-- the line of a field with two values between texts
+pub lined : (o o₁ o₂ o₃ o₄ o₅ a b c d e : List ℕ)
+    → o₁ ≡ o ++ a → o₂ ≡ o₁ ++ b → o₃ ≡ o₂ ++ c → o₄ ≡ o₃ ++ d → o₅ ≡ o₄ ++ e
+    → o₅ ≡ o ++ (a ++ ((b ++ c ++ d) ++ e))
+lined o o₁ o₂ o₃ o₄ o₅ a b c d e e₁ e₂ e₃ e₄ e₅ = five o o₁ o₂ o₃ o₄ o₅ a b c d e e₁ e₂ e₃ e₄ e₅ ∙ simp append_assoc
+
 -- two groups of fields and the empty line
 pub ended : (o o₁ o₂ o₃ m g e : List ℕ) → o₁ ≡ o ++ m → o₂ ≡ o₁ ++ g → o₃ ≡ o₂ ++ e → o₃ ≡ o ++ ((m ++ g) ++ e)
 ended o o₁ o₂ o₃ m g e e₁ e₂ e₃ = more o₂ o₃ o (m ++ g) e e₃ (more o₁ o₂ o m g e₂ e₁)
@@ -81,8 +87,26 @@ nothing false none e = e
 pub written_nothing : (form : ReplyForm) → written_body form [] ≡ []
 written_nothing form = nothing form.bodiless [] refl
 
--- a status line, one group of fields and the empty line
-pub bare : (o o₁ o₂ o₃ s k e : List ℕ)
+-- a status line, one group of fields, the empty line and no body
+pub done : (o o₁ o₂ o₃ s k e : List ℕ)
     → o₁ ≡ o ++ s → o₂ ≡ o₁ ++ k → o₃ ≡ o₂ ++ e
-    → o₃ ≡ o ++ (s ++ k ++ e)
-bare o o₁ o₂ o₃ s k e e₁ e₂ e₃ = more o₂ o₃ o (s ++ k) e e₃ (more o₁ o₂ o s k e₂ e₁) ∙ simp append_assoc
+    → o₃ ≡ o ++ ((s ++ k ++ e) ++ [])
+done o o₁ o₂ o₃ s k e e₁ e₂ e₃ = more o₂ o₃ o (s ++ k) e e₃ (more o₁ o₂ o s k e₂ e₁) ∙ simp (append_assoc, append-nil)
+
+-- the same with a field
+pub empty : (o o₁ o₂ o₃ o₄ s a k e : List ℕ)
+    → o₁ ≡ o ++ s → o₂ ≡ o₁ ++ a → o₃ ≡ o₂ ++ k → o₄ ≡ o₃ ++ e
+    → o₄ ≡ o ++ ((s ++ (a ++ k) ++ e) ++ [])
+empty o o₁ o₂ o₃ o₄ s a k e e₁ e₂ e₃ e₄ =
+    more o₃ o₄ o ((s ++ a) ++ k) e e₄ (more o₂ o₃ o (s ++ a) k e₃ (more o₁ o₂ o s a e₂ e₁))
+    ∙ simp (append_assoc, append-nil)
+
+-- a status line, two fields, four groups of fields, the empty line and no body
+pub counted : (o o₁ o₂ o₃ o₄ o₅ o₆ o₇ o₈ s a b m r w k e : List ℕ)
+    → o₁ ≡ o ++ s → o₂ ≡ o₁ ++ a → o₃ ≡ o₂ ++ b → o₄ ≡ o₃ ++ m → o₅ ≡ o₄ ++ r → o₆ ≡ o₅ ++ w → o₇ ≡ o₆ ++ k → o₈ ≡ o₇ ++ e
+    → o₈ ≡ o ++ ((s ++ (a ++ (b ++ (m ++ (r ++ (w ++ k))))) ++ e) ++ [])
+counted o o₁ o₂ o₃ o₄ o₅ o₆ o₇ o₈ s a b m r w k e e₁ e₂ e₃ e₄ e₅ e₆ e₇ e₈ =
+    more o₇ o₈ o ((((((s ++ a) ++ b) ++ m) ++ r) ++ w) ++ k) e e₈
+    (more o₆ o₇ o (((((s ++ a) ++ b) ++ m) ++ r) ++ w) k e₇ (more o₅ o₆ o ((((s ++ a) ++ b) ++ m) ++ r) w e₆
+    (more o₄ o₅ o (((s ++ a) ++ b) ++ m) r e₅ (more o₃ o₄ o ((s ++ a) ++ b) m e₄ (more o₂ o₃ o (s ++ a) b e₃ (more o₁ o₂ o s a e₂ e₁))))))
+    ∙ simp (append_assoc, append-nil)

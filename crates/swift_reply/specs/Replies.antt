@@ -4,6 +4,7 @@ use Rattle.http_model.specs.declared.field.Field.{Field}
 use Rattle.http_model.specs.declared.reply.ReplyForm.{ReplyForm}
 use Rattle.http_model.specs.declared.reply.ReplyHead.{ReplyHead}
 use Rattle.http_model.specs.Replies.{crlf, status_line, field_if, line_kind, line_body, text_of}
+use Rattle.object_words.specs.declared.bucket.Bucket.{Bucket}
 use Rattle.swift_reply.specs.declared.reply.ContainerCounts.{ContainerCounts}
 use Rattle.swift_reply.specs.declared.reply.Denial.{Denial}
 use Rattle.swift_reply.specs.declared.reply.Denial.TheVariants as Denied
@@ -164,6 +165,17 @@ shown_says object (Some span) =
 abbrev pub filled : List ℕ → Option (List ℕ)
 filled [] = None
 filled (b ∷ bs) = Some (b ∷ bs)
+
+-- what is shown of a container with this row, so many objects and bytes, to its own users or to others
+abbrev pub counts_of : Bucket → ℕ → ℕ → Bool → ContainerCounts
+counts_of row objects bytes own = record {
+  objects = objects;
+  bytes = bytes;
+  meta = row.meta;
+  readers = row.readers;
+  writers = row.writers;
+  own = own;
+}
 
 abbrev pub counts_says : ContainerCounts → Says
 counts_says counts = record silent {

@@ -1,7 +1,7 @@
 //! Single fields of replies, at the end of a buffer.
-ghost use Rattle.std.specs.Prelude.{◌≡◌, ◌++◌, OnOk, flat_map};
+ghost use Rattle.std.specs.Prelude.{◌≡◌, ◌++◌, OnOk, decimal, flat_map};
 ghost use Rattle.http_model.specs.Replies.{field_line, closing_fields, content_length_field, etag_field, last_modified_field};
-ghost use Rattle.swift_reply.specs.Fields.{text_field, meta_fields};
+ghost use Rattle.swift_reply.specs.Fields.{text_field, number_field, meta_fields};
 
 use crate::head::push_field;
 use date_words::date_text_of_micros;
@@ -9,12 +9,27 @@ use http_model::ReplyForm;
 use rgw_types::{Pairs, Stamp, Text};
 use std::alloc::AllocError;
 
+/// Adds the digits of a number.
+pub(crate) fn push_number(out: &mut Vec<u8>, n: u64) -> Result<(), AllocError>
+    ensures { OnOk result (out.new.items ≡ out.old.items ++ decimal n) }
+{
+    let mut digits = itoa::Buffer::new();
+    out.extend_from_slice(digits.format(n).as_bytes())
+}
+
+/// Adds a field that is a number.
+pub(crate) fn push_number_field(out: &mut Vec<u8>, name: &str, n: u64) -> Result<(), AllocError>
+    ensures { OnOk result (out.new.items ≡ out.old.items ++ field_line (number_field name.now n)) }
+{
+    let mut digits = itoa::Buffer::new();
+    push_field(out, name, digits.format(n).as_bytes())
+}
+
 /// Adds `Content-Length`.
 pub(crate) fn push_length(out: &mut Vec<u8>, len: u64) -> Result<(), AllocError>
     ensures { OnOk result (out.new.items ≡ out.old.items ++ field_line (content_length_field len)) }
 {
-    let mut digits = itoa::Buffer::new();
-    push_field(out, "Content-Length", digits.format(len).as_bytes())
+    push_number_field(out, "Content-Length", len)
 }
 
 /// Adds `ETag`: the digest in hexadecimal digits.

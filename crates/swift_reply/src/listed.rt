@@ -4,6 +4,7 @@ ghost use Rattle.http_model.specs.Replies.{field_line, content_length_field, con
 ghost use Rattle.swift_reply.specs.declared.reply.SwiftReply.TheVariants.{Listed};
 ghost use Rattle.swift_reply.specs.Replies.{listing_kind, rows_text, listing_text, reply_text};
 
+use crate::bare::push_done;
 use crate::fields::{push_closing, push_length};
 use crate::head::{push_field, push_status};
 use crate::{ListingForm, json_rows, plain_rows};
@@ -53,7 +54,7 @@ fn push_body(out: &mut Vec<u8>, text: &[u8], form: ReplyForm) -> Result<(), Allo
 }
 
 /// Adds the reply with the text of a listing; without a byte it is a 204.
-fn push_listing(
+pub(crate) fn push_listing(
     out: &mut Vec<u8>,
     text: &[u8],
     listing: ListingForm,
@@ -62,10 +63,7 @@ fn push_listing(
     ensures { OnOk result (out.new.items ≡ out.old.items ++ listing_text form listing text.now) }
 {
     if text.is_empty() {
-        push_status(out, StatusCode::NO_CONTENT)?;
-        push_closing(out, form)?;
-        out.extend_from_slice(b"\r\n")?;
-        return Ok(());
+        return push_done(out, form);
     }
     push_status(out, StatusCode::OK)?;
     push_text_fields(out, text.len(), listing)?;

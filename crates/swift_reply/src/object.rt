@@ -6,7 +6,7 @@ ghost use Rattle.swift_reply.specs.Fields.{content_range_field, meta_fields};
 ghost use Rattle.swift_reply.specs.Replies.{reply_head, reply_text};
 
 use crate::ShownSpan;
-use crate::fields::{push_closing, push_etag, push_length, push_meta, push_modified};
+use crate::fields::{push_closing, push_etag, push_length, push_meta, push_modified, push_number};
 use crate::head::{push_field, push_status};
 use http::StatusCode;
 use http_model::ReplyForm;
@@ -104,13 +104,6 @@ pub fn push_same(
     push_closing(out, form)?;
     out.extend_from_slice(b"\r\n")?;
     Ok(())
-}
-
-fn push_number(out: &mut Vec<u8>, n: u64) -> Result<(), AllocError>
-    ensures { OnOk result (out.new.items ≡ out.old.items ++ decimal n) }
-{
-    let mut digits = itoa::Buffer::new();
-    out.extend_from_slice(digits.format(n).as_bytes())
 }
 
 /// Adds the number of the last byte of a span.

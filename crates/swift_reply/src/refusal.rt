@@ -5,7 +5,7 @@ ghost use Rattle.swift_reply.specs.declared.reply.SwiftReply.TheVariants.{Refuse
 ghost use Rattle.swift_reply.specs.Fields.{no_range_field, methods_of};
 ghost use Rattle.swift_reply.specs.Replies.{refusal_code, refusal_front, refusal_rest, refusal_line, own_fields, invalid_word, denial_word, reply_text};
 
-use crate::fields::{push_closing, push_length};
+use crate::fields::{push_closing, push_length, push_number};
 use crate::head::{push_field, push_status};
 use crate::{Denial, Invalid, SwiftRefusal, TargetKind};
 use http::StatusCode;
@@ -144,13 +144,6 @@ fn space_len(free: u32, needed: u32) -> usize
     ensures short { result ≤ 84 }
 {
     digit_count(u64::from(free)) + 4 + digit_count(u64::from(needed))
-}
-
-fn push_number(out: &mut Vec<u8>, n: u64) -> Result<(), AllocError>
-    ensures { OnOk result (out.new.items ≡ out.old.items ++ decimal n) }
-{
-    let mut digits = itoa::Buffer::new();
-    out.extend_from_slice(digits.format(n).as_bytes())
 }
 
 fn push_space(out: &mut Vec<u8>, free: u32, needed: u32) -> Result<(), AllocError>

@@ -1,8 +1,5 @@
-use Rattle.std.proofs.Common.{◌≡◌, ◌++◌, ◌∙◌, ap, subst, OnOk}
+use Rattle.std.proofs.Common.{◌∙◌, ap}
 use Rattle.json.specs.Token.{string}
-use Rattle.json.specs.Tree.{json_tokens}
-use Rattle.serde_json.specs.Written.{outline}
-use Rattle.swift_reply.specs.Listings.{thing_data}
 use Rattle.swift_reply.proofs.Tokens.{five_ok}
 use Rattle.swift_reply.proofs.listing.push_thing.Goals as goal
 
