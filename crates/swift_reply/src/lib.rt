@@ -2,6 +2,7 @@
 #![tactic(auto)]
 
 mod account;
+mod bare;
 mod broken;
 mod container;
 mod fields;
@@ -18,8 +19,9 @@ mod refusal;
 mod reply;
 
 pub use account::{json_accounts, push_account_counted, push_account_listed};
+pub use bare::{push_accepted, push_created, push_done};
 pub use broken::push_bad_request;
-pub use container::{push_accepted, push_counted, push_created, push_done};
+pub use container::push_counted;
 pub use head::write_head;
 pub use known::{
     containers_are_replied_so, listings_are_replied_so, moments_are_written_so,

@@ -4,7 +4,7 @@ ghost use Rattle.http_model.specs.Replies.{field_line, content_length_field, con
 ghost use Rattle.swift_reply.specs.declared.reply.SwiftReply.TheVariants.{Listed};
 ghost use Rattle.swift_reply.specs.Replies.{listing_kind, rows_text, listing_text, reply_text};
 
-use crate::container::push_done;
+use crate::bare::push_done;
 use crate::fields::{push_closing, push_length};
 use crate::head::{push_field, push_status};
 use crate::{ListingForm, json_rows, plain_rows};
