@@ -92,11 +92,13 @@ pub fn push_account_outcome(
     ensures { OnOk result (out.new.items ≡ out.old.items ++ reply_text form (account_reply listing outcome.now) []) }
 {
     match outcome {
-        AccountOutcome::Done(AccountReply::Counted {
-            containers,
-            objects,
-            bytes,
-        }) => push_account_counted(out, *containers, *objects, *bytes, form),
+        AccountOutcome::Done(
+            AccountReply::Counted {
+                containers,
+                objects,
+                bytes,
+            },
+        ) => push_account_counted(out, *containers, *objects, *bytes, form),
         AccountOutcome::Done(AccountReply::Listed(rows)) => {
             push_account_listed(alloc, out, rows, listing, form)
         }
