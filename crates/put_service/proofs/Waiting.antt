@@ -13,7 +13,7 @@ use Rattle.swift_requests.specs.declared.body.BodyUse.TheVariants.{Fed, Unread}
 use Rattle.task_words.specs.declared.asker.Asker.{Asker}
 use Rattle.task_words.specs.declared.command.PutCommand.{PutCommand}
 use Rattle.task_words.specs.declared.outcome.Outcome.{Outcome}
-use Rattle.task_words.specs.declared.outcome.Outcome.TheVariants.{Done, BodyFailed, Busy, MovedOften, LateTag, NoSpace}
+use Rattle.task_words.specs.declared.outcome.Outcome.TheVariants.{Done, Busy, MovedOften, LateTag, NoSpace}
 use Rattle.task_words.specs.declared.reply.MapReply.TheVariants.{Stored, Refused}
 use Rattle.realm_door.specs.declared.stepping.Stepping.{Stepping}
 use Rattle.task_put.specs.Stages.{IsOver}
