@@ -40,33 +40,26 @@ unmade settings users bucket ends realm none = record {
 
 unmade_by : (now : Option ℕ) (settings : SettingsView) (users : List UserView) (bucket : Option (List ℕ)) (ends : EndsState) (realm : Option RealmView) → realm ≡ None → RunsBy now settings users bucket ends ends realm 4
 unmade_by None settings users bucket ends realm none = unmade settings users bucket ends realm none
-unmade_by (Some moment) settings bucket ends realm none =
+unmade_by (Some moment) settings users bucket ends realm none =
     record { told = []; each = λ k d few. absurd (omega (arith, few)); runs = unmade settings users bucket (with_clock ends moment []) realm none; plan = refl }
 
 scripted_unmade : (script : Option RunWords) (ends : EndsState) (realm : Option RealmView) → realm ≡ None → IfSome script (λ asked. RunsScripted asked ends ends realm 4)
 scripted_unmade None ends realm none = tt
 scripted_unmade (Some script) ends realm none = inl (record { none = none; same = refl; memory = refl })
 
--- the words were not read for want of memory
-pub unread : (once : Option RunWords) (script : Option RunWords) (may_ask : Bool) (ends : EndsState) (realm : Option RealmView) → realm ≡ None → IsSome once → RunsAlone once script may_ask ends ends realm 4
-unread (Some once) script may_ask ends realm none there = record {
-  refused = λ e. absurd (omega (arith, e));
-  neither = λ e. absurd (cc);
-  nothing = λ e. absurd (cc);
-  once_runs = unmade_by once.now once.settings once.users once.bucket ends realm none;
-  script_runs = scripted_unmade script ends realm none;
-}
-unread None script may_ask ends realm none there = absurd (cc)
+once_unmade : (once : Option RunWords) (ends : EndsState) (realm : Option RealmView) → realm ≡ None → IfSome once (λ asked. RunsOnce asked ends ends realm 4)
+once_unmade None ends realm none = tt
+once_unmade (Some once) ends realm none = unmade_by once.now once.settings once.users once.bucket ends realm none
 
-pub unread_script : (once : Option RunWords) (script : Option RunWords) (may_ask : Bool) (ends : EndsState) (realm : Option RealmView) → once ≡ None → realm ≡ None → may_ask ≡ true → RunsAlone once script may_ask ends ends realm 4
-unread_script None script may_ask ends realm other none may = record {
+-- the words were not read for want of memory
+pub unread : (once : Option RunWords) (script : Option RunWords) (may_ask : Bool) (ends : EndsState) (realm : Option RealmView) → realm ≡ None → may_ask ≡ true → RunsAlone once script may_ask ends ends realm 4
+unread once script may_ask ends realm none may = record {
   refused = λ e. absurd (omega (arith, e));
   neither = λ _ _. inr (refl, may);
   nothing = λ _ _. (none, refl);
-  once_runs = tt;
+  once_runs = once_unmade once ends realm none;
   script_runs = scripted_unmade script ends realm none;
 }
-unread_script (Some once) script may_ask ends realm other none may = absurd (cc)
 
 -- ---- no status of a run is that of refused words
 
@@ -95,7 +88,7 @@ not_refused (Stopped fault) e = not_of_fault fault e
 
 once_not_refused : (now : Option ℕ) (settings : SettingsView) (users : List UserView) (bucket : Option (List ℕ)) (old new : EndsState) (realm : Option RealmView) (status : ℕ) → RunsBy now settings users bucket old new realm status → status ≡ 1 → ⊥
 once_not_refused None settings users bucket old new realm status runs e = not_refused runs.end (sym runs.ended ∙ e)
-once_not_refused (Some moment) settings bucket old new realm status runs e = not_refused runs.runs.end (sym runs.runs.ended ∙ e)
+once_not_refused (Some moment) settings users bucket old new realm status runs e = not_refused runs.runs.end (sym runs.runs.ended ∙ e)
 
 script_not_refused : (result : Result (Unit {0}) ScriptFault) → script_status result ≡ 1 → ⊥
 script_not_refused (Ok done) e = absurd (omega (arith, e))

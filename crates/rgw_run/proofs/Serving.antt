@@ -36,11 +36,6 @@ module _ (once script : Option RunWords) (may_ask : Bool) (old new : EndsState) 
   pub serves_so : (serve : Option ServeWords) (asked : ServeWords) → serve ≡ Some asked → RunsServer asked net later realm status → Runs once script may_ask serve old new net later realm status
   serves_so serve asked is runs = subst (λ s. Runs once script may_ask s old new net later realm status) (sym is) (serves asked runs)
 
-  -- they were not read for want of memory
-  pub unread_server : (serve : Option ServeWords) → IsSome serve → later ≡ net → realm ≡ None → status ≡ 4 → Runs once script may_ask serve old new net later realm status
-  unread_server (Some asked) there same none memory = serves asked (record { served = inl (record { same = same; memory = memory }); none = none })
-  unread_server None there same none memory = absurd (cc)
-
   runs_else : RunsAlone once script may_ask old new realm status → Runs once script may_ask None old new net later realm status
   runs_else runs = record {
     refused = λ is. let both = runs.refused is in (both.0, both.1, refl);
@@ -52,6 +47,13 @@ module _ (once script : Option RunWords) (may_ask : Bool) (old new : EndsState) 
   -- they ask for none
   pub runs_alone_so : (serve : Option ServeWords) → serve ≡ None → RunsAlone once script may_ask old new realm status → Runs once script may_ask serve old new net later realm status
   runs_alone_so serve none runs = subst (λ s. Runs once script may_ask s old new net later realm status) (sym none) (runs_else runs)
+
+-- the words were not read for want of memory
+pub unread_server : (once script : Option RunWords) (may_ask : Bool) (serve : Option ServeWords) (ends : EndsState) (net : NetState) (realm : Option RealmView) → realm ≡ None → may_ask ≡ true
+    → Runs once script may_ask serve ends ends net net realm 4
+unread_server once script may_ask (Some asked) ends net realm none may =
+    serves once script may_ask ends ends net net realm 4 asked (record { served = inl (record { same = refl; memory = refl }); none = none })
+unread_server once script may_ask None ends net realm none may = runs_else once script may_ask ends ends net net realm 4 (unread once script may_ask ends realm none may)
 
 -- words that ask for a server say nothing of the replies of one connection
 pub nothing_exact : (once : Option RunWords) (old new : EndsState) (realm : Option RealmView) (status : ℕ) → once ≡ None → RunsExactlyIf once old new realm status

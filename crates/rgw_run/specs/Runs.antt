@@ -169,7 +169,7 @@ abbrev pub RunsOnce : RunWords → EndsState → EndsState → Option RealmView 
 RunsOnce once old new realm status = RunsBy once.now once.settings once.users once.bucket old new realm status
 
 -- What a run with such words comes to, which ask to serve one connection, or to run a script, or neither, and then nothing
--- happens. Those that ask for neither are refused; but memory may be wanting to read the text of the users of a script.
+-- happens. Those that ask for neither are refused; but memory may be wanting to read the text of their users.
 pub record RunsAlone (once : Option RunWords) (script : Option RunWords) (may_ask : Bool) (old new : EndsState) (realm : Option RealmView) (status : ℕ) : Type 0 where
   pub refused : status ≡ 1 → (once ≡ None) × (script ≡ None)
   pub neither : once ≡ None → script ≡ None → (status ≡ 1) ⊎ ((status ≡ 4) × (may_ask ≡ true))

@@ -41,7 +41,7 @@ pub record RunsServer (asked : ServeWords) (old new : NetState) (realm : Option 
   pub none : realm ≡ None
 
 -- What a run with such words comes to, which ask to serve one connection, to run a script, to serve those of a port, or nothing
--- of these, and are refused then; but memory may be wanting to read the text of the users of a script.
+-- of these, and are refused then; but memory may be wanting to read the text of their users.
 pub record Runs (once : Option RunWords) (script : Option RunWords) (may_ask : Bool) (serve : Option ServeWords) (old new : EndsState) (net later : NetState) (realm : Option RealmView) (status : ℕ) : Type 0 where
   pub refused : status ≡ 1 → (once ≡ None) × (script ≡ None) × (serve ≡ None)
   pub nothing : once ≡ None → script ≡ None → serve ≡ None → (status ≡ 1) ⊎ ((status ≡ 4) × (may_ask ≡ true))

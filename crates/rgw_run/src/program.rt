@@ -1,6 +1,6 @@
 //! A run of the program, over any input, output, clock and net.
 ghost use Rattle.std.specs.Prelude.{◌≡◌, IfSome, IsSome, None, map, string_bytes};
-ghost use Rattle.rgw_words.specs.Words.{once_of, script_of, may_ask_script, serve_of};
+ghost use Rattle.rgw_words.specs.Words.{once_of, script_of, may_ask, serve_of};
 ghost use Rattle.rgw_run.specs.Exact.{RunsExactlyIf};
 ghost use Rattle.rgw_run.specs.Served.{Runs, net_of};
 
@@ -39,7 +39,7 @@ pub fn run<R: Wait + Threads + Sync, S: Source, K: Sink, C: Clock, N: Net, T: Pa
     realm: &mut Option<Realm>,
 ) -> Status
     requires { realm.old ≡ None }
-    ensures runs { Runs (once_of (map string_bytes words.now)) (script_of (map string_bytes words.now)) (may_ask_script (map string_bytes words.now)) (serve_of (map string_bytes words.now))
+    ensures runs { Runs (once_of (map string_bytes words.now)) (script_of (map string_bytes words.now)) (may_ask (map string_bytes words.now)) (serve_of (map string_bytes words.now))
         (⟦<(S, K, C) as Ends>⟧.ends (input.old, output.old, clock.old))
         (⟦<(S, K, C) as Ends>⟧.ends (input.new, output.new, clock.new))
         (net_of (N.faults net.old) (N.closed net.old)) (net_of (N.faults net.new) (N.closed net.new)) realm.new result.number }

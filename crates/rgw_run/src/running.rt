@@ -4,7 +4,7 @@ ghost use Rattle.realm_core.specs.Realms.{new_realm};
 ghost use Rattle.realm_model.specs.Settings.{IsSettings};
 ghost use Rattle.container_preset.specs.Presets.{IsFresh};
 ghost use Rattle.realm_model.specs.Histories.{Legal};
-ghost use Rattle.rgw_words.specs.Words.{once_of, script_of, may_ask_script};
+ghost use Rattle.rgw_words.specs.Words.{once_of, script_of, may_ask};
 ghost use Rattle.turn_cell.specs.declared.machine.DoorFault.TheVariants.{Worn};
 ghost use Rattle.rgw_run.specs.Exact.{RunsExactlyIf};
 ghost use Rattle.rgw_run.specs.Preparing.{HasPrepared, StopsPreparing};
@@ -36,7 +36,7 @@ pub(crate) fn run_alone<S: Source, K: Sink, C: Clock>(
     realm: &mut Option<Realm>,
 ) -> Status
     requires { realm.old ≡ None }
-    ensures runs { RunsAlone (once_of (map string_bytes words.now)) (script_of (map string_bytes words.now)) (may_ask_script (map string_bytes words.now))
+    ensures runs { RunsAlone (once_of (map string_bytes words.now)) (script_of (map string_bytes words.now)) (may_ask (map string_bytes words.now))
         (⟦<(S, K, C) as Ends>⟧.ends (input.old, output.old, clock.old))
         (⟦<(S, K, C) as Ends>⟧.ends (input.new, output.new, clock.new)) realm.new result.number }
 
@@ -72,7 +72,7 @@ fn run_other<S: Source, K: Sink, C: Clock>(
 ) -> Status
     requires none { once_of (map string_bytes words.now) ≡ None }
     requires new { realm.old ≡ None }
-    ensures runs { RunsAlone (once_of (map string_bytes words.now)) (script_of (map string_bytes words.now)) (may_ask_script (map string_bytes words.now))
+    ensures runs { RunsAlone (once_of (map string_bytes words.now)) (script_of (map string_bytes words.now)) (may_ask (map string_bytes words.now))
         (⟦<(S, K, C) as Ends>⟧.ends (input.old, output.old, clock.now))
         (⟦<(S, K, C) as Ends>⟧.ends (input.new, output.new, clock.now)) realm.new result.number }
     ensures untouched { result.number ≡ 1 → (input.new ≡ input.old) × (output.new ≡ output.old) }
