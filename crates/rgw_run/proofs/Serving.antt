@@ -6,6 +6,7 @@ use Rattle.rgw_server.specs.declared.accepting.ServeEnd.{ServeEnd}
 use Rattle.rgw_server.specs.declared.accepting.ServeEnd.TheVariants.{Ended, OutOfMemory, Failed}
 use Rattle.rgw_words.specs.declared.run_words.RunWords.{RunWords}
 use Rattle.rgw_words.specs.declared.serve_words.ServeWords.{ServeWords}
+use Rattle.rgw_run.proofs.Ending.{unread}
 use Rattle.rgw_run.specs.Exact.{RunsExactlyIf}
 use Rattle.rgw_run.specs.Runs.{RunsAlone}
 use Rattle.rgw_run.specs.Served.{NetState, serve_status, HasServed, IsUnserved, RunsServer, Runs}
