@@ -1,6 +1,7 @@
 #!/usr/bin/env python3
 """Runs a server and clients that are killed at random, and asks afterwards whether each object that was acknowledged is
-there, and whether the listing agrees. Before that, that replies which come before a client has sent its body reach it.
+there, and whether the listing and the counts agree. Before that, that replies which come before a client has sent its body
+reach it; and that of many who make or remove one container at once just one does.
 
 Usage: checks/serve.py PROGRAM [SECONDS]   from any folder, a minute unless SECONDS says otherwise; the last line is
 `N passed, N failed`
@@ -12,6 +13,7 @@ told to be stored is written down here, with the digest of what it sent; nothing
 import contextlib
 import hashlib
 import http.client
+import json
 import os
 import random
 import socket
@@ -26,7 +28,11 @@ CLIENTS = 64
 QUICK_SECONDS = 5
 
 TOKEN = {"X-Auth-Token": "AUTH_tk1"}
-BOX = "/swift/v1/AUTH_acme/box"
+ACCOUNT = "/swift/v1/AUTH_acme"
+BOX = f"{ACCOUNT}/box"
+
+# How many clients make containers at once.
+OWNERS = 16
 
 # How often a reply that comes early is asked for, and how long a body is behind which it comes.
 EARLY_REPLIES = 100
@@ -91,6 +97,62 @@ def early_replies(port):
                 told = b""
             lost += not told.startswith(b"HTTP/1.1 " + status) or b"\r\n\r\n" not in told
         yield f"a {name} reaches its client", not lost, f"{lost} of {EARLY_REPLIES} were lost"
+
+
+def at_once(port, count, work):
+    """What so many threads came to that begin together, each with a connection of its own."""
+    results, begin = [None] * count, threading.Barrier(count)
+
+    def one(number):
+        with contextlib.closing(connected(port)) as connection:
+            begin.wait()
+            results[number] = work(connection, number)
+
+    threads = [threading.Thread(target=one, args=(number,)) for number in range(count)]
+    for it in threads:
+        it.start()
+    for it in threads:
+        it.join()
+    return results
+
+
+def own_container(connection, number):
+    """A container of one client: it is made, read by anybody once its row says so, counted, and not removed while it is not
+    empty. What was told otherwise, in words."""
+    box = f"{ACCOUNT}/own-{number:02}"
+    wanted = [
+        ("PUT", box, b"", {}, (201, b"")),
+        ("PUT", f"{box}/k", b"hello", {}, (201, b"")),
+        ("POST", box, b"", {"X-Container-Read": ".r:*"}, (204, b"")),
+        ("GET", f"{box}/k", None, {"X-Auth-Token": None}, (200, b"hello")),
+        ("GET", box, None, {"X-Auth-Token": None}, (401, b"Unauthorized\n")),
+        ("DELETE", box, None, {}, (409, b"Not empty: k\n")),
+    ]
+    for method, path, body, fields, reply in wanted:
+        kept = {name: value for name, value in {**TOKEN, **fields}.items() if value is not None}
+        connection.request(method, path, body=body, headers=kept)
+        with connection.getresponse() as it:
+            told = it.status, it.read()
+        if told != reply:
+            return f"{method} of {path}: {told} for {reply}"
+    return ""
+
+
+def containers(port):
+    """Whether containers of many clients at once are made, counted, listed and removed as they are to be."""
+    wrong = [why for why in at_once(port, OWNERS, own_container) if why]
+    yield "containers of many clients", not wrong, "; ".join(wrong[:3])
+    made = [status for status, _ in at_once(port, OWNERS, lambda it, _: asked(it, "PUT", f"{ACCOUNT}/common", b""))]
+    yield "just one of many makes a container", sorted(made) == [201] + [202] * (OWNERS - 1), f"{made}"
+    with contextlib.closing(connected(port)) as connection:
+        _, text = asked(connection, "GET", f"{ACCOUNT}?format=json&prefix=own-")
+        rows = [{"bytes": 5, "count": 1, "name": f"own-{number:02}"} for number in range(OWNERS)]
+        yield "the account lists them with their counts", json.loads(text) == rows, text[:200]
+        gone = [status for status, _ in at_once(port, OWNERS, lambda it, _: asked(it, "DELETE", f"{ACCOUNT}/common"))]
+        others = set(gone) - {204, 404, 503}
+        yield "just one of many removes a container", gone.count(204) == 1 and not others, f"{gone}"
+        status, _ = asked(connection, "HEAD", f"{ACCOUNT}/common")
+        yield "it is gone then", status == 404, f"{status}"
 
 
 class Client(threading.Thread):
@@ -189,6 +251,11 @@ def judged(port, clients):
         maybe = set().union(*(it.maybe for it in clients))
         more = there - wanted - maybe
         yield "nothing else is listed", not more, f"{sorted(more)[:3]}"
+        connection.request("HEAD", BOX, headers=TOKEN)
+        with connection.getresponse() as reply:
+            reply.read()
+            count = reply.getheader("X-Container-Object-Count")
+        yield "the count is that of the listing", count == str(len(names)), f"{count} for {len(names)}"
         for client in clients:
             for name in client.stored:
                 client.judge(name, *asked(connection, "GET", f"{BOX}/{name}"))
@@ -213,6 +280,7 @@ def check(program, root, seconds=QUICK_SECONDS):
     try:
         with server(program, "--frames", "65536") as (port, ran):
             results += early_replies(port)
+            results += containers(port)
             until = time.monotonic() + seconds
             clients = [Client(port, number, until) for number in range(CLIENTS)]
             for it in clients:
