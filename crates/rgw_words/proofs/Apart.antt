@@ -1,81 +1,121 @@
--- Words that ask to serve a connection run no script, and those that ask for a server do neither.
-use Rattle.std.proofs.Common.{◌≡◌, ◌↔◌, ℕ, Bool, true, false, cond, List, [], ◌∷◌, ◌&&◌, bytes_eq, codes, Option, Some, None, Result, Ok, Err, IfOk, IsErrOf, IsSome, refl, sym, ◌∙◌, subst}
+-- Words ask for one command alone: to serve a connection, to run a script, or for a server. Without users they are judged
+-- exactly.
+use Rattle.std.proofs.Common.{◌≡◌, ℕ, Bool, true, false, cond, List, [], ◌∷◌, ◌&&◌, bytes_eq, codes, Option, Some, None, refl, sym, ap, ◌∙◌, subst}
 use Rattle.std.proofs.lemmas.Slice.Eq.{bytes_eq-Decides}
-use Rattle.swift_auth.specs.Users.{standard_user}
+use Rattle.std.specs.Prelude.{option_and_then, is_some}
+use Rattle.std.specs.Option.{option_map}
 use Rattle.rgw_words.specs.NamedUsers.{named_users}
-use Rattle.rgw_words.specs.Words.{UsualWords, usual_behind, users_text, words_with, once_of, script_of, words_behind, takes_once, takes_serve, serving_in, serve_of}
-use Rattle.rgw_words.specs.declared.fault.WordsFault.{WordsFault}
-use Rattle.rgw_words.specs.declared.fault.WordsFault.TheVariants.{Refused, OutOfMemory}
-use Rattle.rgw_words.specs.declared.options.Takes.{Takes}
+use Rattle.rgw_words.specs.Options.{are_options}
+use Rattle.rgw_words.specs.Words.{UsualWords, usual_in, usual_behind, users_text, words_with, words_behind, may_be_behind, once_of, may_ask_once, script_of, may_ask_script, serving_in, serve_of, may_ask_serve}
 use Rattle.rgw_words.specs.declared.run_words.RunWords.{RunWords}
 use Rattle.rgw_words.specs.declared.serve_words.ServeWords.{ServeWords}
 use Rattle.rgw_words.specs.declared.serve_words.Serving.{Serving}
-use Rattle.std.specs.Option.{option_map}
-use Rattle.std.specs.Prelude.{option_and_then}
 
 -- ---- words without users
 
--- what they ask, by what their options say
-abbrev pub asked_by : Option UsualWords → Option RunWords
-asked_by usual = option_and_then (λ u. option_map (words_with u) (named_users None)) usual
+just_there : (usual : Option UsualWords) → is_some (option_and_then (λ u. option_map (words_with u) (named_users None)) usual) ≡ is_some usual
+just_there None = refl
+just_there (Some u) = refl
 
-pub some_asked : (usual : Option UsualWords) → IsSome usual → IsSome (asked_by usual)
-some_asked None there = absurd (cc)
-some_asked (Some u) there = refl
+pub exact_behind : (command : List ℕ) (serving : Bool) (words : List (List ℕ)) → users_text words ≡ None
+    → is_some (words_behind command serving words) ≡ may_be_behind command serving words
+exact_behind command serving words none =
+    ap (λ text. is_some (option_and_then (λ u. option_map (words_with u) (named_users text)) (usual_behind command serving words))) none
+    ∙ just_there (usual_behind command serving words)
 
-pub refused_just : (usual : Option UsualWords) (read : Result RunWords WordsFault) → IfOk read (λ asked. asked_by usual ≡ Some asked)
-    → (IsErrOf read Refused → asked_by usual ≡ None) → (IsErrOf read OutOfMemory → IsSome usual) → IsErrOf read Refused ↔ (asked_by usual ≡ None)
-refused_just usual (Ok asked) ok refused memory = (refused, λ none. let clash : None ≡ Some asked = sym none ∙ ok in absurd (cc))
-refused_just usual (Err Refused) ok refused memory = (refused, λ none. refl)
-refused_just None (Err OutOfMemory) ok refused memory = let clash : false ≡ true = memory refl in absurd (cc)
-refused_just (Some u) (Err OutOfMemory) ok refused memory = (refused, λ none. absurd (cc))
+-- what is asked of a server, by what is said of its connections and of its realm
+abbrev served : Option Serving → Option RunWords → Option ServeWords
+served s r = option_and_then (λ serving. option_map (λ run. record { run = run; serving = serving }) r) s
 
--- ---- another command
+serve_there : (s : Option Serving) (r : Option RunWords) → is_some (served s r) ≡ (is_some s && is_some r)
+serve_there None r = refl
+serve_there (Some serving) None = refl
+serve_there (Some serving) (Some run) = refl
 
--- another command than that of scripts
-other_command : (word : List ℕ) (options : List (List ℕ)) → bytes_eq word (codes "once") ≡ true → script_of (word ∷ options) ≡ None
-other_command word options is =
-    subst (λ w. script_of (w ∷ options) ≡ None) (sym ((bytes_eq-Decides word (codes "once")).0 is)) refl
+pub exact_serve : (words : List (List ℕ)) → users_text words ≡ None → is_some (serve_of words) ≡ may_ask_serve words
+exact_serve words none =
+    serve_there (serving_in words) (words_behind (codes "serve") true words)
+    ∙ ap (λ b. is_some (serving_in words) && b) (exact_behind (codes "serve") true words none)
 
-tests_hold : (a b : Bool) (answer : Option UsualWords) (said : UsualWords) → cond (a && b) answer None ≡ Some said → a ≡ true
-tests_hold true b answer said says = refl
-tests_hold false b answer said says = let e : None ≡ Some said = says in cc
+-- ---- one command alone
 
-usual_there : (usual : Option UsualWords) (after : UsualWords → Option RunWords) (asked : RunWords) → option_and_then after usual ≡ Some asked → (said : UsualWords) × (usual ≡ Some said)
-usual_there None after asked asks = let e : None ≡ Some asked = asks in absurd (cc)
-usual_there (Some said) after asked asks = (said, refl)
+there : (usual : Option UsualWords) (after : UsualWords → Option RunWords) (asked : RunWords) → option_and_then after usual ≡ Some asked → is_some usual ≡ true
+there None after asked asks = let e : None ≡ Some asked = asks in absurd (cc)
+there (Some said) after asked asks = refl
 
-is_command : (command word : List ℕ) (takes : Takes) (options : List (List ℕ)) (asked : RunWords) → words_behind command takes (word ∷ options) ≡ Some asked → bytes_eq word command ≡ true
-is_command command word takes options asked asks =
-    let there = usual_there (usual_behind command takes (word ∷ options)) (λ u. option_map (words_with u) (named_users (users_text takes (word ∷ options)))) asked asks in
-    tests_hold (bytes_eq word command) _ _ there.0 there.1
+-- what is asked may be asked
+pub asked_behind : (command : List ℕ) (serving : Bool) (words : List (List ℕ)) (asked : RunWords) → words_behind command serving words ≡ Some asked → may_be_behind command serving words ≡ true
+asked_behind command serving words asked asks =
+    there (usual_behind command serving words) (λ u. option_map (words_with u) (named_users (users_text words))) asked asks
+
+tests_hold : (a b : Bool) (answer : Option UsualWords) → is_some (cond (a && b) answer None) ≡ true → a ≡ true
+tests_hold true b answer some = refl
+tests_hold false b answer some = let e : false ≡ true = some in cc
+
+is_behind : (command word : List ℕ) (serving : Bool) (options : List (List ℕ)) → may_be_behind command serving (word ∷ options) ≡ true → word ≡ command
+is_behind command word serving options may =
+    (bytes_eq-Decides word command).0 (tests_hold (bytes_eq word command) (are_options serving options) (usual_in options) may)
+
+pub once_no_script : (words : List (List ℕ)) → may_ask_once words ≡ true → script_of words ≡ None
+once_no_script [] may = refl
+once_no_script (word ∷ options) may =
+    subst (λ w. script_of (w ∷ options) ≡ None) (sym (is_behind (codes "once") word false options may)) refl
+
+pub script_not_once : (words : List (List ℕ)) → may_ask_script words ≡ true → once_of words ≡ None
+script_not_once [] may = refl
+script_not_once (word ∷ options) may =
+    subst (λ w. once_of (w ∷ options) ≡ None) (sym (is_behind (codes "script") word false options may)) refl
+
+no_run : (s : Option Serving) → served s None ≡ None
+no_run None = refl
+no_run (Some serving) = refl
+
+pub once_not_serve : (words : List (List ℕ)) → may_ask_once words ≡ true → serve_of words ≡ None
+once_not_serve [] may = refl
+once_not_serve (word ∷ options) may =
+    subst (λ w. serve_of (w ∷ options) ≡ None) (sym (is_behind (codes "once") word false options may)) (no_run (serving_in (codes "once" ∷ options)))
+
+pub script_not_serve : (words : List (List ℕ)) → may_ask_script words ≡ true → serve_of words ≡ None
+script_not_serve [] may = refl
+script_not_serve (word ∷ options) may =
+    subst (λ w. serve_of (w ∷ options) ≡ None) (sym (is_behind (codes "script") word false options may)) (no_run (serving_in (codes "script" ∷ options)))
 
 pub no_script : (words : List (List ℕ)) (asked : RunWords) → once_of words ≡ Some asked → script_of words ≡ None
-no_script [] asked asks = refl
-no_script (word ∷ options) asked asks = other_command word options (is_command (codes "once") word takes_once options asked asks)
+no_script words asked asks = once_no_script words (asked_behind (codes "once") false words asked asks)
 
 -- ---- words that ask for a server
 
-is_behind : (command word : List ℕ) (takes : Takes) (options : List (List ℕ)) (asked : RunWords) → words_behind command takes (word ∷ options) ≡ Some asked → word ≡ command
-is_behind command word takes options asked asks = (bytes_eq-Decides word command).0 (is_command command word takes options asked asks)
+right : (a b : Bool) → (a && b) ≡ true → b ≡ true
+right true b both = both
+right false b both = absurd (cc)
 
-served_behind : (s : Option Serving) (r : Option RunWords) (asked : ServeWords)
-    → option_and_then (λ serving. option_map (λ run. record { run = run; serving = serving }) r) s ≡ Some asked → (run : RunWords) × (r ≡ Some run)
-served_behind None r asked asks = let e : None ≡ Some asked = asks in absurd (cc)
-served_behind (Some serving) None asked asks = let e : None ≡ Some asked = asks in absurd (cc)
-served_behind (Some serving) (Some run) asked asks = (run, refl)
+pub serve_not_once : (words : List (List ℕ)) → may_ask_serve words ≡ true → once_of words ≡ None
+serve_not_once [] may = refl
+serve_not_once (word ∷ options) may =
+    subst (λ w. once_of (w ∷ options) ≡ None) (sym (is_behind (codes "serve") word true options (right _ _ may))) refl
 
-serves_so : (words : List (List ℕ)) (asked : ServeWords) → serve_of words ≡ Some asked → (run : RunWords) × (words_behind (codes "serve") takes_serve words ≡ Some run)
-serves_so words asked asks = served_behind (serving_in words) (words_behind (codes "serve") takes_serve words) asked asks
+pub serve_no_script : (words : List (List ℕ)) → may_ask_serve words ≡ true → script_of words ≡ None
+serve_no_script [] may = refl
+serve_no_script (word ∷ options) may =
+    subst (λ w. script_of (w ∷ options) ≡ None) (sym (is_behind (codes "serve") word true options (right _ _ may))) refl
+
+both_there : (s : Option Serving) (r : Option RunWords) (asked : ServeWords)
+    → served s r ≡ Some asked → (is_some s ≡ true) × ((run : RunWords) × (r ≡ Some run))
+both_there None r asked asks = let e : None ≡ Some asked = asks in absurd (cc)
+both_there (Some serving) None asked asks = let e : None ≡ Some asked = asks in absurd (cc)
+both_there (Some serving) (Some run) asked asks = (refl, (run, refl))
+
+pub asked_serve : (words : List (List ℕ)) (asked : ServeWords) → serve_of words ≡ Some asked → may_ask_serve words ≡ true
+asked_serve words asked asks =
+    let parts = both_there (serving_in words) (words_behind (codes "serve") true words) asked asks in
+    both _ _ parts.0 (asked_behind (codes "serve") true words parts.1.0 parts.1.1)
+  where
+    both : (a b : Bool) → a ≡ true → b ≡ true → (a && b) ≡ true
+    both true b first second = second
+    both false b first second = absurd (cc)
 
 pub not_once : (words : List (List ℕ)) (asked : ServeWords) → serve_of words ≡ Some asked → once_of words ≡ None
-not_once [] asked asks = refl
-not_once (word ∷ options) asked asks =
-    let behind = serves_so (word ∷ options) asked asks in
-    subst (λ w. once_of (w ∷ options) ≡ None) (sym (is_behind (codes "serve") word takes_serve options behind.0 behind.1)) refl
+not_once words asked asks = serve_not_once words (asked_serve words asked asks)
 
 pub not_script : (words : List (List ℕ)) (asked : ServeWords) → serve_of words ≡ Some asked → script_of words ≡ None
-not_script [] asked asks = refl
-not_script (word ∷ options) asked asks =
-    let behind = serves_so (word ∷ options) asked asks in
-    subst (λ w. script_of (w ∷ options) ≡ None) (sym (is_behind (codes "serve") word takes_serve options behind.0 behind.1)) refl
+not_script words asked asks = serve_no_script words (asked_serve words asked asks)

@@ -3,7 +3,6 @@ use Rattle.std.proofs.Common.{◌≡◌, ℕ, ◌<◌, Bool, true, false, cond, 
 use Rattle.std.specs.Prelude.{is_some}
 use Rattle.std.specs.List.{position_or_len, before_first, after_first}
 use Rattle.rgw_words.specs.Options.{is_joined, name_in, value_in, Said, said_in_two, first_option, value_of, begins_option, are_options}
-use Rattle.rgw_words.specs.declared.options.Takes.{Takes}
 
 -- ---- a word in two parts
 
@@ -41,31 +40,31 @@ value_first name (word ∷ next ∷ words) =
       | false ↦ refl
     ]
 
-abbrev pub are_by : Takes → Option Said → Bool
-are_by takes None = false
-are_by takes (Some said) = cond (begins_option takes said.name said.value said.rest) (are_options takes said.rest) false
+abbrev pub are_by : Bool → Option Said → Bool
+are_by serving None = false
+are_by serving (Some said) = cond (begins_option serving said.name said.value said.rest) (are_options serving said.rest) false
 
 itself : (b : Bool) → cond b true false ≡ b
 itself true = refl
 itself false = refl
 
-pub are_first : (takes : Takes) (word : List ℕ) (words : List (List ℕ)) → are_by takes (first_option (word ∷ words)) ≡ are_options takes (word ∷ words)
-are_first takes word [] =
-    elim (is_joined word) as (λ b. are_by takes (cond b (Some (record { name = name_in word; value = value_in word; rest = [] })) None)
-    ≡ cond b (begins_option takes (name_in word) (value_in word) []) false) [
-      | true ↦ itself (begins_option takes (name_in word) (value_in word) [])
+pub are_first : (serving : Bool) (word : List ℕ) (words : List (List ℕ)) → are_by serving (first_option (word ∷ words)) ≡ are_options serving (word ∷ words)
+are_first serving word [] =
+    elim (is_joined word) as (λ b. are_by serving (cond b (Some (record { name = name_in word; value = value_in word; rest = [] })) None)
+    ≡ cond b (begins_option serving (name_in word) (value_in word) []) false) [
+      | true ↦ itself (begins_option serving (name_in word) (value_in word) [])
       | false ↦ refl
     ]
-are_first takes word (next ∷ words) =
-    elim (is_joined word) as (λ b. are_by takes (cond b (Some (record { name = name_in word; value = value_in word; rest = next ∷ words })) (said_in_two word (next ∷ words)))
-    ≡ cond b (cond (begins_option takes (name_in word) (value_in word) (next ∷ words)) (are_options takes (next ∷ words)) false)
-    (cond (begins_option takes word next words) (are_options takes words) false)) [
+are_first serving word (next ∷ words) =
+    elim (is_joined word) as (λ b. are_by serving (cond b (Some (record { name = name_in word; value = value_in word; rest = next ∷ words })) (said_in_two word (next ∷ words)))
+    ≡ cond b (cond (begins_option serving (name_in word) (value_in word) (next ∷ words)) (are_options serving (next ∷ words)) false)
+    (cond (begins_option serving word next words) (are_options serving words) false)) [
       | true ↦ refl
       | false ↦ refl
     ]
 
-pub are_said : (takes : Takes) (words : List (List ℕ)) (said : Said) (begins : Bool) → first_option words ≡ Some said → begins_option takes said.name said.value said.rest ≡ begins
-    → cond begins (are_options takes said.rest) false ≡ are_options takes words
-are_said takes [] said begins is by = let clash : None ≡ Some said = is in absurd (cc)
-are_said takes (word ∷ words) said begins is by =
-    ap (λ b. cond b (are_options takes said.rest) false) (sym by) ∙ ap (are_by takes) (sym is) ∙ are_first takes word words
+pub are_said : (serving : Bool) (words : List (List ℕ)) (said : Said) (begins : Bool) → first_option words ≡ Some said → begins_option serving said.name said.value said.rest ≡ begins
+    → cond begins (are_options serving said.rest) false ≡ are_options serving words
+are_said serving [] said begins is by = let clash : None ≡ Some said = is in absurd (cc)
+are_said serving (word ∷ words) said begins is by =
+    ap (λ b. cond b (are_options serving said.rest) false) (sym by) ∙ ap (are_by serving) (sym is) ∙ are_first serving word words

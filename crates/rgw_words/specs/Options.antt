@@ -3,7 +3,6 @@ use Rattle.std.specs.Prelude.{ℕ, Bool, not, ◌&&◌, ◌||◌, ◌==◌, true
 use Rattle.std.specs.List.{list_any, position, before_first, after_first}
 use Rattle.std.specs.Str.Parse.{digits_value}
 use Rattle.rgw_words.specs.Values.{begins_with_dash, is_number}
-use Rattle.rgw_words.specs.declared.options.Takes.{Takes}
 
 -- ---- the two forms
 
@@ -49,7 +48,7 @@ value_of name (word ∷ next ∷ words) =
 abbrev pub option_names : List (List ℕ)
 option_names =
     codes "--bucket" ∷ codes "--stripe" ∷ codes "--frame" ∷ codes "--frames" ∷ codes "--shards" ∷ codes "--tag-seconds"
-    ∷ codes "--largest" ∷ codes "--now" ∷ []
+    ∷ codes "--largest" ∷ codes "--now" ∷ codes "--users" ∷ []
 
 abbrev pub is_usual_option : List ℕ → Bool
 is_usual_option word = list_any (bytes_eq word) option_names
@@ -61,24 +60,23 @@ server_option_names = codes "--port" ∷ codes "--workers" ∷ codes "--accepts"
 abbrev pub is_server_option : List ℕ → Bool
 is_server_option word = list_any (bytes_eq word) server_option_names
 
--- besides these a command may take those of a server, and the users
-abbrev pub is_option : Takes → List ℕ → Bool
-is_option takes word =
-    is_usual_option word || ((takes.serving && is_server_option word) || (takes.users && bytes_eq word (codes "--users")))
+-- those of every command, and for a server its own
+abbrev pub is_option : Bool → List ℕ → Bool
+is_option serving word = is_usual_option word || (serving && is_server_option word)
 
 -- an option and its value, which does not begin with a dash; the option is not among the words behind them
-abbrev pub begins_option : Takes → List ℕ → List ℕ → List (List ℕ) → Bool
-begins_option takes name value words =
-    is_option takes name && (not (begins_with_dash value) && not (is_some (value_of name words)))
+abbrev pub begins_option : Bool → List ℕ → List ℕ → List (List ℕ) → Bool
+begins_option serving name value words =
+    is_option serving name && (not (begins_with_dash value) && not (is_some (value_of name words)))
 
 -- options alone, each once
-abbrev pub are_options : Takes → List (List ℕ) → Bool
-are_options takes [] = true
-are_options takes (word ∷ []) = if is_joined word then begins_option takes (name_in word) (value_in word) [] else false
-are_options takes (word ∷ next ∷ words) =
+abbrev pub are_options : Bool → List (List ℕ) → Bool
+are_options serving [] = true
+are_options serving (word ∷ []) = if is_joined word then begins_option serving (name_in word) (value_in word) [] else false
+are_options serving (word ∷ next ∷ words) =
     if is_joined word
-    then (if begins_option takes (name_in word) (value_in word) (next ∷ words) then are_options takes (next ∷ words) else false)
-    else (if begins_option takes word next words then are_options takes words else false)
+    then (if begins_option serving (name_in word) (value_in word) (next ∷ words) then are_options serving (next ∷ words) else false)
+    else (if begins_option serving word next words then are_options serving words else false)
 
 -- ---- numbers
 

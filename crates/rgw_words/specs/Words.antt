@@ -1,11 +1,10 @@
 -- What the words of the command line mean: `once`, `script` or `serve`, and options behind it.
-use Rattle.std.specs.Prelude.{ℕ, ◌*◌, ◌&&◌, Bool, true, false, nat_le, List, [], ◌∷◌, drop, Option, Some, None, is_some, option_and_then, if◌then◌else◌, bytes_eq, codes}
+use Rattle.std.specs.Prelude.{ℕ, ◌*◌, ◌&&◌, ◌||◌, Bool, true, false, nat_le, List, [], ◌∷◌, drop, Option, Some, None, is_some, option_and_then, if◌then◌else◌, bytes_eq, codes}
 use Rattle.std.specs.Option.{option_map}
 use Rattle.realm_model.specs.Settings.{SettingsView, settings_of, second}
 use Rattle.rgw_words.specs.Values.{is_bucket, moment_of}
 use Rattle.swift_auth.specs.Users.{UserView}
 use Rattle.rgw_words.specs.Options.{value_of, are_options, number_in}
-use Rattle.rgw_words.specs.declared.options.Takes.{Takes}
 use Rattle.rgw_words.specs.NamedUsers.{named_users}
 use Rattle.rgw_words.specs.declared.run_words.RunWords.{RunWords}
 use Rattle.rgw_words.specs.declared.serve_words.Serving.{Serving}
@@ -61,44 +60,44 @@ usual_in options =
     (settings_in options))
     (bucket_in (value_of (codes "--bucket") options))
 
--- what the words say, where they are this command and options behind it, whatever the text of their users says; nothing
--- where they are not
-abbrev pub usual_behind : List ℕ → Takes → List (List ℕ) → Option UsualWords
-usual_behind command takes [] = None
-usual_behind command takes (word ∷ options) =
-    if bytes_eq word command && are_options takes options then usual_in options else None
+-- what the words say, where they are this command and options behind it, those of a server among them or not, whatever
+-- the text of their users says; nothing where they are not
+abbrev pub usual_behind : List ℕ → Bool → List (List ℕ) → Option UsualWords
+usual_behind command serving [] = None
+usual_behind command serving (word ∷ options) =
+    if bytes_eq word command && are_options serving options then usual_in options else None
 
--- the users text behind a command that takes one, if it is there
-abbrev pub users_text : Takes → List (List ℕ) → Option (List ℕ)
-users_text takes words = if takes.users then value_of (codes "--users") (drop 1 words) else None
+-- the users text behind a command, if it is there
+abbrev pub users_text : List (List ℕ) → Option (List ℕ)
+users_text words = value_of (codes "--users") (drop 1 words)
 
 abbrev pub words_with : UsualWords → List UserView → RunWords
 words_with usual users =
     record { bucket = usual.bucket; settings = usual.settings; now = usual.now; users = users }
 
 -- what the words ask, where they are this command and options behind it; nothing where they are refused
-abbrev pub words_behind : List ℕ → Takes → List (List ℕ) → Option RunWords
-words_behind command takes words =
-    option_and_then (λ usual. option_map (words_with usual) (named_users (users_text takes words)))
-    (usual_behind command takes words)
+abbrev pub words_behind : List ℕ → Bool → List (List ℕ) → Option RunWords
+words_behind command serving words =
+    option_and_then (λ usual. option_map (words_with usual) (named_users (users_text words)))
+    (usual_behind command serving words)
+
+-- they ask it, if the text of their users is one, which is not known where memory is wanting
+abbrev pub may_be_behind : List ℕ → Bool → List (List ℕ) → Bool
+may_be_behind command serving words = is_some (usual_behind command serving words)
 
 -- to serve a connection
-abbrev pub takes_once : Takes
-takes_once = record { serving = false; users = false }
-
 abbrev pub once_of : List (List ℕ) → Option RunWords
-once_of words = words_behind (codes "once") takes_once words
+once_of words = words_behind (codes "once") false words
+
+abbrev pub may_ask_once : List (List ℕ) → Bool
+may_ask_once words = may_be_behind (codes "once") false words
 
 -- to run a script
-abbrev pub takes_script : Takes
-takes_script = record { serving = false; users = true }
-
 abbrev pub script_of : List (List ℕ) → Option RunWords
-script_of words = words_behind (codes "script") takes_script words
+script_of words = words_behind (codes "script") false words
 
--- they ask to run a script, if the text of their users is one, which is not known where memory is wanting
 abbrev pub may_ask_script : List (List ℕ) → Bool
-may_ask_script words = is_some (usual_behind (codes "script") takes_script words)
+may_ask_script words = may_be_behind (codes "script") false words
 
 -- how many connections a server takes in all; none is no end
 abbrev pub accepts_in : Option (List ℕ) → Option (Option ℕ)
@@ -120,11 +119,15 @@ serving_in [] = None
 serving_in (word ∷ options) = serving_with options
 
 -- to serve the connections of a port
-abbrev pub takes_serve : Takes
-takes_serve = record { serving = true; users = false }
-
 abbrev pub serve_of : List (List ℕ) → Option ServeWords
 serve_of words =
     option_and_then (λ serving.
-    option_map (λ run. record { run = run; serving = serving }) (words_behind (codes "serve") takes_serve words))
+    option_map (λ run. record { run = run; serving = serving }) (words_behind (codes "serve") true words))
     (serving_in words)
+
+abbrev pub may_ask_serve : List (List ℕ) → Bool
+may_ask_serve words = is_some (serving_in words) && may_be_behind (codes "serve") true words
+
+-- they ask for a run, if the text of their users is one
+abbrev pub may_ask : List (List ℕ) → Bool
+may_ask words = may_ask_serve words || (may_ask_once words || may_ask_script words)

@@ -4,15 +4,6 @@ ghost use Rattle.rgw_words.specs.Options.{is_joined, name_in, value_in, said_in_
 
 use crate::values::{all_digits, begins_with_dash};
 
-/// What a command takes beside the usual options.
-#[derive(Clone, Copy)]
-pub(crate) struct Takes {
-    /// Those of a server.
-    pub(crate) serving: bool,
-    /// `--users`.
-    pub(crate) users: bool,
-}
-
 /// An option, and the words behind it.
 #[derive(Clone, Copy)]
 struct Said<'a> {
@@ -79,9 +70,10 @@ pub(crate) fn value_of<'a>(name: &str, words: &'a [String]) -> Option<&'a str>
     }
 }
 
-/// Whether the words are options alone, each there once, and no value beginning with a dash.
-pub(crate) fn are_options(takes: Takes, words: &[String]) -> bool
-    ensures { result ≡ are_options takes (map string_bytes words.now) }
+/// Whether the words are options alone, those of a server among them or not, each there once, and no value
+/// beginning with a dash.
+pub(crate) fn are_options(serving: bool, words: &[String]) -> bool
+    ensures { result ≡ are_options serving (map string_bytes words.now) }
 {
     if words.is_empty() {
         return true;
@@ -89,8 +81,8 @@ pub(crate) fn are_options(takes: Takes, words: &[String]) -> bool
     match first_option(words) {
         None => false,
         Some(said) => {
-            if begins_option(takes, said.name, said.value, said.rest) {
-                are_options(takes, said.rest)
+            if begins_option(serving, said.name, said.value, said.rest) {
+                are_options(serving, said.rest)
             } else {
                 false
             }
@@ -98,18 +90,16 @@ pub(crate) fn are_options(takes: Takes, words: &[String]) -> bool
     }
 }
 
-fn begins_option(takes: Takes, name: &str, value: &str, words: &[String]) -> bool
-    ensures { result ≡ begins_option takes name.now value.now (map string_bytes words.now) }
+fn begins_option(serving: bool, name: &str, value: &str, words: &[String]) -> bool
+    ensures { result ≡ begins_option serving name.now value.now (map string_bytes words.now) }
 {
-    is_option(takes, name) && !begins_with_dash(value) && value_of(name, words).is_none()
+    is_option(serving, name) && !begins_with_dash(value) && value_of(name, words).is_none()
 }
 
-fn is_option(takes: Takes, word: &str) -> bool
-    ensures { result ≡ is_option takes word.now }
+fn is_option(serving: bool, word: &str) -> bool
+    ensures { result ≡ is_option serving word.now }
 {
-    is_usual_option(word)
-        || takes.serving && is_server_option(word)
-        || takes.users && word == "--users"
+    is_usual_option(word) || serving && is_server_option(word)
 }
 
 fn is_server_option(word: &str) -> bool
@@ -129,6 +119,7 @@ fn is_usual_option(word: &str) -> bool
         || word == "--tag-seconds"
         || word == "--largest"
         || word == "--now"
+        || word == "--users"
 }
 
 /// The number that a value says, from the least to the greatest; the usual one where there is no value.

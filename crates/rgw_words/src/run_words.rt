@@ -1,12 +1,12 @@
 //! The words behind a command, which are options.
-ghost use Rattle.std.specs.Prelude.{◌≡◌, ◌↔◌, true, false, None, Some, IfOk, IsErrOf, IsSome, IfSome, MatchOption, map, string_bytes};
+ghost use Rattle.std.specs.Prelude.{◌≡◌, true, false, None, Some, IfOk, IsErrOf, IfSome, MatchOption, map, string_bytes};
 ghost use Rattle.realm_model.specs.Settings.{IsBetween, IsSettings};
 ghost use Rattle.object_words.specs.Limits.{is_name};
-ghost use Rattle.rgw_words.specs.Words.{bucket_in, now_in, settings_with, settings_in, usual_with, usual_behind, users_text, words_behind, once_of, script_of, may_ask_script};
+ghost use Rattle.rgw_words.specs.Words.{bucket_in, now_in, settings_with, settings_in, usual_with, usual_behind, users_text, words_behind, may_be_behind, once_of, may_ask_once, script_of, may_ask_script};
 
 use crate::fault::WordsFault;
 use crate::named_users::named_users;
-use crate::options::{Takes, are_options, number_in, value_of};
+use crate::options::{are_options, number_in, value_of};
 use crate::values::{is_bucket, moment_of};
 use object_words::BucketName;
 use realm_model::Settings;
@@ -28,7 +28,7 @@ pub struct RunWords {
     /// A moment in microseconds since 1970, where one is said: that of each event of `once`, which then asks no
     /// clock; and that at which the clock of `script` begins.
     pub now: Option<u64>,
-    /// The users. The first makes the requests of a script.
+    /// The users. The first owns the container that is made first, and makes the requests of a script.
     pub users: Users,
 }
 
@@ -41,76 +41,53 @@ struct Parts<'a> {
 }
 
 /// Reads the words behind the program's name, where they ask to serve a connection. The name of a container is
-/// 1 to 256 bytes without a byte 0; the numbers are decimal digits, the moment up to 253402300799999999; no
-/// value begins with `-`.
+/// 1 to 256 bytes without a byte 0; the numbers are decimal digits, the moment up to 253402300799999999; the
+/// value of `--users` is a users text (`Users::read`); no value begins with `-`.
+///
+/// Where memory is wanting, the users text may be none.
 pub fn read_once(alloc: Global, words: &[String]) -> Result<RunWords, WordsFault>
     ensures ok { IfOk result (λ once. once_of (map string_bytes words.now) ≡ Some once) }
     ensures bounds { IfOk result (λ once. IsSettings once.settings) }
     ensures refused { IsErrOf result WordsFault.Refused
-        ↔ (once_of (map string_bytes words.now) ≡ None) }
+        → once_of (map string_bytes words.now) ≡ None }
     ensures out_of_memory { IsErrOf result WordsFault.OutOfMemory
-        → IsSome (once_of (map string_bytes words.now)) }
+        → may_ask_once (map string_bytes words.now) ≡ true }
 {
-    read_usual(alloc, "once", false, words)
+    read_behind(alloc, "once", false, words)
 }
 
-/// Reads the words behind the program's name, where they ask to run a script, with the same options, and
-/// `--users`, whose value is a users text (`Users::read`).
+/// Reads the words behind the program's name, where they ask to run a script, with the same options.
 ///
-/// Where memory is wanting, that text may be none.
+/// Where memory is wanting, the users text may be none.
 pub fn read_script(alloc: Global, words: &[String]) -> Result<RunWords, WordsFault>
     ensures ok { IfOk result (λ script. script_of (map string_bytes words.now) ≡ Some script) }
+    ensures bounds { IfOk result (λ script. IsSettings script.settings) }
     ensures refused { IsErrOf result WordsFault.Refused
         → script_of (map string_bytes words.now) ≡ None }
     ensures out_of_memory { IsErrOf result WordsFault.OutOfMemory
         → may_ask_script (map string_bytes words.now) ≡ true }
 {
-    let takes = Takes {
-        serving: false,
-        users: true,
-    };
-    read_behind(alloc, "script", takes, words)
+    read_behind(alloc, "script", false, words)
 }
 
-/// Reads this command, which takes no users, and the options behind it, those of a server among them or not.
-pub(crate) fn read_usual(
+/// Reads this command and the options behind it, those of a server among them or not.
+pub(crate) fn read_behind(
     alloc: Global,
     command: &str,
     serving: bool,
     words: &[String],
 ) -> Result<RunWords, WordsFault>
-    ensures ok { IfOk result (λ asked. words_behind command.now (record { serving = serving; users = false }) (map string_bytes words.now) ≡ Some asked) }
+    ensures ok { IfOk result (λ asked. words_behind command.now serving (map string_bytes words.now) ≡ Some asked) }
     ensures bounds { IfOk result (λ asked. IsSettings asked.settings) }
     ensures refused { IsErrOf result WordsFault.Refused
-        ↔ (words_behind command.now (record { serving = serving; users = false }) (map string_bytes words.now) ≡ None) }
+        → words_behind command.now serving (map string_bytes words.now) ≡ None }
     ensures out_of_memory { IsErrOf result WordsFault.OutOfMemory
-        → IsSome (words_behind command.now (record { serving = serving; users = false }) (map string_bytes words.now)) }
+        → may_be_behind command.now serving (map string_bytes words.now) ≡ true }
 {
-    let takes = Takes {
-        serving,
-        users: false,
-    };
-    read_behind(alloc, command, takes, words)
-}
-
-/// Reads this command and the options behind it that it takes.
-fn read_behind(
-    alloc: Global,
-    command: &str,
-    takes: Takes,
-    words: &[String],
-) -> Result<RunWords, WordsFault>
-    ensures ok { IfOk result (λ asked. words_behind command.now takes (map string_bytes words.now) ≡ Some asked) }
-    ensures bounds { IfOk result (λ asked. IsSettings asked.settings) }
-    ensures refused { IsErrOf result WordsFault.Refused
-        → words_behind command.now takes (map string_bytes words.now) ≡ None }
-    ensures out_of_memory { IsErrOf result WordsFault.OutOfMemory
-        → IsSome (usual_behind command.now takes (map string_bytes words.now)) }
-{
-    let Some(parts) = parts_behind(command, takes, words) else {
+    let Some(parts) = parts_behind(command, serving, words) else {
         return Err(WordsFault::Refused);
     };
-    let users = match named_users(alloc, users_text(takes, words)) {
+    let users = match named_users(alloc, users_text(words)) {
         Ok(users) => users,
         Err(fault) => return Err(fault),
     };
@@ -138,28 +115,28 @@ fn own_bucket(alloc: Global, name: Option<&str>) -> Result<Option<BucketName>, A
 }
 
 /// The users text, if the words have one.
-fn users_text(takes: Takes, words: &[String]) -> Option<&str>
-    ensures { MatchOption result (users_text takes (map string_bytes words.now) ≡ None)
-        (λ text. users_text takes (map string_bytes words.now) ≡ Some text.now) }
+fn users_text(words: &[String]) -> Option<&str>
+    ensures { MatchOption result (users_text (map string_bytes words.now) ≡ None)
+        (λ text. users_text (map string_bytes words.now) ≡ Some text.now) }
 {
     match words {
-        [_, options @ ..] if takes.users => value_of("--users", options),
-        _ => None,
+        [] => None,
+        [_, options @ ..] => value_of("--users", options),
     }
 }
 
 /// What the words ask but for their users, where they are this command and options behind it.
-fn parts_behind<'a>(command: &str, takes: Takes, words: &'a [String]) -> Option<Parts<'a>>
-    ensures parts { MatchOption result (usual_behind command.now takes (map string_bytes words.now) ≡ None)
+fn parts_behind<'a>(command: &str, serving: bool, words: &'a [String]) -> Option<Parts<'a>>
+    ensures parts { MatchOption result (usual_behind command.now serving (map string_bytes words.now) ≡ None)
         (λ parts. MatchOption parts.bucket
-        (usual_behind command.now takes (map string_bytes words.now) ≡ Some (usual_with None parts.settings parts.now))
-        (λ name. (usual_behind command.now takes (map string_bytes words.now) ≡ Some (usual_with (Some name.now) parts.settings parts.now)) × (is_name 256 name.now ≡ true))) }
+        (usual_behind command.now serving (map string_bytes words.now) ≡ Some (usual_with None parts.settings parts.now))
+        (λ name. (usual_behind command.now serving (map string_bytes words.now) ≡ Some (usual_with (Some name.now) parts.settings parts.now)) × (is_name 256 name.now ≡ true))) }
     ensures bounds { IfSome result (λ parts. IsSettings parts.settings) }
 {
     let [word, options @ ..] = words else {
         return None;
     };
-    if word.as_str() != command || !are_options(takes, options) {
+    if word.as_str() != command || !are_options(serving, options) {
         return None;
     }
     let bucket = bucket_in(value_of("--bucket", options))?;

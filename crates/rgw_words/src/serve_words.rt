@@ -1,11 +1,11 @@
 //! The words that ask for a server.
-ghost use Rattle.std.specs.Prelude.{◌≡◌, ◌↔◌, None, Some, IfOk, IfSome, IsErrOf, IsSome, MatchOption, map, string_bytes};
+ghost use Rattle.std.specs.Prelude.{◌≡◌, true, None, Some, IfOk, IsErrOf, MatchOption, map, string_bytes};
 ghost use Rattle.realm_model.specs.Settings.{IsSettings};
-ghost use Rattle.rgw_words.specs.Words.{accepts_in, serve_of, serving_in, serving_with};
+ghost use Rattle.rgw_words.specs.Words.{accepts_in, serve_of, may_ask_serve, serving_in, serving_with};
 
 use crate::fault::WordsFault;
 use crate::options::{number_in, value_of};
-use crate::run_words::{RunWords, read_usual};
+use crate::run_words::{RunWords, read_behind};
 use std::alloc::Global;
 
 /// Where a server listens, and what it does with the connections.
@@ -21,25 +21,27 @@ pub struct Serving {
 /// What the words `serve [OPTIONS]` ask, to serve the connections of a port to a new realm.
 #[derive(Drop)]
 pub struct ServeWords {
-    /// The realm, its first container and its moment, as for `once`.
+    /// The realm, its first container, its moment and its users, as for `once`.
     pub run: RunWords,
     pub serving: Serving,
 }
 
 /// Reads the words behind the program's name, where they ask for a server: the options of `once`, and
 /// `--port`, `--workers` and `--accepts`.
+///
+/// Where memory is wanting, the users text may be none.
 pub fn read_serve(alloc: Global, words: &[String]) -> Result<ServeWords, WordsFault>
     ensures ok { IfOk result (λ serve. serve_of (map string_bytes words.now) ≡ Some serve) }
     ensures bounds { IfOk result (λ serve. IsSettings serve.run.settings) }
     ensures refused { IsErrOf result WordsFault.Refused
-        ↔ (serve_of (map string_bytes words.now) ≡ None) }
+        → serve_of (map string_bytes words.now) ≡ None }
     ensures out_of_memory { IsErrOf result WordsFault.OutOfMemory
-        → IsSome (serve_of (map string_bytes words.now)) }
+        → may_ask_serve (map string_bytes words.now) ≡ true }
 {
     let Some(serving) = serving_in(words) else {
         return Err(WordsFault::Refused);
     };
-    match read_usual(alloc, "serve", true, words) {
+    match read_behind(alloc, "serve", true, words) {
         Ok(run) => Ok(ServeWords { run, serving }),
         Err(WordsFault::Refused) => Err(WordsFault::Refused),
         Err(WordsFault::OutOfMemory) => Err(WordsFault::OutOfMemory),

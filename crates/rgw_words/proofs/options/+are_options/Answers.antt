@@ -7,9 +7,9 @@ pub returns-then-begins_option : goal.returns-then-begins_option
 returns-then-begins_option t c =
     let said : Said = record { name = c.in-Some.said.name.now; value = c.in-Some.said.value.now; rest = map string_bytes c.in-Some.said.rest.now } in
     c.are_options.ensures
-    ∙ are_said c.args.takes (map string_bytes c.args.words.now) said true c.in-Some.ensures.first (sym c.begins_option.ensures ∙ c.if-begins_option.true)
+    ∙ are_said c.args.serving (map string_bytes c.args.words.now) said true c.in-Some.ensures.first (sym c.begins_option.ensures ∙ c.if-begins_option.true)
 
 pub returns-else-begins_option : goal.returns-else-begins_option
 returns-else-begins_option t c =
     let said : Said = record { name = c.in-Some.said.name.now; value = c.in-Some.said.value.now; rest = map string_bytes c.in-Some.said.rest.now } in
-    are_said c.args.takes (map string_bytes c.args.words.now) said false c.in-Some.ensures.first (sym c.begins_option.ensures ∙ c.if-begins_option.false)
+    are_said c.args.serving (map string_bytes c.args.words.now) said false c.in-Some.ensures.first (sym c.begins_option.ensures ∙ c.if-begins_option.false)
