@@ -33,13 +33,13 @@ use Rattle.request_service.specs.FirstEvents.{alone_after}
 use Rattle.request_service.specs.Requests.{Question, site_of, MayEnd, IsThere, EndsSo}
 
 -- who asks, and how the rows are written
-abbrev BesideIt : Type 0
+abbrev pub BesideIt : Type 0
 BesideIt = Option UserView × ListingForm
 
 abbrev Accounts : Type 0
 Accounts = Beside AccountTask BesideIt
 
-abbrev asked_by : AccountRequest × BesideIt → Asked
+abbrev pub asked_by : AccountRequest × BesideIt → Asked
 asked_by c = Unfed (record { account = c.0.account; user = (c.1).0 }) (OfAccount c.0.command (c.1).1)
 
 abbrev pub asks : AccountRequest × BesideIt → Question

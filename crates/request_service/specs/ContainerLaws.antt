@@ -39,10 +39,10 @@ use Rattle.request_service.specs.Requests.{Question, site_of, MayEnd, IsThere, G
 abbrev Containers : Type 0
 Containers = Beside ContainerTask Asker
 
-abbrev asked_by : ContainerRequest → Asked
+abbrev pub asked_by : ContainerRequest → Asked
 asked_by r = Unfed r.asker (Container r.command)
 
-abbrev asks : ContainerRequest → Question
+abbrev pub asks : ContainerRequest → Question
 asks r = record { zone = r.zone; asked = asked_by r }
 
 abbrev asked_in : Containers → Asked

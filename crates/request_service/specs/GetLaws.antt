@@ -44,10 +44,10 @@ use Rattle.request_service.specs.OwnReads.{means_reads, stage_reads}
 abbrev asked_get : Asker → GetCommand → Asked
 asked_get asker c = Unfed asker (Get c)
 
-abbrev asked_in : GetRequest → Asked
+abbrev pub asked_in : GetRequest → Asked
 asked_in r = asked_get r.asker r.get
 
-abbrev asks : GetRequest → Question
+abbrev pub asks : GetRequest → Question
 asks r = record { zone = r.zone; asked = asked_in r }
 
 abbrev EndsWith : GetTask → Outcome → Type 0

@@ -43,10 +43,10 @@ use Rattle.request_service.specs.Listings.{task_of, command_of, BeginsAtRow, Fit
 use Rattle.request_service.specs.NoBytes.{no_bytes, none_comes}
 use Rattle.request_service.specs.Requests.{Question, site_of, MayEnd, IsThere, GoesOn, EndsSo}
 
-abbrev asked_by : ListRequest × ListingForm → Asked
+abbrev pub asked_by : ListRequest × ListingForm → Asked
 asked_by c = Unfed c.0.asker (asks_listing c.0.command c.1)
 
-abbrev asks : ListRequest × ListingForm → Question
+abbrev pub asks : ListRequest × ListingForm → Question
 asks c = record { zone = c.0.zone; asked = asked_by c }
 
 abbrev EndsWith : Listing → Outcome → Type 0

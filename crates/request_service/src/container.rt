@@ -40,15 +40,13 @@ pub(crate) fn containers(
 
 impl Request for Beside<ContainerTask, Asker> {
     ghost use Rattle.std.specs.Prelude.{◌≡◌, false};
-    ghost use Rattle.swift_requests.specs.declared.asked.Asked.TheVariants.{Unfed};
-    ghost use Rattle.swift_requests.specs.declared.asked.UnfedCommand.TheVariants.{Container};
     ghost use Rattle.call_words.specs.Ends.{on_container};
     ghost use Rattle.task_container.specs.Fits.{stage_of, request_of};
     ghost use Rattle.task_container.specs.Stages.{IsOpen};
     ghost use Rattle.request_service.specs.NoBytes.{none_are, none_shown};
-    ghost use Rattle.request_service.specs.ContainerLaws.{EndsWith, onward, begun, goes_on, may_end, right, so_far, early};
+    ghost use Rattle.request_service.specs.ContainerLaws.{asks, EndsWith, onward, begun, goes_on, may_end, right, so_far, early};
 
-    ghost question = { λ c. record { zone = c.0.zone; asked = Unfed c.0.asker (Container c.0.command) } };
+    ghost question = { λ c. asks c.0 };
 
     ghost begins = { λ t. IsOpen (stage_of t.task) × (t.beside ≡ (request_of t.task).asker) };
 

@@ -23,16 +23,14 @@ fn span_in(request: &GetRequest) -> Option<Span>
 
 impl Request for GetTask {
     ghost use Rattle.std.specs.Prelude.{◌≡◌, Some, false};
-    ghost use Rattle.swift_requests.specs.declared.asked.Asked.TheVariants.{Unfed};
-    ghost use Rattle.swift_requests.specs.declared.asked.UnfedCommand.TheVariants.{Get};
     ghost use Rattle.task_get.specs.Stages.{IsSound, IsOver, ended_in};
     ghost use Rattle.call_words.specs.Ends.{on_object};
     ghost use Rattle.task_get.specs.declared.stage.Stage.TheVariants.{Look};
     ghost use Rattle.task_get.specs.Tasks.{stage_of, shown_of};
     ghost use Rattle.request_service.specs.Gets.{brought_at, whole_at};
-    ghost use Rattle.request_service.specs.GetLaws.{onward, begun, goes_on, first, shows, may_end, unbrought, brings, front, right, so_far, early};
+    ghost use Rattle.request_service.specs.GetLaws.{asks, onward, begun, goes_on, first, shows, may_end, unbrought, brings, front, right, so_far, early};
 
-    ghost question = { λ r. record { zone = r.zone; asked = Unfed r.asker (Get r.get) } };
+    ghost question = { asks };
 
     ghost begins = { λ t. stage_of t ≡ Look };
 

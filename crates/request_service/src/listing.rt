@@ -98,16 +98,14 @@ impl Staged for Listing {
 
 impl Request for Listing {
     ghost use Rattle.std.specs.Prelude.{◌≡◌, None, Some};
-    ghost use Rattle.swift_requests.specs.declared.asked.Asked.TheVariants.{Unfed};
-    ghost use Rattle.swift_requests.specs.declared.asked.UnfedCommand.TheVariants.{Listing as asks_listing};
     ghost use Rattle.task_list.specs.declared.stage.Stage.TheVariants.{Look};
     ghost use Rattle.call_words.specs.Ends.{on_object};
     ghost use Rattle.task_list.specs.Tasks.{IsSound, ended_in, is_broken, stage_of};
     ghost use Rattle.request_service.specs.Listings.{task_of};
     ghost use Rattle.request_service.specs.NoBytes.{none_are, none_shown};
-    ghost use Rattle.request_service.specs.ListLaws.{onward, begun, goes_on, may_end, right, so_far, early};
+    ghost use Rattle.request_service.specs.ListLaws.{asks, onward, begun, goes_on, may_end, right, so_far, early};
 
-    ghost question = { λ c. record { zone = c.0.zone; asked = Unfed c.0.asker (asks_listing c.0.command c.1) } };
+    ghost question = { asks };
 
     ghost begins = { λ t. stage_of (task_of t) ≡ Look None };
 
