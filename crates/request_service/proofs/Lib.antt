@@ -3,3 +3,4 @@ pub mod Texts
 pub mod Writing
 pub mod Stopping
 pub mod Early
+pub mod Commands

@@ -6,9 +6,9 @@ use Rattle.http_model.specs.declared.reply.ReplyForm.{ReplyForm}
 use Rattle.realm_model.specs.Doors.{DoorView}
 use Rattle.realm_model.specs.declared.event.Event.{Event}
 use Rattle.swift_requests.specs.declared.asked.Asked.{Asked}
-use Rattle.task_words.specs.declared.outcome.Outcome.{Outcome}
 use Rattle.task_words.specs.declared.outcome.Outcome.TheVariants.{LateRead}
 use Rattle.task_words.specs.declared.reply.MapReply.{MapReply}
+use Rattle.call_words.specs.Ends.{TaskEnd, on_object}
 use Rattle.call_service.specs.declared.fault.ServeFault.{ServeFault}
 use Rattle.call_service.specs.declared.fault.ServeFault.TheVariants as faults
 use Rattle.task_words.specs.Outcomes.{Body}
@@ -42,11 +42,11 @@ module _ (tells alone : Type 0) (site : Site) (form : ReplyForm) (asked : Asked)
         (asks, piece_in_part tells site form asked shown next brought now_brought piece stays follows there has e whole begun x.taken mid now fronts w stops)
     piece_stops e whole begun fault mid now told asks so_far fronts w stops = absurd stops
 
-  late_told : (brought : List ℕ) (d : DoorView) (read_at clock : ℕ) (outcome : Outcome) → outcome ≡ LateRead read_at clock → EndsSo site asked brought d outcome → IsLateIn site asked d read_at clock
+  late_told : (brought : List ℕ) (d : DoorView) (read_at clock : ℕ) (outcome : TaskEnd) → outcome ≡ on_object (LateRead read_at clock) → EndsSo site asked brought d outcome → IsLateIn site asked d read_at clock
   late_told brought d read_at clock outcome is so = subst (EndsSo site asked brought d) is so
 
   -- the rest of the reply was not written whole
-  pub end_stops : (d : DoorView) (shown : Option MapReply) (brought whole : List ℕ) (outcome : Outcome) → MayEnd asked shown outcome → (tells → (body : Body) → BearsOutSoFar site asked body d) → (tells → EndsSo site asked brought d outcome) → (tells → (reply : MapReply) → shown ≡ Some reply → ShowsFront site asked reply brought whole d)
+  pub end_stops : (d : DoorView) (shown : Option MapReply) (brought whole : List ℕ) (outcome : TaskEnd) → MayEnd asked shown outcome → (tells → (body : Body) → BearsOutSoFar site asked body d) → (tells → EndsSo site asked brought d outcome) → (tells → (reply : MapReply) → shown ≡ Some reply → ShowsFront site asked reply brought whole d)
       → (begun : Bool) (fault : ServeFault) (mid now told : Option (List ℕ)) → AsksFrom tells alone site.settings false x (stand d now told) → HasWritten tells form asked shown brought begun x.taken mid → StopsEnd form asked begun outcome mid now fault → StopsReply tells alone site form asked found x (stand d now told) fault
   end_stops d shown brought whole outcome may so_far so fronts begun faults.OutOfMemory mid now told asks w stops =
       let unbegun = subst (λ b. HasWritten tells form asked shown brought b x.taken mid) stops.0 w in

@@ -8,11 +8,11 @@ use Rattle.http_model.specs.declared.reply.ReplyForm.{ReplyForm}
 use Rattle.http_model.specs.Replies.{written_body}
 use Rattle.realm_model.specs.Doors.{DoorView}
 use Rattle.swift_requests.specs.declared.asked.Asked.{Asked}
-use Rattle.task_words.specs.declared.outcome.Outcome.{Outcome}
 use Rattle.task_words.specs.declared.outcome.Outcome.TheVariants.{Done, LateRead}
 use Rattle.task_words.specs.declared.reply.MapReply.{MapReply}
 use Rattle.call_words.specs.Bodies.{read_whole}
 use Rattle.call_words.specs.Calls.{task, text_by}
+use Rattle.call_words.specs.Ends.{TaskEnd, on_object}
 use Rattle.task_words.specs.Outcomes.{Body}
 use Rattle.call_service.specs.Serving.{Site, AppendsFront, BearsOut, BearsOutSoFar}
 use Rattle.call_service.specs.Replying.{Replies, IsPartly}
@@ -38,17 +38,17 @@ some_is (Some reply) there = record { reply = reply; is = refl }
 
 -- ---- ends
 
-pub may_reply : (asked : Asked) (shown : Option MapReply) (outcome : Outcome) → is_late outcome ≡ false → MayEnd asked shown outcome → IsReplied asked shown outcome
-may_reply asked shown (LateRead read_at clock) late ends = let clash : true ≡ false = late in absurd (cc)
+pub may_reply : (asked : Asked) (shown : Option MapReply) (outcome : TaskEnd) → is_late outcome ≡ false → MayEnd asked shown outcome → IsReplied asked shown outcome
+may_reply asked shown (on_object (LateRead read_at clock)) late ends = let clash : true ≡ false = late in absurd (cc)
 may_reply asked shown outcome late ends = ends
 
-pub ends_borne : (site : Site) (asked : Asked) (brought : List ℕ) (d : DoorView) (outcome : Outcome) → is_late outcome ≡ false → EndsSo site asked brought d outcome → (body : List ℕ) → BearsOut site asked read_whole body outcome brought d
-ends_borne site asked brought d (LateRead read_at clock) late ends = let clash : true ≡ false = late in absurd (cc)
+pub ends_borne : (site : Site) (asked : Asked) (brought : List ℕ) (d : DoorView) (outcome : TaskEnd) → is_late outcome ≡ false → EndsSo site asked brought d outcome → (body : List ℕ) → BearsOut site asked read_whole body outcome brought d
+ends_borne site asked brought d (on_object (LateRead read_at clock)) late ends = let clash : true ≡ false = late in absurd (cc)
 ends_borne site asked brought d outcome late ends = ends
 
 module _ (tells : Type 0) (site : Site) (form : ReplyForm) (asked : Asked) where
   abbrev text : MapReply → List ℕ → List ℕ
-  text reply bytes = text_by form asked read_whole (task 0 (Done reply)) bytes
+  text reply bytes = text_by form asked read_whole (task 0 (on_object (Done reply))) bytes
 
   -- ---- a reply that was begun
 
@@ -60,16 +60,16 @@ module _ (tells : Type 0) (site : Site) (form : ReplyForm) (asked : Asked) where
       let rest = drop (length begun.bytes) whole in
       let all = begun.bytes ++ rest in
       record {
-        outcome = Done reply;
+        outcome = on_object (Done reply);
         shown = all;
         by_event = shows_by_event asked reply begun.has_bytes;
-        written = subst (AppendsFront before now) (sym (any_actor form asked read_whole (Done reply) all d.count 0 ∙ text_grows form asked reply 0 begun.bytes rest begun.has_bytes))
+        written = subst (AppendsFront before now) (sym (any_actor form asked read_whole (on_object (Done reply)) all d.count 0 ∙ text_grows form asked reply 0 begun.bytes rest begun.has_bytes))
             (front_longer before now (text reply begun.bytes) (written_body form rest) begun.written);
         right = λ is body.
             let front = fronts is reply begun.is_shown in
             let joined : whole ≡ begun.bytes ++ front.rest = front.joined ∙ ap (λ l. l ++ front.rest) (sym (begun.is_brought is)) in
             let left : rest ≡ front.rest = ap (drop (length begun.bytes)) joined ∙ drop_front begun.bytes front.rest in
-            subst (λ l. BearsOut site asked read_whole body (Done reply) l d) (joined ∙ ap (λ l. begun.bytes ++ l) (sym left)) (front.borne body);
+            subst (λ l. BearsOut site asked read_whole body (on_object (Done reply)) l d) (joined ∙ ap (λ l. begun.bytes ++ l) (sym left)) (front.borne body);
       }
 
   begun_front : (shown : Option MapReply) (brought : List ℕ) (before now : Option (List ℕ)) → IsBegun tells form asked shown brought (Appends before now) → IsBegun tells form asked shown brought (AppendsFront before now)
@@ -165,16 +165,16 @@ module _ (tells : Type 0) (site : Site) (form : ReplyForm) (asked : Asked) where
 
   -- ---- the end
 
-  module _ (d : DoorView) (shown : Option MapReply) (brought : List ℕ) (outcome : Outcome) (may : MayEnd asked shown outcome) (so : tells → EndsSo site asked brought d outcome) (late : is_late outcome ≡ false) where
+  module _ (d : DoorView) (shown : Option MapReply) (brought : List ℕ) (outcome : TaskEnd) (may : MayEnd asked shown outcome) (so : tells → EndsSo site asked brought d outcome) (late : is_late outcome ≡ false) where
     abbrev is_reply : IsReplied asked shown outcome
     is_reply = may_reply asked shown outcome late may
 
     begun_ends : (grown : List ℕ → Type 0) → IsBegun tells form asked shown brought grown → Replies tells site form asked d grown
     begun_ends grown begun = record {
-      outcome = Done begun.reply;
+      outcome = on_object (Done begun.reply);
       shown = begun.bytes;
       by_event = shows_by_event asked begun.reply begun.has_bytes;
-      written = subst grown (any_actor form asked read_whole (Done begun.reply) begun.bytes 0 d.count) begun.written;
+      written = subst grown (any_actor form asked read_whole (on_object (Done begun.reply)) begun.bytes 0 d.count) begun.written;
       right = λ is body.
           subst (λ o. BearsOut site asked read_whole body o begun.bytes d) (is_reply.is_shown begun.reply begun.is_shown)
           (subst (λ l. BearsOut site asked read_whole body outcome l d) (sym (begun.is_brought is)) (ends_borne site asked brought d outcome late (so is) body));

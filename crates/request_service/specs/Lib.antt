@@ -1,8 +1,12 @@
 pub mod Requests
 pub mod Writing
 pub mod Early
+pub mod FirstEvents
+pub mod NoBytes
 pub mod Gets
 pub mod OwnReads
 pub mod GetLaws
 pub mod Listings
 pub mod ListLaws
+pub mod ContainerLaws
+pub mod AccountLaws

@@ -4,11 +4,11 @@ use Rattle.std.specs.Io.KnownBytes.{Appends}
 use Rattle.http_model.specs.declared.reply.ReplyForm.{ReplyForm}
 use Rattle.http_model.specs.Replies.{written_body}
 use Rattle.swift_requests.specs.declared.asked.Asked.{Asked}
-use Rattle.task_words.specs.declared.outcome.Outcome.{Outcome}
 use Rattle.task_words.specs.declared.outcome.Outcome.TheVariants.{Done, LateRead}
 use Rattle.task_words.specs.declared.reply.MapReply.{MapReply}
 use Rattle.call_words.specs.Bodies.{read_whole}
 use Rattle.call_words.specs.Calls.{task, text_by}
+use Rattle.call_words.specs.Ends.{TaskEnd, on_object}
 use Rattle.call_service.specs.declared.fault.ServeFault.{ServeFault}
 use Rattle.call_service.specs.declared.fault.ServeFault.TheVariants as faults
 use Rattle.call_service.specs.Serving.{AppendsFront}
@@ -21,7 +21,7 @@ pub record IsBegun (tells : Type 0) (form : ReplyForm) (asked : Asked) (shown : 
   pub reply : MapReply
   pub has_bytes : HasBytes asked reply
   pub bytes : List ℕ
-  pub written : grown (text_by form asked read_whole (task 0 (Done reply)) bytes)
+  pub written : grown (text_by form asked read_whole (task 0 (on_object (Done reply))) bytes)
   pub is_shown : shown ≡ Some reply
   pub is_brought : tells → bytes ≡ brought
 
@@ -50,15 +50,15 @@ StopsPiece form asked begun shown piece before now fault = ⊥
 -- ---- the end
 
 -- the reply, unless its head was written before
-abbrev pub end_text : ReplyForm → Asked → Bool → Outcome → List ℕ
-end_text form asked true outcome = []
-end_text form asked false outcome = text_at form asked outcome
+abbrev pub end_text : ReplyForm → Asked → Bool → TaskEnd → List ℕ
+end_text form asked true end = []
+end_text form asked false end = text_at form asked end
 
 -- what a fault leaves of it
-abbrev pub StopsEnd : ReplyForm → Asked → Bool → Outcome → Option (List ℕ) → Option (List ℕ) → ServeFault → Type 0
-StopsEnd form asked begun outcome before now faults.OutOfMemory = (begun ≡ false) × Appends before now []
-StopsEnd form asked begun outcome before now faults.WriteFault =
-    (begun ≡ false) × (is_late outcome ≡ false) × AppendsFront before now (end_text form asked begun outcome)
-StopsEnd form asked begun outcome before now (faults.Late read_at clock) =
-    (outcome ≡ LateRead read_at clock) × Appends before now []
-StopsEnd form asked begun outcome before now fault = ⊥
+abbrev pub StopsEnd : ReplyForm → Asked → Bool → TaskEnd → Option (List ℕ) → Option (List ℕ) → ServeFault → Type 0
+StopsEnd form asked begun end before now faults.OutOfMemory = (begun ≡ false) × Appends before now []
+StopsEnd form asked begun end before now faults.WriteFault =
+    (begun ≡ false) × (is_late end ≡ false) × AppendsFront before now (end_text form asked begun end)
+StopsEnd form asked begun end before now (faults.Late read_at clock) =
+    (end ≡ on_object (LateRead read_at clock)) × Appends before now []
+StopsEnd form asked begun end before now fault = ⊥

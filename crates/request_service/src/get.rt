@@ -2,6 +2,7 @@
 ghost use Rattle.std.specs.Prelude.{◌≡◌};
 ghost use Rattle.task_words.specs.Answers.{span_of};
 
+use crate::ending::{Ending, object_ending};
 use crate::request::Request;
 use call_words::{push_map_reply, push_outcome};
 use http_model::ReplyForm;
@@ -21,22 +22,23 @@ fn span_in(request: &GetRequest) -> Option<Span>
 }
 
 impl Request for GetTask {
-    ghost use Rattle.std.specs.Prelude.{◌≡◌, false};
-    ghost use Rattle.swift_requests.specs.declared.asked.Asked.TheVariants.{Unfed};
-    ghost use Rattle.swift_requests.specs.declared.asked.UnfedCommand.TheVariants.{Get};
-    ghost use Rattle.task_get.specs.Stages.{IsSound, ended_in};
+    ghost use Rattle.std.specs.Prelude.{◌≡◌, Some, false};
+    ghost use Rattle.task_get.specs.Stages.{IsSound, IsOver, ended_in};
+    ghost use Rattle.call_words.specs.Ends.{on_object};
     ghost use Rattle.task_get.specs.declared.stage.Stage.TheVariants.{Look};
     ghost use Rattle.task_get.specs.Tasks.{stage_of, shown_of};
     ghost use Rattle.request_service.specs.Gets.{brought_at, whole_at};
-    ghost use Rattle.request_service.specs.GetLaws.{onward, begun, goes_on, first, shows, may_end, unbrought, brings, front, right, so_far, early};
+    ghost use Rattle.request_service.specs.GetLaws.{asks, onward, begun, goes_on, first, shows, may_end, unbrought, brings, front, right, so_far, early};
 
-    ghost question = { λ r. record { zone = r.zone; asker = r.asker; asked = Unfed (Get r.get) } };
+    ghost question = { asks };
 
     ghost begins = { λ t. stage_of t ≡ Look };
 
     ghost is_sound = { λ t. IsSound (stage_of t) };
 
-    ghost ended = { λ t. ended_in (stage_of t) };
+    ghost end_by = { on_object };
+
+    ghost ends_with = { λ t outcome. ended_in (stage_of t) ≡ Some outcome };
 
     ghost is_broken = { λ t. false };
 
@@ -48,6 +50,10 @@ impl Request for GetTask {
 
     fn ended(&self) -> Option<&Outcome> {
         self.ended()
+    }
+
+    fn ending(outcome: &Outcome) -> Ending {
+        object_ending(outcome)
     }
 
     fn is_broken(&self) -> bool {

@@ -5,6 +5,7 @@ ghost use Rattle.task_list.specs.Tasks.{stage_of};
 ghost use Rattle.task_list.specs.declared.stage.Stage.TheVariants.{Look};
 ghost use Rattle.request_service.specs.Listings.{command_of, task_of, Fits};
 
+use crate::ending::{Ending, object_ending};
 use crate::request::Request;
 use call_words::push_list_outcome;
 use http_model::ReplyForm;
@@ -96,26 +97,32 @@ impl Staged for Listing {
 }
 
 impl Request for Listing {
-    ghost use Rattle.std.specs.Prelude.{◌≡◌, None};
-    ghost use Rattle.swift_requests.specs.declared.asked.Asked.TheVariants.{Unfed};
-    ghost use Rattle.swift_requests.specs.declared.asked.UnfedCommand.TheVariants.{Listing as asks_listing};
+    ghost use Rattle.std.specs.Prelude.{◌≡◌, None, Some};
     ghost use Rattle.task_list.specs.declared.stage.Stage.TheVariants.{Look};
+    ghost use Rattle.call_words.specs.Ends.{on_object};
     ghost use Rattle.task_list.specs.Tasks.{IsSound, ended_in, is_broken, stage_of};
     ghost use Rattle.request_service.specs.Listings.{task_of};
-    ghost use Rattle.request_service.specs.ListLaws.{onward, begun, goes_on, first, shows, may_end, unbrought, brings, front, right, so_far, early};
+    ghost use Rattle.request_service.specs.NoBytes.{none_are, none_shown};
+    ghost use Rattle.request_service.specs.ListLaws.{asks, onward, begun, goes_on, may_end, right, so_far, early};
 
-    ghost question = { λ c. record { zone = c.0.zone; asker = c.0.asker; asked = Unfed (asks_listing c.0.command c.1) } };
+    ghost question = { asks };
 
     ghost begins = { λ t. stage_of (task_of t) ≡ Look None };
 
     ghost is_sound = { λ t. IsSound (stage_of (task_of t)) };
 
-    ghost ended = { λ t. ended_in (stage_of (task_of t)) };
+    ghost end_by = { on_object };
+
+    ghost ends_with = { λ t outcome. ended_in (stage_of (task_of t)) ≡ Some outcome };
 
     ghost is_broken = { λ t. is_broken (stage_of (task_of t)) };
 
     fn ended(&self) -> Option<&Outcome> {
         self.task.ended()
+    }
+
+    fn ending(outcome: &Outcome) -> Ending {
+        object_ending(outcome)
     }
 
     fn is_broken(&self) -> bool {
@@ -144,17 +151,17 @@ impl Request for Listing {
 
     ghost goes_on = { goes_on };
 
-    ghost first = { first };
+    ghost first = { λ t u steps begins. none_are };
 
-    ghost shows = { shows };
+    ghost shows = { λ t reply sound is. none_shown _ reply is };
 
     ghost may_end = { may_end };
 
-    ghost unbrought = { unbrought };
+    ghost unbrought = { λ c d none. none_are };
 
-    ghost brings = { brings };
+    ghost brings = { λ t u settings d e moment same f made. none_are };
 
-    ghost front = { front };
+    ghost front = { λ t settings d reply f is. none_shown _ reply is };
 
     ghost right = { right };
 

@@ -1,10 +1,10 @@
 //! What requests without a wanted body differ in.
-ghost use Rattle.std.specs.Prelude.{◌≡◌, ◌++◌, ℕ, Bool, false, List, [], Option, None, Some, OnOk, option_copied};
+ghost use Rattle.std.specs.Prelude.{◌≡◌, ◌++◌, ℕ, Bool, false, List, [], Option, None, Some, IsSome, IfSome, ◌↔◌, OnOk, option_map};
 
+use crate::ending::Ending;
 use http_model::ReplyForm;
 use realm_door::Staged;
 use std::alloc::{AllocError, Global};
-use task_words::Outcome;
 
 /// The stages of a request that wants no body: what it asks, how it may end, and the text of its reply.
 pub trait Request: Staged {
@@ -13,16 +13,16 @@ pub trait Request: Staged {
     ghost use Rattle.realm_model.specs.Owns.{own_events};
     ghost use Rattle.realm_model.specs.Settings.{SettingsView};
     ghost use Rattle.realm_door.specs.Turns.{MakesEvent};
-    ghost use Rattle.task_words.specs.declared.outcome.Outcome.{Outcome as OutcomeOf};
     ghost use Rattle.task_words.specs.declared.reply.MapReply.{MapReply as MapReplyOf};
     ghost use Rattle.call_words.specs.Bodies.{read_whole, broken_off, IsWrong};
-    ghost use Rattle.call_words.specs.Texts.{HasReply};
+    ghost use Rattle.call_words.specs.Ends.{TaskEnd};
+    ghost use Rattle.call_words.specs.Texts.{told_by, HasReply};
     ghost use Rattle.task_words.specs.Outcomes.{Body};
     ghost use Rattle.call_service.specs.Serving.{BearsOut, BearsOutSoFar, IsNew};
     ghost use Rattle.request_service.specs.Early.{early_end};
-    ghost use Rattle.request_service.specs.Requests.{Question, site_of, IsUnfed, reply_by, text_at, shown_text, HasBytes, MayEnd, GoesOn, EndsSo, ShowsFront};
+    ghost use Rattle.request_service.specs.Requests.{Question, site_of, IsUnfed, IsThere, ending_of, text_at, shown_text, HasBytes, MayEnd, GoesOn, EndsSo, ShowsFront};
 
-    /// In which zone, by whom, and what is asked.
+    /// In which zone, and what is asked.
     ghost question: { Self.Command → Question };
 
     /// Whether the stages stand before their first event.
@@ -31,10 +31,13 @@ pub trait Request: Staged {
     /// Whether they stand where answers bring them, also where nothing is told.
     ghost is_sound: { Self → Type 0 };
 
-    /// The outcome, once it is there.
-    ghost ended: { Self → Option OutcomeOf };
+    /// How an outcome ends a task.
+    ghost end_by: { Self.Outcome → TaskEnd };
 
-    /// Whether there was no memory to go on.
+    /// Whether the stages may have ended with this outcome.
+    ghost ends_with: { Self → Self.Outcome → Type 0 };
+
+    /// Whether there was no memory to go on, so that not even a body that broke off can be replied.
     ghost is_broken: { Self → Bool };
 
     /// The reply whose bytes come, once it is known. Left out, none is.
@@ -47,10 +50,16 @@ pub trait Request: Staged {
     ghost whole: { Self.Command → SettingsView → DoorView → List ℕ } = { λ _ _ _. [] };
 
     /// The outcome, once it is there.
-    fn ended(&self) -> Option<&Outcome>
-        ensures { option_copied result ≡ ended self.now };
+    fn ended(&self) -> Option<&Self::Outcome>
+        ensures there { IsSome result ↔ Self.is_over self.now }
+        ensures with { IfSome result (λ outcome. ends_with self.now outcome.now) };
 
-    /// Whether there was no memory to go on: no event comes, and no outcome.
+    /// What is written where the task ended so.
+    fn ending(outcome: &Self::Outcome) -> Ending
+        ensures { result ≡ ending_of (end_by outcome.now) };
+
+    /// Whether there was no memory to go on, so that not even a body that broke off can be replied: no event comes,
+    /// and no outcome.
     fn is_broken(&self) -> bool
         ensures { result ≡ is_broken self.now };
 
@@ -64,17 +73,18 @@ pub trait Request: Staged {
         &self,
         alloc: Global,
         out: &mut Vec<u8>,
-        outcome: &Outcome,
+        outcome: &Self::Outcome,
         form: ReplyForm,
     ) -> Result<(), AllocError>
-        requires { HasReply (reply_by (question (Self.command self.now)).asked read_whole outcome.now) }
-        ensures { OnOk result (out.new.items ≡ out.old.items ++ text_at form (question (Self.command self.now)).asked outcome.now) };
+        requires sound { is_sound self.now }
+        requires replied { HasReply (told_by (question (Self.command self.now)).asked read_whole (end_by outcome.now)) }
+        ensures { OnOk result (out.new.items ≡ out.old.items ++ text_at form (question (Self.command self.now)).asked (end_by outcome.now)) };
 
     // ---- laws
 
     ghost unfed: { (c : Self.Command) → IsUnfed (question c).asked };
 
-    ghost onward: { (t : Self) → ended t ≡ None → Self.is_ready t };
+    ghost onward: { (t : Self) → (Self.is_over t → ⊥) → Self.is_ready t };
 
     ghost begun: { (t : Self) → begins t → Self.is_ready t × is_sound t };
 
@@ -84,7 +94,8 @@ pub trait Request: Staged {
 
     ghost shows: { (t : Self) (reply : MapReplyOf) → is_sound t → shown t ≡ Some reply → HasBytes (question (Self.command t)).asked reply };
 
-    ghost may_end: { (t : Self) (outcome : OutcomeOf) → is_sound t → ended t ≡ Some outcome → MayEnd (question (Self.command t)).asked (shown t) outcome };
+    ghost may_end: { (t : Self) (outcome : Self.Outcome) → is_sound t → ends_with t outcome
+        → MayEnd (question (Self.command t)).asked (shown t) (end_by outcome) };
 
     ghost unbrought: { (c : Self.Command) (d : DoorView) → own_events d.seen (actor_at d) ≡ [] → brought c d ≡ [] };
 
@@ -96,15 +107,15 @@ pub trait Request: Staged {
         → Self.fits t settings d → shown t ≡ Some reply
         → ShowsFront (site_of settings (question (Self.command t))) (question (Self.command t)).asked reply (brought (Self.command t) d) (whole (Self.command t) settings d) d };
 
-    ghost right: { (t : Self) (settings : SettingsView) (d : DoorView) (outcome : OutcomeOf)
-        → is_sound t → Self.fits t settings d → ended t ≡ Some outcome
-        → EndsSo (site_of settings (question (Self.command t))) (question (Self.command t)).asked (brought (Self.command t) d) d outcome };
+    ghost right: { (t : Self) (settings : SettingsView) (d : DoorView) (outcome : Self.Outcome)
+        → is_sound t → Self.fits t settings d → ends_with t outcome
+        → EndsSo (site_of settings (question (Self.command t))) (question (Self.command t)).asked (brought (Self.command t) d) d (end_by outcome) };
 
     ghost so_far: { (t : Self) (settings : SettingsView) (d : DoorView) (body : Body) → Self.fits t settings d
         → BearsOutSoFar (site_of settings (question (Self.command t))) (question (Self.command t)).asked body d };
 
-    ghost early: { (t u : Self) (settings : SettingsView) (d e : DoorView) (moment : ℕ) (why : BodyEnd) (came : List ℕ)
-        → begins t → Self.steps t u → is_broken u ≡ false → Self.fits u settings e
+    ghost early: { (t u : Self) (outcome : Option Self.Outcome) (settings : SettingsView) (d e : DoorView) (moment : ℕ) (why : BodyEnd) (came : List ℕ)
+        → begins t → Self.steps t u → is_broken u ≡ false → Self.fits u settings e → IsThere (Self.is_over u) (ends_with u) outcome
         → IsNew settings d → MakesEvent settings moment d e → IsWrong why
-        → BearsOut (site_of settings (question (Self.command u))) (question (Self.command u)).asked (broken_off why) came (early_end (ended u)) [] e };
+        → BearsOut (site_of settings (question (Self.command u))) (question (Self.command u)).asked (broken_off why) came (early_end (option_map end_by outcome)) [] e };
 }

@@ -1,15 +1,16 @@
-ghost use Rattle.std.specs.Prelude.{◌≡◌, [], true, false, None, length, IfOk, OnOk, IfErr};
+ghost use Rattle.std.specs.Prelude.{◌≡◌, ◌⊎◌, [], true, false, None, length, IfSome, IfNone, IfOk, OnOk, IfErr};
 ghost use Rattle.std.specs.Io.KnownBytes.{Appends};
-ghost use Rattle.realm_door.specs.Turns.{FitsAtFirst};
 ghost use Rattle.door_moments.specs.Acts.{Asks, IsUpTo};
 ghost use Rattle.call_words.specs.Bodies.{IsWrong};
+ghost use Rattle.call_words.specs.Ends.{body_failed, is_by_row};
 ghost use Rattle.call_service.specs.Bodies.{dropped_if};
 ghost use Rattle.call_service.specs.Serving.{MayServe, IsServed, IsStopped, Stays, StaysAround, WritesAtFault, outside};
 ghost use Rattle.call_service.specs.Replying.{Replies, StopsReply, stand};
-ghost use Rattle.request_service.specs.Requests.{site_of};
+ghost use Rattle.request_service.specs.Requests.{site_of, FitsFirst};
 ghost use Rattle.request_service.specs.Writing.{HasWritten};
-ghost use Rattle.request_service.specs.Early.{is_by_row, early_end, EndsEarly, LeavesEarly};
+ghost use Rattle.request_service.specs.Early.{EndsEarlyBy, EndsEarly, WantsMemory, LeavesPart};
 
+use crate::ending::Ending;
 use crate::request::Request;
 use crate::write::{send_end, send_outcome, send_piece};
 use call_service::{
@@ -21,7 +22,6 @@ use http_chunks::BodyEnd;
 use http_model::ReplyForm;
 use realm_door::{Door, Staged, Stepping};
 use std::alloc::Global;
-use task_words::{MapReply, Outcome, Refusal};
 
 /// Goes on to the outcome, and writes each piece as it comes. Whether the head of the reply is written by then.
 fn send_pieces<T: Request + Drop, D: Door, C: Clock, K: Sink>(
@@ -38,7 +38,7 @@ fn send_pieces<T: Request + Drop, D: Door, C: Clock, K: Sink>(
     requires up { IsUpTo T.fits D.tells (D.settings door.old) task.old.stages (D.told door.old) }
     requires none { D.tells → T.brought (T.command task.old.stages) (D.told door.old) ≡ [] }
     ensures sound { OnOk result (T.is_sound task.new.stages) }
-    ensures over { OnOk result (T.ended task.new.stages ≡ None → ⊥) }
+    ensures over { OnOk result (T.is_over task.new.stages) }
     ensures up { OnOk result (IsUpTo T.fits D.tells (D.settings door.old) task.new.stages (D.told door.new)) }
     ensures written { IfOk result (λ begun. HasWritten D.tells form (T.question (T.command task.old.stages)).asked (T.shown task.new.stages)
         (T.brought (T.command task.old.stages) (D.told door.new)) begun (K.taken sink.old) (K.taken sink.new)) }
@@ -94,16 +94,15 @@ fn send_reply<T: Request + Drop, D: Door, C: Clock, K: Sink>(
     }
 }
 
-/// Whether the row of the container refused it.
-fn is_by_row(outcome: &Outcome) -> bool
-    ensures { result ≡ is_by_row outcome.now }
+/// The outcome with which the row of the container refused the request, if it did.
+fn refused_by_row<T: Request>(request: &T) -> Option<&T::Outcome>
+    ensures row { IfSome result (λ outcome. T.ends_with request.now outcome.now × (is_by_row (T.end_by outcome.now) ≡ true)) }
+    ensures other { IfNone result (EndsEarlyBy (T.is_over request.now) (T.ends_with request.now) T.end_by (λ end. end ≡ body_failed)) }
 {
-    match outcome {
-        Outcome::Done(MapReply::Refused(refusal)) => matches!(
-            refusal,
-            Refusal::Unauthorized | Refusal::Denied(_) | Refusal::NoContainer
-        ),
-        _ => false,
+    let outcome = request.ended()?;
+    match T::ending(outcome) {
+        Ending::ByRow => Some(outcome),
+        _ => None,
     }
 }
 
@@ -119,10 +118,14 @@ fn end_early<T: Request, C: Clock, K: Sink>(
     out: &mut Vec<u8>,
 ) -> Result<Served, ServeFault>
     requires wrong { IsWrong why }
-    ensures ended { IfOk result (EndsEarly form (T.question (T.command request.now)).asked why (T.is_broken request.now) (early_end (T.ended request.now))
-        (K.taken sink.old) (K.taken sink.new) (C.told clock.old) (C.told clock.new)) }
-    ensures left { IfErr result (LeavesEarly form (T.question (T.command request.now)).asked why (T.is_broken request.now) (early_end (T.ended request.now))
-        (K.taken sink.old) (K.taken sink.new) (C.told clock.old) (C.told clock.new)) }
+    requires sound { T.is_sound request.now }
+    ensures ended { IfOk result (λ served. EndsEarlyBy (T.is_over request.now) (T.ends_with request.now) T.end_by
+        (EndsEarly form (T.question (T.command request.now)).asked why (T.is_broken request.now)
+        (K.taken sink.old) (K.taken sink.new) (C.told clock.old) (C.told clock.new) served)) }
+    ensures left { IfErr result (λ fault. WantsMemory (T.is_broken request.now) (K.taken sink.old) (K.taken sink.new) (C.told clock.old) (C.told clock.new) fault
+        ⊎ EndsEarlyBy (T.is_over request.now) (T.ends_with request.now) T.end_by
+        (LeavesPart form (T.question (T.command request.now)).asked why (T.is_broken request.now)
+        (K.taken sink.old) (K.taken sink.new) (C.told clock.old) (C.told clock.new) fault)) }
     ensures cause { WritesAtFault (K.faults sink.old) (K.faults sink.new) result }
     ensures plan { C.plan clock.new ≡ C.plan clock.old }
 {
@@ -130,11 +133,9 @@ fn end_early<T: Request, C: Clock, K: Sink>(
         return Err(ServeFault::OutOfMemory);
     }
     let form = closing(form);
-    if let Some(outcome) = request.ended() {
-        if is_by_row(outcome) {
-            send_outcome(alloc, request, outcome, form, sink, out)?;
-            return Ok(Served::Closed);
-        }
+    if let Some(outcome) = refused_by_row(request) {
+        send_outcome(alloc, request, outcome, form, sink, out)?;
+        return Ok(Served::Closed);
     }
     let _moment = clock.now();
     send_broken_body(sink, out, why, form)?;
@@ -154,7 +155,7 @@ pub fn serve_unfed<'c, T: Request + Drop, D: Door, C: Clock, S: Source, K: Sink>
 ) -> Result<Served, ServeFault>
     requires unfaulted { task.old.fault ≡ None }
     requires begins { T.begins task.old.stages }
-    requires fits { FitsAtFirst (T.question (T.command task.old.stages)).zone (T.fits task.old.stages) }
+    requires fits { FitsFirst (D.settings connection.old.door.now) (T.question (T.command task.old.stages)).zone (T.fits task.old.stages) }
     requires ready { MayServe D.tells (D.settings connection.old.door.now) (T.question (T.command task.old.stages)).zone
         (D.told connection.old.door.now) connection.old.intake.now (length connection.old.buffer.now) }
     requires shut { read ≡ false → form.close ≡ true }

@@ -2,18 +2,18 @@
 ghost use Rattle.std.specs.Prelude.{◌≡◌, true, false, OnOk, IfErr, IsSome};
 ghost use Rattle.std.specs.Io.KnownBytes.{Appends};
 ghost use Rattle.call_words.specs.Bodies.{read_whole};
-ghost use Rattle.call_words.specs.Texts.{HasReply};
+ghost use Rattle.call_words.specs.Texts.{told_by, HasReply};
 ghost use Rattle.call_service.specs.Serving.{LeavesText, WritesAtFault};
-ghost use Rattle.request_service.specs.Requests.{reply_by, text_at, is_late, MayEnd};
+ghost use Rattle.request_service.specs.Requests.{text_at, is_late, MayEnd};
 ghost use Rattle.request_service.specs.Writing.{piece_text, StopsPiece, end_text, StopsEnd};
 
+use crate::ending::Ending;
 use crate::request::Request;
 use call_service::{ServeFault, send, send_both};
 use gw_io::Sink;
 use http_model::ReplyForm;
 use realm_door::Staged;
 use std::alloc::Global;
-use task_words::Outcome;
 
 /// Up to so many bytes a first piece is written at once with the head before it.
 const SMALL_PIECE: usize = 4096;
@@ -51,14 +51,15 @@ pub(crate) fn send_piece<T: Request, K: Sink>(
 pub(crate) fn send_outcome<T: Request, K: Sink>(
     alloc: Global,
     request: &T,
-    outcome: &Outcome,
+    outcome: &T::Outcome,
     form: ReplyForm,
     sink: &mut K,
     out: &mut Vec<u8>,
 ) -> Result<(), ServeFault>
-    requires { HasReply (reply_by (T.question (T.command request.now)).asked read_whole outcome.now) }
-    ensures ok { OnOk result (Appends (K.taken sink.old) (K.taken sink.new) (text_at form (T.question (T.command request.now)).asked outcome.now)) }
-    ensures err { IfErr result (LeavesText (K.taken sink.old) (K.taken sink.new) (text_at form (T.question (T.command request.now)).asked outcome.now)) }
+    requires sound { T.is_sound request.now }
+    requires replied { HasReply (told_by (T.question (T.command request.now)).asked read_whole (T.end_by outcome.now)) }
+    ensures ok { OnOk result (Appends (K.taken sink.old) (K.taken sink.new) (text_at form (T.question (T.command request.now)).asked (T.end_by outcome.now))) }
+    ensures err { IfErr result (LeavesText (K.taken sink.old) (K.taken sink.new) (text_at form (T.question (T.command request.now)).asked (T.end_by outcome.now))) }
     ensures cause { WritesAtFault (K.faults sink.old) (K.faults sink.new) result }
 {
     out.clear();
@@ -70,23 +71,21 @@ pub(crate) fn send_outcome<T: Request, K: Sink>(
 pub(crate) fn send_end<T: Request, K: Sink>(
     alloc: Global,
     request: &T,
-    outcome: &Outcome,
+    outcome: &T::Outcome,
     form: ReplyForm,
     begun: bool,
     sink: &mut K,
     out: &mut Vec<u8>,
 ) -> Result<(), ServeFault>
-    requires { MayEnd (T.question (T.command request.now)).asked (T.shown request.now) outcome.now }
-    ensures ok { OnOk result ((is_late outcome.now ≡ false)
-        × Appends (K.taken sink.old) (K.taken sink.new) (end_text form (T.question (T.command request.now)).asked begun outcome.now)) }
-    ensures err { IfErr result (StopsEnd form (T.question (T.command request.now)).asked begun outcome.now (K.taken sink.old) (K.taken sink.new)) }
+    requires sound { T.is_sound request.now }
+    requires may { MayEnd (T.question (T.command request.now)).asked (T.shown request.now) (T.end_by outcome.now) }
+    ensures ok { OnOk result ((is_late (T.end_by outcome.now) ≡ false)
+        × Appends (K.taken sink.old) (K.taken sink.new) (end_text form (T.question (T.command request.now)).asked begun (T.end_by outcome.now))) }
+    ensures err { IfErr result (StopsEnd form (T.question (T.command request.now)).asked begun (T.end_by outcome.now) (K.taken sink.old) (K.taken sink.new)) }
     ensures cause { WritesAtFault (K.faults sink.old) (K.faults sink.new) result }
 {
-    if let Outcome::LateRead { read_at, clock } = outcome {
-        return Err(ServeFault::Late {
-            read_at: *read_at,
-            clock: *clock,
-        });
+    if let Ending::Late { read_at, clock } = T::ending(outcome) {
+        return Err(ServeFault::Late { read_at, clock });
     }
     if begun {
         return Ok(());

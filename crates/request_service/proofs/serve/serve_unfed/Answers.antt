@@ -1,4 +1,5 @@
-use Rattle.std.proofs.Common.{rules, ◌≡◌, ◌++◌, [], true, false, ap, ◌∙◌, refl, subst}
+use Rattle.std.proofs.Common.{rules, ◌≡◌, ◌⊎◌, ◌++◌, [], true, false, Option, ap, ◌∙◌, refl, subst}
+use Rattle.std.specs.Prelude.{option_map}
 use Rattle.std.proofs.KnownBytes.{Appends-nil, Consumes-nil}
 use Rattle.std.proofs.lemmas.Result.{err_from_is_err_and, IfOk-weaker, IfErr-weaker}
 use Rattle.std.specs.Io.KnownBytes.{Appends}
@@ -14,9 +15,9 @@ use Rattle.call_service.proofs.Passing.{none_come, breaks_so}
 use Rattle.call_service.proofs.Replying.{event_stopped, row_stops, body_stops, reply_stops, replied, shut_form}
 use Rattle.door_moments.specs.Acts.{Asks}
 use Rattle.door_moments.proofs.Asking.{none_asks}
-use Rattle.request_service.specs.Early.{early_end, EndsEarly, LeavesEarly}
-use Rattle.request_service.specs.Requests.{site_of}
-use Rattle.request_service.proofs.Early.{BreaksEarly, served_early, stops_early}
+use Rattle.request_service.specs.Early.{early_end, EndsEarlyBy, EndsEarly, WantsMemory, LeavesPart}
+use Rattle.request_service.specs.Requests.{site_of, IsThere}
+use Rattle.request_service.proofs.Early.{BreaksEarly, is_early_served, is_early_stopped}
 use Rattle.request_service.proofs.Ends.{at_site, stands_so}
 use Rattle.request_service.proofs.Texts.{unwanted}
 use Rattle.request_service.proofs.serve.serve_unfed.Given.{Over}
@@ -56,8 +57,8 @@ returns-in_err-act-clause-stopped g c =
     let d = g.D.Door.told c.args.connection.now.door.now in
     let found = g.D.Door.found c.act.new.door in
     let is : c.args.read ≡ true = search rules in
-    let so_far : tells → BearsOutSoFar (record { settings = settings; zone = q.zone; asker = q.asker }) q.asked (body_of []) (g.D.Door.told c.act.new.door) =
-    λ is. rw (now.stays is) (g.met.T.Request.so_far t settings d (body_of []) (c.requires.fits settings d ready.low ready.high (ready.new is).account (ready.new is).events)) in
+    let so_far : tells → BearsOutSoFar (record { settings = settings; zone = q.zone }) q.asked (body_of []) (g.D.Door.told c.act.new.door) =
+    λ is. rw (now.stays is) (g.met.T.Request.so_far t settings d (body_of []) (c.requires.fits d ready.low ready.high (ready.new is).account (ready.new is).events)) in
     let p = err_from_is_err_and c.from_residual-in_err-act.result c.from_residual-in_err-act.ensures.1 in
     rw (is, p.1, p.2)
     (row_stops tells g.D.Door.alone _ _ _ Dropped found _ _ (body_of []) (fault_by_door c.in_err-act.field-0.0) (event_stopped tells found c.in_err-act.field-0.0 now.worn)
@@ -135,14 +136,12 @@ returns-in_ok-send_reply-in-Whole-clause-served g c =
 
 broke_off : (g : Over) (c : goal.After-end_early g)
     → BreaksEarly g.D.Door.tells (site_of (g.D.Door.settings c.args.connection.now.door.now) (g.T.Request.question (g.T.Staged.command c.args.task.now.stages))) (g.T.Request.question (g.T.Staged.command c.args.task.now.stages)).asked c.in_ok-why.why
-    (g.T.Request.is_broken c.act.new.task.stages) (early_end (g.T.Request.ended c.act.new.task.stages)) c.args.connection.now.intake.now c.drop_body.new.intake (g.S.Source.left c.args.connection.now.source.now) (g.S.Source.left c.drop_body.new.source) (g.D.Door.told c.act.new.door)
+    c.args.connection.now.intake.now c.drop_body.new.intake (g.S.Source.left c.args.connection.now.source.now) (g.S.Source.left c.drop_body.new.source) (g.D.Door.told c.act.new.door)
 broke_off g c =
     let before = c.in_ok-act.ensures in
     let t = c.args.task.now.stages in
     let u = c.act.new.task.stages in
-    let question = g.T.Request.question in
     let settings = g.D.Door.settings c.args.connection.now.door.now in
-    let d = g.D.Door.told c.args.connection.now.door.now in
     let e = g.D.Door.told c.act.new.door in
     let why = c.in_ok-why.why in
     let wrong = wrong_of why c.in_default.not-Whole c.in_default.not-Cut in
@@ -153,11 +152,32 @@ broke_off g c =
       wrong = wrong;
       came = broken.0;
       breaks = broken.1;
-      right = λ going is.
-          at_site question (λ s a. BearsOut s a (broken_off why) broken.0 (early_end (g.T.Request.ended u)) [] e) settings settings (g.T.Staged.command t) (g.T.Staged.command u) refl before.command
-          (g.met.T.Request.early t u settings d e (before.made is).0 why broken.0 c.requires.begins before.steps going (fits is) (c.requires.ready.new is) (before.made is).1 wrong);
-      so_far = λ is. at_site question (λ s a. BearsOutSoFar s a body e) settings settings (g.T.Staged.command t) (g.T.Staged.command u) refl before.command (g.met.T.Request.so_far u settings e body (fits is));
+      so_far = λ is. at_site g.T.Request.question (λ s a. BearsOutSoFar s a body e) settings settings (g.T.Staged.command t) (g.T.Staged.command u) refl before.command (g.met.T.Request.so_far u settings e body (fits is));
     }
+
+-- the outcome that is there, or none, is borne out
+early_borne : (g : Over) (c : goal.After-end_early g) (outcome : Option _) → IsThere (g.T.Staged.is_over c.act.new.task.stages) (g.T.Request.ends_with c.act.new.task.stages) outcome
+    → g.T.Request.is_broken c.act.new.task.stages ≡ false → g.D.Door.tells
+    → BearsOut (site_of (g.D.Door.settings c.args.connection.now.door.now) (g.T.Request.question (g.T.Staged.command c.args.task.now.stages))) (g.T.Request.question (g.T.Staged.command c.args.task.now.stages)).asked (broken_off c.in_ok-why.why) (broke_off g c).came
+    (early_end (option_map g.T.Request.end_by outcome)) [] (g.D.Door.told c.act.new.door)
+early_borne g c outcome there going is =
+    let before = c.in_ok-act.ensures in
+    let t = c.args.task.now.stages in
+    let u = c.act.new.task.stages in
+    let settings = g.D.Door.settings c.args.connection.now.door.now in
+    let d = g.D.Door.told c.args.connection.now.door.now in
+    let e = g.D.Door.told c.act.new.door in
+    let why = c.in_ok-why.why in
+    let b = broke_off g c in
+    let fits : g.T.Staged.fits u settings e = stands_so c.act.new.task.fault (g.T.Staged.fits u settings e) before.sound (before.up is).1 in
+    at_site g.T.Request.question (λ s a. BearsOut s a (broken_off why) b.came (early_end (option_map g.T.Request.end_by outcome)) [] e) settings settings (g.T.Staged.command t) (g.T.Staged.command u) refl before.command
+    (g.met.T.Request.early t u outcome settings d e (before.made is).0 why b.came c.requires.begins before.steps going fits there (c.requires.ready.new is) (before.made is).1 b.wrong)
+
+pub end_early-requires-clause-sound : goal.end_early-requires-clause-sound
+end_early-requires-clause-sound g c κs within =
+    let t = c.args.task.now.stages in
+    let u = c.act.new.task.stages in
+    (g.met.T.Request.goes_on t u c.in_ok-act.ensures.steps (g.met.T.Request.begun t c.requires.begins).1).0
 
 pub returns-in_default-clause-served : goal.returns-in_default-clause-served
 returns-in_default-clause-served g c =
@@ -167,8 +187,9 @@ returns-in_default-clause-served g c =
     let is : c.args.read ≡ true = search rules in
     rw is
     (IfOk-weaker c.end_early.result _ _
-    (λ served early. served_early _ _ _ _ _ (g.D.Door.found c.act.new.door) _ _ _ before.asks (λ is. (before.up is).0) c.requires.ready.failed why (g.T.Request.is_broken u) (g.T.Request.ended u) (broke_off g c) served
-    (subst (λ k. EndsEarly c.args.form (g.T.Request.question k).asked why (g.T.Request.is_broken u) (early_end (g.T.Request.ended u)) (g.K.Sink.taken c.args.connection.now.sink.now) (g.K.Sink.taken c.end_early.new.sink) (g.C.Clock.told c.act.new.clock) (g.C.Clock.told c.end_early.new.clock) served) before.command early))
+    (λ served early. is_early_served _ _ _ _ _ (g.D.Door.found c.act.new.door) _ _ _ before.asks (λ is. (before.up is).0) c.requires.ready.failed why (g.T.Request.is_broken u) (broke_off g c)
+    _ (g.T.Staged.is_over u) (g.T.Request.ends_with u) g.T.Request.end_by (early_borne g c) served
+    (subst (λ k. EndsEarlyBy (g.T.Staged.is_over u) (g.T.Request.ends_with u) g.T.Request.end_by (EndsEarly c.args.form (g.T.Request.question k).asked why (g.T.Request.is_broken u) (g.K.Sink.taken c.args.connection.now.sink.now) (g.K.Sink.taken c.end_early.new.sink) (g.C.Clock.told c.act.new.clock) (g.C.Clock.told c.end_early.new.clock) served)) before.command early))
     c.end_early.ensures.ended)
 
 pub returns-in_default-clause-stopped : goal.returns-in_default-clause-stopped
@@ -177,8 +198,10 @@ returns-in_default-clause-stopped g c =
     let u = c.act.new.task.stages in
     let why = c.in_ok-why.why in
     let is : c.args.read ≡ true = search rules in
+    let wants = WantsMemory (g.T.Request.is_broken u) (g.K.Sink.taken c.args.connection.now.sink.now) (g.K.Sink.taken c.end_early.new.sink) (g.C.Clock.told c.act.new.clock) (g.C.Clock.told c.end_early.new.clock) in
     rw is
     (IfErr-weaker c.end_early.result _ _
-    (λ fault left. stops_early _ _ _ _ _ (g.D.Door.found c.act.new.door) _ _ _ before.asks (λ is. (before.up is).0) c.requires.ready.failed why (g.T.Request.is_broken u) (g.T.Request.ended u) (broke_off g c) fault
-    (subst (λ k. LeavesEarly c.args.form (g.T.Request.question k).asked why (g.T.Request.is_broken u) (early_end (g.T.Request.ended u)) (g.K.Sink.taken c.args.connection.now.sink.now) (g.K.Sink.taken c.end_early.new.sink) (g.C.Clock.told c.act.new.clock) (g.C.Clock.told c.end_early.new.clock) fault) before.command left))
+    (λ fault left. is_early_stopped _ _ _ _ _ (g.D.Door.found c.act.new.door) _ _ _ before.asks (λ is. (before.up is).0) c.requires.ready.failed why (g.T.Request.is_broken u) (broke_off g c)
+    _ (g.T.Staged.is_over u) (g.T.Request.ends_with u) g.T.Request.end_by (early_borne g c) fault
+    (subst (λ k. wants fault ⊎ EndsEarlyBy (g.T.Staged.is_over u) (g.T.Request.ends_with u) g.T.Request.end_by (LeavesPart c.args.form (g.T.Request.question k).asked why (g.T.Request.is_broken u) (g.K.Sink.taken c.args.connection.now.sink.now) (g.K.Sink.taken c.end_early.new.sink) (g.C.Clock.told c.act.new.clock) (g.C.Clock.told c.end_early.new.clock) fault)) before.command left))
     c.end_early.ensures.left)

@@ -17,5 +17,5 @@ returns-in-Some c =
     let span = c.span_in.ensures ∙ ap (λ (r : GetRequest). span_of r.get) c.request.ensures in
     let shown : shown_of c.args.self.now ≡ Some reply = search rules in
     on_ok_weaker c.push_map_reply.result
-    (λ grown. grown ∙ ap (λ (l : List ℕ). c.args.out.now.items ++ l) (get_text c.args.form r.get c.span_in.result (Done reply) span ∙ sym (ap (shown_text c.args.form (Unfed (Get r.get))) shown)))
+    (λ grown. grown ∙ ap (λ (l : List ℕ). c.args.out.now.items ++ l) (get_text c.args.form r.asker r.get c.span_in.result (Done reply) span ∙ sym (ap (shown_text c.args.form (Unfed r.asker (Get r.get))) shown)))
     c.push_map_reply.ensures

@@ -10,5 +10,5 @@ pub returns : goal.returns
 returns c =
     let span = c.span_in.ensures ∙ ap (λ (r : GetRequest). span_of r.get) c.request.ensures in
     on_ok_weaker c.push_outcome.result
-    (λ grown. grown ∙ ap (λ (l : List ℕ). c.args.out.now.items ++ l) (get_text c.args.form (request_of c.args.self.now).get c.span_in.result c.args.outcome.now span))
+    (λ grown. grown ∙ ap (λ (l : List ℕ). c.args.out.now.items ++ l) (get_text c.args.form (request_of c.args.self.now).asker (request_of c.args.self.now).get c.span_in.result c.args.outcome.now span))
     c.push_outcome.ensures
