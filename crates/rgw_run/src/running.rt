@@ -107,9 +107,13 @@ fn serve_once<S: Source, K: Sink, C: Clock>(
         users,
     } = once;
     match now {
-        None => serve_by_clock(alloc, &settings, &users, &bucket, input, output, clock, realm),
+        None => serve_by_clock(
+            alloc, &settings, &users, &bucket, input, output, clock, realm,
+        ),
         Some(moment) => {
-            serve_at(alloc, &settings, &users, &bucket, moment, input, output, realm)
+            serve_at(
+                alloc, &settings, &users, &bucket, moment, input, output, realm,
+            )
         }
     }
 }
