@@ -1,10 +1,10 @@
 -- Which request a command is.
-use Rattle.std.proofs.Common.{◌≡◌, inl, ℕ, ◌≤◌, true, false, List, [], None, Result, IfOk, IfErr, refl, sym, ap, ◌∙◌, subst}
+use Rattle.std.proofs.Common.{◌≡◌, inl, ℕ, ◌≤◌, false, List, [], None, Result, IfOk, IfErr, refl, sym, ap, ◌∙◌, subst}
 use Rattle.std.proofs.KnownBytes.{Appends-nil}
 use Rattle.http_model.specs.declared.reply.ReplyForm.{ReplyForm}
 use Rattle.list_words.specs.declared.command.ListCommand.{ListCommand}
 use Rattle.list_words.proofs.Keys.{above_marker}
-use Rattle.realm_model.specs.Doors.{DoorView, actor_at}
+use Rattle.realm_model.specs.Doors.{actor_at}
 use Rattle.realm_model.specs.Owns.{OwnEvent, own_events}
 use Rattle.realm_model.specs.Accounts.{blank}
 use Rattle.realm_model.specs.Histories.{account_of}
@@ -12,7 +12,6 @@ use Rattle.realm_model.specs.Settings.{SettingsView}
 use Rattle.realm_model.specs.declared.event.Event.{Event}
 use Rattle.realm_door.specs.Turns.{FitsAtFirst}
 use Rattle.swift_reply.specs.declared.reply.ListingForm.{ListingForm}
-use Rattle.swift_requests.specs.declared.asked.Asked.{Asked}
 use Rattle.swift_requests.specs.declared.asked.Asked.TheVariants.{Unfed}
 use Rattle.swift_requests.specs.declared.asked.UnfedCommand.{UnfedCommand}
 use Rattle.swift_requests.specs.declared.asked.UnfedCommand.TheVariants.{Get, Listing, Container, Account as OfAccount}

@@ -21,12 +21,12 @@ use Rattle.task_words.specs.declared.span.Span.{Span}
 use Rattle.task_words.specs.Answers.{span_of}
 use Rattle.call_words.specs.Bodies.{Fate, read_whole, broken_off}
 use Rattle.call_words.specs.Calls.{task, text_by}
-use Rattle.call_words.specs.Ends.{TaskEnd, on_object, on_container, on_account, body_failed, is_by_row}
+use Rattle.call_words.specs.Ends.{TaskEnd, on_object, on_container, body_failed, is_by_row}
 use Rattle.call_words.specs.Texts.{told_by, HasReply, outcome_reply, reply_in, front_of, front_if, text_if, broken_text}
 use Rattle.call_words.proofs.Fates.{told_whole}
 use Rattle.call_service.specs.Serving.{is_by_end}
 use Rattle.call_service.specs.Replying.{IsUnwanted}
-use Rattle.request_service.specs.declared.ending.Ending.TheVariants.{Replied, ByRow, Late}
+use Rattle.request_service.specs.declared.ending.Ending.TheVariants.{Replied, ByRow}
 use Rattle.request_service.specs.Requests.{IsUnfed, MayEnd, ending_of, text_at, HasBytes}
 
 -- ---- bytes

@@ -13,12 +13,11 @@ use Rattle.swift_reply.specs.declared.reply.ListingForm.{ListingForm}
 use Rattle.swift_requests.specs.declared.asked.Asked.{Asked}
 use Rattle.swift_requests.specs.declared.asked.Asked.TheVariants.{Unfed}
 use Rattle.swift_requests.specs.declared.asked.UnfedCommand.TheVariants.{Account as OfAccount}
-use Rattle.task_words.specs.declared.asker.Asker.{Asker}
 use Rattle.task_words.specs.Outcomes.{Body}
 use Rattle.task_account.specs.declared.reply.AccountOutcome.{AccountOutcome}
 use Rattle.task_account.specs.declared.request.AccountRequest.{AccountRequest}
 use Rattle.task_account.specs.declared.stage.Stage.{Stage}
-use Rattle.task_account.specs.declared.stage.Stage.TheVariants.{Ended, Broken}
+use Rattle.task_account.specs.declared.stage.Stage.TheVariants.{Ended}
 use Rattle.task_account.specs.declared.task.AccountTask.{AccountTask}
 use Rattle.task_account.specs.Stages.{IsOpen, IsOver}
 use Rattle.task_account.specs.Tasks.{IsAccountEnd, request_of, stage_of, fits, Steps}

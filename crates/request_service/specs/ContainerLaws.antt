@@ -25,7 +25,7 @@ use Rattle.task_container.specs.Fits.{stage_of, request_of, fits}
 use Rattle.task_container.specs.Orders.{led, IsContainerSoFar}
 use Rattle.task_container.specs.Stages.{IsOpen, IsOver, begun as first_progress}
 use Rattle.call_words.specs.Bodies.{broken_off, IsWrong}
-use Rattle.call_words.specs.Calls.{LooksAlone, is_refused_at, IsBorneOut}
+use Rattle.call_words.specs.Calls.{is_refused_at, IsBorneOut}
 use Rattle.call_words.specs.Ends.{TaskEnd, on_container, body_failed, is_by_row}
 use Rattle.call_words.proofs.Fates.{broken_has_reply}
 use Rattle.call_service.specs.Serving.{BearsOut, BearsOutSoFar, IsNew}
@@ -98,8 +98,7 @@ module _ (settings : SettingsView) (r : ContainerRequest) (why : BodyEnd) (wrong
     -- the row does not refuse it, and the body decides
     looks_alone : is_refused_at (led r settings.shards first_progress events).stage ≡ false → Right body_failed
     looks_alone lets =
-        let first = subst (IsContainerSoFar r settings) alone ordered in
-        (
+        let first = subst (IsContainerSoFar r settings) alone ordered in (
           (
             record {
               reads = record { look = own; alone = alone; op = first.1 };

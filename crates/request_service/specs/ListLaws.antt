@@ -9,7 +9,6 @@ use Rattle.realm_model.specs.Histories.{Doings, account_of, world_of}
 use Rattle.realm_model.specs.Maps.{heads}
 use Rattle.realm_model.specs.Owns.{OwnEvent, own_events}
 use Rattle.realm_model.specs.Settings.{SettingsView}
-use Rattle.realm_model.specs.declared.op.Op.{Op}
 use Rattle.realm_door.specs.declared.door.Answered.{Answered}
 use Rattle.realm_door.specs.Steps.{Extends, own_event}
 use Rattle.realm_door.specs.Turns.{MakesEvent}

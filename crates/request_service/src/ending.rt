@@ -22,9 +22,9 @@ pub(crate) fn object_ending(outcome: &Outcome) -> Ending
     ensures { result ≡ ending_of (on_object outcome.now) }
 {
     match outcome {
-        Outcome::Done(MapReply::Refused(
-            Refusal::Unauthorized | Refusal::Denied(_) | Refusal::NoContainer,
-        )) => Ending::ByRow,
+        Outcome::Done(
+            MapReply::Refused(Refusal::Unauthorized | Refusal::Denied(_) | Refusal::NoContainer),
+        ) => Ending::ByRow,
         Outcome::LateRead { read_at, clock } => Ending::Late {
             read_at: *read_at,
             clock: *clock,
@@ -38,9 +38,9 @@ pub(crate) fn container_ending(outcome: &ContainerOutcome) -> Ending
     ensures { result ≡ ending_of (on_container outcome.now) }
 {
     match outcome {
-        ContainerOutcome::Done(ContainerReply::Refused(
-            ContainerRefusal::ByRow(_) | ContainerRefusal::NotYours,
-        ))
+        ContainerOutcome::Done(
+            ContainerReply::Refused(ContainerRefusal::ByRow(_) | ContainerRefusal::NotYours),
+        )
         | ContainerOutcome::Busy { .. } => Ending::ByRow,
         _ => Ending::Replied,
     }

@@ -1,4 +1,4 @@
-use Rattle.std.proofs.Common.{rules, ◌≡◌, inr, Some, refl}
+use Rattle.std.proofs.Common.{rules, inr, Some, refl}
 use Rattle.std.specs.Prelude.{option_map}
 use Rattle.std.proofs.lemmas.Result.{err_from_is_err_and}
 use Rattle.request_service.proofs.Early.{closed_so, closed_stops, over_so, over_stops}
@@ -18,8 +18,7 @@ returns-in-Some-clause-ended g c =
     let r = c.args.request.now in
     let outcome = c.in-Some.outcome.now in
     let end = g.T.Request.end_by outcome in
-    let by = c.in-Some.ensures.row in
-    (
+    let by = c.in-Some.ensures.row in (
       Some outcome,
       by.0,
       closed_so c.args.form (g.T.Request.question (g.T.Staged.command r)).asked c.args.why (g.T.Request.is_broken r) (Some end) _ _ (search rules) end _ refl by.1 (search rules),
@@ -44,8 +43,7 @@ returns-in_err-send_outcome-clause-left g c =
 pub returns-clause-ended : goal.returns-clause-ended
 returns-clause-ended g c =
     let r = c.args.request.now in
-    let by = c.in_default.ensures.other in
-    (
+    let by = c.in_default.ensures.other in (
       by.0,
       by.1,
       over_so c.args.form (g.T.Request.question (g.T.Staged.command r)).asked c.args.why (g.T.Request.is_broken r) (option_map g.T.Request.end_by by.0) _ _ (search rules) (g.met.T.Request.unfed (g.T.Staged.command r)) _ _ by.2 (search rules) (search rules),
