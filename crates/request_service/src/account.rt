@@ -5,7 +5,7 @@ ghost use Rattle.task_account.specs.Stages.{IsOpen};
 ghost use Rattle.task_account.specs.Tasks.{request_of, stage_of, fits};
 
 use crate::beside::Beside;
-use crate::ending::Ending;
+use crate::ending::{Ending, account_ending};
 use crate::request::Request;
 use call_words::push_account_outcome;
 use http_model::ReplyForm;
@@ -61,8 +61,8 @@ impl Request for Beside<AccountTask, (Option<User>, ListingForm)> {
         self.task.end()
     }
 
-    fn ending(_outcome: &AccountOutcome) -> Ending {
-        Ending::Replied
+    fn ending(outcome: &AccountOutcome) -> Ending {
+        account_ending(outcome)
     }
 
     fn is_broken(&self) -> bool {

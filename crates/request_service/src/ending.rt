@@ -1,8 +1,9 @@
 //! What is written where a task ended.
 ghost use Rattle.std.specs.Prelude.{◌≡◌};
-ghost use Rattle.call_words.specs.Ends.{on_object, on_container};
+ghost use Rattle.call_words.specs.Ends.{on_object, on_container, on_account};
 ghost use Rattle.request_service.specs.Requests.{ending_of};
 
+use task_account::AccountOutcome;
 use task_container::{ContainerOutcome, ContainerRefusal, ContainerReply};
 use task_words::{MapReply, Outcome, Refusal};
 
@@ -44,4 +45,11 @@ pub(crate) fn container_ending(outcome: &ContainerOutcome) -> Ending
         | ContainerOutcome::Busy { .. } => Ending::ByRow,
         _ => Ending::Replied,
     }
+}
+
+/// That of a request on an account: no row refuses it.
+pub(crate) fn account_ending(_outcome: &AccountOutcome) -> Ending
+    ensures { result ≡ ending_of (on_account _outcome.now) }
+{
+    Ending::Replied
 }
