@@ -40,7 +40,8 @@ const REFUSED: &[&[&str]] = &[
     &["once", "--largest", "0"],
     &["once", "--largest", "5368709121"],
     &["once", "--largest=1", "--largest=1"],
-    &["once", "--users", ONE_USER],
+    &["once", "--users", "[]"],
+    &["once", "--users", ONE_USER, "--users", ONE_USER],
     &["once", "--wait-seconds", "7200"],
     &["once", "--threshold", "100000"],
     &["once", "--zones", "1"],
@@ -236,12 +237,17 @@ fn the_largest_object_is_set_up_to_its_ends(rt: HostRuntime) -> Result<(), Fail>
     Ok(())
 }
 
-/// Whether the first of so many users has this name.
+/// Whether so many users are said, and the first has this name.
+fn is_first(asked: RunWords, count: usize, name: &str) -> bool {
+    let right = asked.users.as_slice().len() == count && asked.users.first().full_name().is(name);
+    drop(asked);
+    right
+}
+
+/// Whether the first of so many users of a script has this name.
 fn has_first_user(alloc: Global, words: &[&str], count: usize, name: &str) -> Result<bool, Fail> {
     let script = script_of(alloc, words)?.ok().ok_or("no script")?;
-    let right = script.users.as_slice().len() == count && script.users.first().full_name().is(name);
-    drop(script);
-    Ok(right)
+    Ok(is_first(script, count, name))
 }
 
 #[test]
@@ -252,6 +258,18 @@ fn users_of_a_script_are_those_of_the_words(rt: HostRuntime) -> Result<(), Fail>
     assert!(rt; has_first_user(alloc, &["script", "--users", ONE_USER], 1, "beta:bob")?);
     assert!(rt; has_first_user(alloc, &["script", joined], 1, "beta:bob")?);
     assert!(rt; has_first_user(alloc, &["script", "--users", TWO_USERS], 2, "beta:bob")?);
+    Ok(())
+}
+
+#[test]
+fn users_of_a_connection_are_those_of_the_words(rt: HostRuntime) -> Result<(), Fail> {
+    let alloc = rt.alloc();
+    let once = once_of(alloc, &["once", "--users", TWO_USERS])?;
+    assert!(rt; is_first(once.ok().ok_or("no connection")?, 2, "beta:bob"));
+    let usual = once_of(alloc, &["once"])?;
+    assert!(rt; is_first(usual.ok().ok_or("no connection")?, 1, "acme:ann"));
+    let serve = serve_of(alloc, &["serve", "--port=80", "--users", ONE_USER])?;
+    assert!(rt; is_first(serve.ok().ok_or("no server")?.run, 1, "beta:bob"));
     Ok(())
 }
 
@@ -339,7 +357,8 @@ const NO_SERVERS: &[&[&str]] = &[
     &["serve", "--accepts", "1000001"],
     &["serve", "--accepts", "-1"],
     &["serve", "--stripe", "15"],
-    &["serve", "--users", ONE_USER],
+    &["serve", "--users", "[]"],
+    &["serve", "--users", ONE_USER, "--users", ONE_USER],
     &["serve", "--port=0"],
     &["serve", "--port=80", "--port", "80"],
 ];
