@@ -212,12 +212,12 @@ IsSaidTo x slots (Asks.Unfed asker (Get c)) fate body (task actor (on_object out
     IsGetSaid x slots asker c fate actor outcome shown
 IsSaidTo x slots (Asks.Unfed asker (Listing c listing)) fate body (task actor (on_object outcome)) shown =
     IsListingSaid x slots asker c fate outcome shown
-IsSaidTo x slots asked fate body ground shown = ⊥
+IsSaidTo x slots asked fate body rests shown = ⊥
 
 abbrev pub left_behind : Fixed → Slots → Option (Asker × Command) → Ground → Slots
 left_behind x slots (Some (asker, command)) (task actor (on_object outcome)) =
     left_by (said x slots asker command actor) outcome slots
-left_behind x slots command ground = slots
+left_behind x slots command rests = slots
 
 -- the call is replied as the rows and the slots say
 abbrev pub IsFolded : Fixed → Slots → Call → Type 0
@@ -245,7 +245,7 @@ IsRepliedOrFull alone = Unit {0}
 IsRepliedOrFull (task actor (on_object (Done reply))) = Unit {0}
 IsRepliedOrFull (task actor (on_object BodyFailed)) = Unit {0}
 IsRepliedOrFull (task actor (on_object (NoSpace free needed))) = Unit {0}
-IsRepliedOrFull ground = ⊥
+IsRepliedOrFull rests = ⊥
 
 abbrev pub AreRepliedOrFull : List Call → Type 0
 AreRepliedOrFull calls = AllByRecursion (λ call. IsRepliedOrFull call.ground) calls
@@ -255,7 +255,7 @@ abbrev pub IsReplied : Ground → Type 0
 IsReplied alone = Unit {0}
 IsReplied (task actor (on_object (Done reply))) = Unit {0}
 IsReplied (task actor (on_object BodyFailed)) = Unit {0}
-IsReplied ground = ⊥
+IsReplied rests = ⊥
 
 abbrev pub AreReplied : List Call → Type 0
 AreReplied calls = AllByRecursion (λ call. IsReplied call.ground) calls

@@ -34,11 +34,11 @@ use Rattle.swift_auth.specs.Users.{UserView}
 use Rattle.container_preset.specs.Presets.{row_now, new_row, shard_op, row_op, event_by, makes, look, made_row}
 use Rattle.container_preset.proofs.Rows.{makes_stay, next_is}
 use Rattle.once_law.specs.Maps.{rows_in, slots_in, no_slots}
-use Rattle.once_law.specs.Runs.{owner_in, NoneFrom, IsOpen, AreAt}
+use Rattle.once_law.specs.Runs.{NoneFrom, IsOpen, AreAt}
 use Rattle.once_law.proofs.Open.{keeps_open, homes_kept}
 use Rattle.once_law.proofs.Folding.{none_of_other}
 use Rattle.once_law.proofs.Moments.{clock_behind}
-use Rattle.rgw_run.specs.Runs.{door_at, first_door, making}
+use Rattle.rgw_run.specs.Runs.{owner_in, door_at, first_door, making}
 use Rattle.rgw_run.specs.Exact.{one_row}
 
 -- ---- each event

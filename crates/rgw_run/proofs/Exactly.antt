@@ -141,6 +141,7 @@ module _ (settings : SettingsView) (history : List Event) (count : ℕ) where
 
 -- the events behind the first calls are made for the others, and then later
 made_behind : (pass : ℕ) (front rest : List Call) (events later : List Event) (made : AreMade pass (front ++ rest) events later) → AreMade pass rest (made_first pass front rest events later made).others later
+unfolding made_first
 made_behind pass [] rest events later made = made
 made_behind pass (call ∷ front) rest events later (own_events, others, both, own, made) = made_behind pass front rest others later made
 

@@ -4,4 +4,5 @@ pub mod Container
 pub mod Told
 pub mod Exactly
 pub mod InTime
+pub mod Asking
 pub mod Serving

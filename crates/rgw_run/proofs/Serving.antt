@@ -1,11 +1,14 @@
 -- Runs whose words ask for a server, and others.
-use Rattle.std.proofs.Common.{◌≡◌, inl, inr, ℕ, Bool, Option, None, Some, IsSome, refl, sym, subst, arith}
+use Rattle.std.proofs.Common.{◌≡◌, inl, inr, ℕ, Bool, true, List, Option, None, Some, refl, sym, subst, arith}
 use Rattle.gw_io.specs.Ends.{EndsState}
 use Rattle.realm_core.specs.Realms.{RealmView}
 use Rattle.rgw_server.specs.declared.accepting.ServeEnd.{ServeEnd}
 use Rattle.rgw_server.specs.declared.accepting.ServeEnd.TheVariants.{Ended, OutOfMemory, Failed}
 use Rattle.rgw_words.specs.declared.run_words.RunWords.{RunWords}
 use Rattle.rgw_words.specs.declared.serve_words.ServeWords.{ServeWords}
+use Rattle.rgw_words.specs.Words.{once_of, script_of, serve_of, may_ask_serve, may_ask}
+use Rattle.rgw_words.proofs.Apart.{serve_not_once}
+use Rattle.rgw_run.proofs.Asking.{serve_may}
 use Rattle.rgw_run.proofs.Ending.{unread}
 use Rattle.rgw_run.specs.Exact.{RunsExactlyIf}
 use Rattle.rgw_run.specs.Runs.{RunsAlone}
@@ -56,6 +59,13 @@ unread_server once script may_ask (Some asked) ends net realm none may =
     serves once script may_ask ends ends net net realm 4 asked (record { served = inl (record { same = refl; memory = refl }); none = none })
 unread_server once script may_ask None ends net realm none may = runs_else once script may_ask ends ends net net realm 4 (unread once script may_ask ends realm none may)
 
+pub unread_serve : (words : List (List ℕ)) (ends : EndsState) (net : NetState) (realm : Option RealmView) → realm ≡ None → may_ask_serve words ≡ true
+    → Runs (once_of words) (script_of words) (may_ask words) (serve_of words) ends ends net net realm 4
+unread_serve words ends net realm none may = unread_server (once_of words) (script_of words) (may_ask words) (serve_of words) ends net realm none (serve_may words may)
+
 -- words that ask for a server say nothing of the replies of one connection
 pub nothing_exact : (once : Option RunWords) (old new : EndsState) (realm : Option RealmView) (status : ℕ) → once ≡ None → RunsExactlyIf once old new realm status
 nothing_exact once old new realm status none = subst (λ o. RunsExactlyIf o old new realm status) (sym none) tt
+
+pub unread_exact : (words : List (List ℕ)) (old new : EndsState) (realm : Option RealmView) (status : ℕ) → may_ask_serve words ≡ true → RunsExactlyIf (once_of words) old new realm status
+unread_exact words old new realm status may = nothing_exact (once_of words) old new realm status (serve_not_once words may)

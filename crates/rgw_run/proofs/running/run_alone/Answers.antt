@@ -1,12 +1,12 @@
 use Rattle.std.proofs.Common.{Err, ap, map, string_bytes}
-use Rattle.rgw_words.proofs.Apart.{no_script}
-use Rattle.rgw_run.proofs.Ending.{unread, runs_once}
+use Rattle.rgw_run.proofs.Asking.{no_script, unread_once}
+use Rattle.rgw_run.proofs.Ending.{runs_once}
 use Rattle.rgw_run.proofs.Exactly.{exactly_of, exactly_said}
 use Rattle.rgw_run.proofs.running.run_alone.Goals as goal
 
 pub returns-in-Err-OutOfMemory-clause-runs : goal.returns-in-Err-OutOfMemory-clause-runs
 returns-in-Err-OutOfMemory-clause-runs g c =
-    unread _ _ _ _ _ c.requires (c.in-Err-OutOfMemory.ensures.out_of_memory (ap Err c.in-Err-OutOfMemory.field-0-is))
+    unread_once (map string_bytes c.args.words.now) _ _ c.requires (c.in-Err-OutOfMemory.ensures.out_of_memory (ap Err c.in-Err-OutOfMemory.field-0-is))
 
 pub returns-in-Err-OutOfMemory-clause-exact : goal.returns-in-Err-OutOfMemory-clause-exact
 returns-in-Err-OutOfMemory-clause-exact g c = exactly_of _ _ _ _ _ _ _ (returns-in-Err-OutOfMemory-clause-runs g c)

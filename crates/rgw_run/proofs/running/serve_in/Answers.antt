@@ -1,4 +1,5 @@
-use Rattle.std.proofs.Common.{rules, ◌∙◌}
+use Rattle.std.proofs.Common.{rules, ◌∙◌, sym, ap, unwrap_or}
+use Rattle.swift_auth.specs.Users.{standard_user, account_of}
 use Rattle.realm_core.specs.Solo.{door_of}
 use Rattle.rgw_run.proofs.InTime.{in_time}
 use Rattle.rgw_run.proofs.Starting.{prepares_so, unbegun_so, leaves_so}
@@ -15,7 +16,7 @@ returns-clause-leaves g c =
     let before = c.in_default.ensures in
     let p = prepares_so c.args.settings.now c.args.users.now _
     (λ i. door_of ((c.new-door.ensures.realm.0 ∙ c.requires.new) i) ((c.new-door.ensures.actor.0 ∙ c.new-actor.ensures) i))
-    c.args.bucket.now c.args.owner.now _ _ _ c.requires.owner before.ready in
+    c.args.bucket.now _ _ _ _ (c.account-owner.ensures ∙ ap (λ o. account_of (unwrap_or o standard_user)) (sym c.first.ensures)) before.ready in
     leaves_so c.args.settings.now c.args.users.now c.args.bucket.now _ _ _ _ _ c.end_of.ensures (record {
       bounds = c.requires.bounds;
       moments = p.0;
