@@ -407,7 +407,7 @@ fn objects_are_asked_for(rt: HostRuntime) -> Result<(), Fail> {
         (
             "PUT /swift/v1/AUTH_acme/box/k HTTP/1.1",
             "Host: h\r\nContent-Length: 5\r\n",
-            "nobody at acme: put box k",
+            "401",
         ),
         (
             "PUT /swift/v1/AUTH_acme/box/k HTTP/1.1",

@@ -1,5 +1,5 @@
 -- What holds of each thing that a head may ask holds of what it asks.
-use Rattle.std.proofs.Common.{◌≡◌, ℕ, nat_lt, length, Bool, true, false, not, cond, List, Option, Some, None, refl}
+use Rattle.std.proofs.Common.{◌≡◌, ℕ, nat_lt, length, Bool, true, false, not, cond, List, Option, Some, None, is_some, refl}
 use Rattle.swift_auth.specs.Users.{UserView, account_of}
 use Rattle.swift_words.specs.declared.fault.WordFault.{WordFault}
 use Rattle.swift_words.specs.declared.query.Query.{Query}
@@ -84,7 +84,9 @@ module _ (largest : ℕ) (head : Head) (P : Asked → Type 0) (cases : Cases lar
   of_object container name None = cases.refused why.Unauthorized
   of_object container name (Some asker) =
       either P (is_put head) (asks.put_asked largest head container name asker) (asks.get_asked largest head container name asker)
-      (λ is. unless P (put_refusal largest head) (Put asker (put_command container name head)) cases.refused (cases.put asker container name is))
+      (λ is. either P (not (is_some asker.user)) (Refused why.Unauthorized) (asks.asked_unless (put_refusal largest head) (Put asker (put_command container name head)))
+      (λ nobody. cases.refused why.Unauthorized)
+      (λ somebody. unless P (put_refusal largest head) (Put asker (put_command container name head)) cases.refused (cases.put asker container name is)))
       (λ is. unless P (get_refusal largest head) (Unfed asker (Get (get_command container name head))) cases.refused (cases.get asker container name is))
 
   at_target : (users : List UserView) (query : Query) (target : Target) → P (asks.asked_at largest users head query target)

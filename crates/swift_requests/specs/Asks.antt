@@ -1,5 +1,5 @@
 -- What the head of a request asks, and of which user (OpenStack Object Storage API v1).
-use Rattle.std.specs.Prelude.{ℕ, Bool, not, ◌&&◌, ◌||◌, nat_lt, List, length, Option, Some, None, if◌then◌else◌, codes}
+use Rattle.std.specs.Prelude.{ℕ, Bool, not, ◌&&◌, ◌||◌, nat_lt, List, length, Option, is_some, Some, None, if◌then◌else◌, codes}
 use Rattle.swift_auth.specs.Users.{UserView, account_of}
 use Rattle.swift_words.specs.declared.fault.WordFault.{WordFault}
 use Rattle.swift_words.specs.declared.fault.WordFault.TheVariants as faults
@@ -97,9 +97,13 @@ container_asked largest users head query account name =
 unfoldable pub is_taken : Head → Bool
 is_taken head = is_look head || (is_put head && not (is_sent (codes "x-copy-from") head))
 
--- who may is judged by the container's row
+-- no row lets anybody store who sent no token: 401; else who may is judged by the container's row
 abbrev pub put_asked : ℕ → Head → List ℕ → List ℕ → Asker → Asked
-put_asked largest head container name asker = asked_unless (put_refusal largest head) (Put asker (put_command container name head))
+put_asked largest head container name asker =
+    if not (is_some asker.user) then Refused Unauthorized
+    else asked_unless (put_refusal largest head) (Put asker (put_command container name head))
+
+-- who may is judged by the container's row
 
 abbrev pub get_asked : ℕ → Head → List ℕ → List ℕ → Asker → Asked
 get_asked largest head container name asker = asked_unless (get_refusal largest head) (Unfed asker (Get (get_command container name head)))

@@ -95,7 +95,7 @@ fn asked_at(
 /// |---|---|---|---|---|
 /// | `NoMethod` | all but GET | all but GET, HEAD | all but GET, HEAD, PUT, POST, DELETE | all but GET, HEAD, PUT, POST, DELETE, COPY |
 /// | `NotBuilt` | | | | POST, DELETE, COPY, and a PUT with X-Copy-From |
-/// | `Unauthorized` | the last X-Auth-User and X-Auth-Key are not of one user | no token, or a token of nobody | a token of nobody; and no token, but for GET and HEAD | a token of nobody |
+/// | `Unauthorized` | the last X-Auth-User and X-Auth-Key are not of one user | no token, or a token of nobody | a token of nobody; and no token, but for GET and HEAD | the same |
 /// | `Invalid(Value)` | | | PUT, POST: metadata or a list that is not UTF-8 | conditions on ETags that are not UTF-8; PUT: an ETag, a media type or metadata that are not |
 /// | `Invalid(Meta)` | | | PUT, POST: metadata above their limits | PUT: a media type or metadata above their limits |
 /// | `NoLength` | | | | PUT: no length is told, and no chunks are sent |

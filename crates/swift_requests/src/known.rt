@@ -145,7 +145,7 @@ pub fn heads_are_refused_so()
     ensures lost { asks (known.bare (codes "PUT") (known.host ∷ known.lost_token ∷ record { name = codes "If-Match"; value = 255 ∷ [] } ∷ []) Empty) ≡ Refused Unauthorized }
     ensures other_token { asks (known.get_with (record { name = codes "X-Auth-Token"; value = codes "AUTH_tk" } ∷ [])) ≡ Refused Unauthorized }
     ensures text { asks (known.request (codes "PUT") (record { name = codes "If-None-Match"; value = 255 ∷ [] } ∷ []) Empty) ≡ Refused (Invalid Value) }
-    ensures text_of_nobody { asks (known.bare (codes "PUT") (known.host ∷ record { name = codes "If-Match"; value = 255 ∷ [] } ∷ []) Empty) ≡ Refused (Invalid Value) }
+    ensures text_of_nobody { asks (known.bare (codes "PUT") (known.host ∷ record { name = codes "If-Match"; value = 255 ∷ [] } ∷ []) Empty) ≡ Refused Unauthorized }
     ensures etag { asks (known.put_of 5368709121 (record { name = codes "ETag"; value = 128 ∷ [] } ∷ [])) ≡ Refused (Invalid Value) }
     ensures kind_text { asks (known.put_of 0 (record { name = codes "Content-Type"; value = 255 ∷ [] } ∷ [])) ≡ Refused (Invalid Value) }
     ensures last_text { asks (known.get_with
@@ -158,7 +158,7 @@ pub fn objects_are_asked_for_so()
     ensures bob { asks (known.get_with (known.bob_token ∷ [])) ≡ Unfed by_bob (Get known.plain_get) }
     ensures bob_puts { asks (known.put_of 5 (known.bob_token ∷ [])) ≡ Put by_bob known.plain_put }
     ensures nobody { asks (known.bare_to known.target) ≡ Unfed by_nobody (Get known.plain_get) }
-    ensures nobody_puts { asks (known.bare (codes "PUT") (known.host ∷ []) (Length 5)) ≡ Put by_nobody known.plain_put }
+    ensures nobody_puts { asks (known.bare (codes "PUT") (known.host ∷ []) (Length 5)) ≡ Refused Unauthorized }
     ensures last { asks (known.get_with (known.lost_token ∷ known.bob_token ∷ known.token ∷ [])) ≡ Unfed by_ann (Get known.plain_get) }
     ensures other_account { asks (known.to (codes "/swift/v1/AUTH_other/box/k")) ≡ Unfed (record by_ann { account = codes "other" }) (Get known.plain_get) }
     ensures put_in_another { asks (record (known.put_of 5 (known.bob_token ∷ [])) { target = codes "/swift/v1/AUTH_corp/box/k" })

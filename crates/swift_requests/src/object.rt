@@ -27,7 +27,7 @@ fn is_taken(head: &Head) -> bool
     is_look(head) || (head.is_put() && !is_sent(head, b"x-copy-from"))
 }
 
-/// What a PUT asks.
+/// What a PUT asks. Nobody may store without a token, whatever the row of the container says.
 fn put_asked(
     alloc: Global,
     largest: u64,
@@ -39,6 +39,9 @@ fn put_asked(
     requires put { is_put head.now ≡ true }
     ensures { IfOk result (λ asked. asked ≡ put_asked largest head.now container name asker) }
 {
+    if asker.user.is_none() {
+        return Ok(Asked::Refused(SwiftRefusal::Unauthorized));
+    }
     let metadata = SentMetadata::read(alloc, head.fields.as_slice())?;
     if let Some(refusal) = put_refusal(largest, head, &metadata) {
         return Ok(Asked::Refused(refusal));
