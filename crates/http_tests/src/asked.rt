@@ -496,6 +496,10 @@ fn bodies_are_dropped_or_left(rt: HostRuntime) -> Result<(), Fail> {
         ),
         (
             "PUT /swift/v1/AUTH_acme/box/k HTTP/1.1\r\nHost: h\r\nContent-Length: 5\r\nExpect: 100-continue\r\n\r\n",
+            BodyUse::Unread,
+        ),
+        (
+            "PUT /swift/v1/AUTH_acme/box/k HTTP/1.1\r\nHost: h\r\nX-Auth-Token: AUTH_tk1\r\nContent-Length: 5\r\nExpect: 100-continue\r\n\r\n",
             BodyUse::Awaited,
         ),
         (
